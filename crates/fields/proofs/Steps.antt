@@ -1,0 +1,71 @@
+-- One byte of a field, as the loops pass it.
+use mathlib.Core.Path.{_≡_, refl, ap, _∙_}
+use mathlib.Core.Bool.{Bool, true, false, _&&_, _||_}
+use mathlib.Core.List.{List, [], _∷_}
+use Prim.Native.Nat.{ℕ, _+_, _-_, _*_, _^_, _≤_, _<_}
+use native.Mathlib.Nat.{pow-suc, pow-le-pow-right}
+use native.Mathlib.Numerals.{add-one}
+use native.Mathlib.Omega.{arith}
+use lib.ListN.{length, getD, drop, drop-of-length-le}
+use lib.Seq.{drop-cons}
+use lib.Dec.{eqb}
+use Rattle.fields.specs.Form.{numeral}
+use Rattle.fields.specs.Bytes.{isDigit, mayPrecede, hasMinus}
+use Rattle.fields.proofs.Judged.{well}
+
+pub drop-next : (f : List ℕ) (i : ℕ) → i < length f → drop i f ≡ getD f i 0 ∷ drop (i + 1) f
+drop-next f i h = rw (add-one, drop-cons f i 0 h)
+
+pub drop-end : (f : List ℕ) (i : ℕ) → length f ≤ i → drop i f ≡ []
+drop-end f i h = drop-of-length-le f h
+
+-- ---- the minus
+
+or-assoc : (x y z : Bool) → (x || (y || z)) ≡ ((x || y) || z)
+or-assoc true y z = refl
+or-assoc false y z = refl
+
+or-false : (x : Bool) → (x || false) ≡ x
+or-false true = refl
+or-false false = refl
+
+module _ (f : List ℕ) (i : ℕ) (minus : Bool) where
+  pub minus-next : i < length f → (minus || hasMinus (drop i f)) ≡ ((minus || eqb (getD f i 0) 45) || hasMinus (drop (i + 1) f))
+  minus-next h = rw (drop-next f i h) (or-assoc minus (eqb (getD f i 0) 45) (hasMinus (drop (i + 1) f)))
+
+  pub minus-end : length f ≤ i → (minus || hasMinus (drop i f)) ≡ minus
+  minus-end h = rw (drop-end f i h) (or-false minus)
+
+-- ---- the digits' number; a byte counts at most 207
+
+pub numeral-next : (f : List ℕ) (i n b : ℕ) → i < length f → b ≡ getD f i 0 - 48 → numeral n (drop i f) ≡ numeral (n * 10 + b) (drop (i + 1) f)
+numeral-next f i n b h e = rw (drop-next f i h, e)
+
+pub numeral-end : (f : List ℕ) (i n : ℕ) → length f ≤ i → numeral n (drop i f) ≡ n
+numeral-end f i n h = rw (drop-end f i h)
+
+pub tens-next : (n b i : ℕ) → n + 23 ≤ 1000000023 * 10 ^ i → b ≤ 207 → (n * 10 + b) + 23 ≤ 1000000023 * 10 ^ (i + 1)
+tens-next n b i h k = rw (add-one, pow-suc) (omega arith)
+
+pub tens-small : (n i : ℕ) → n + 23 ≤ 1000000023 * 10 ^ i → i ≤ 8 → n < 100000003000000000
+tens-small n i h k =
+    let e : 10 ^ i ≤ 10 ^ 8 = pow-le-pow-right (omega arith) k in
+    omega arith
+
+-- ---- neighbours
+
+and-assoc : (x y z : Bool) → (x && (y && z)) ≡ ((x && y) && z)
+and-assoc true y z = refl
+and-assoc false y z = refl
+
+module _ (f : List ℕ) (i : ℕ) (ok : Bool) where
+  pub well-next : i + 1 < length f → (ok && well (drop i f)) ≡ ((ok && mayPrecede (getD f i 0) (getD f (i + 1) 0)) && well (drop (i + 1) f))
+  well-next h =
+      let k : i < length f = omega arith in
+      let two : drop i f ≡ getD f i 0 ∷ getD f (i + 1) 0 ∷ drop (i + 1 + 1) f = drop-next f i k ∙ ap (_∷_ (getD f i 0)) (drop-next f (i + 1) h) in
+      rw (two, drop-next f (i + 1) h) (and-assoc ok (mayPrecede (getD f i 0) (getD f (i + 1) 0)) (well (getD f (i + 1) 0 ∷ drop (i + 1 + 1) f)))
+
+  pub well-end : i + 1 ≡ length f → (ok && well (drop i f)) ≡ (ok && isDigit (getD f i 0))
+  well-end h =
+      let k : i < length f = omega arith in
+      rw (drop-next f i k, drop-end f (i + 1) (omega arith))

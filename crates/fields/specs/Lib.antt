@@ -1,0 +1,10 @@
+-- The root of the definitions and the laws.
+pub mod Form
+pub mod Read
+pub mod Show
+pub mod Columns
+pub mod FieldLaws
+pub mod ShowLaws
+pub mod ColumnLaws
+pub mod Bytes
+pub mod Rows

@@ -1,0 +1,357 @@
+ghost use mathlib.Core.Path.{_≡_};
+ghost use mathlib.Core.Bool.{true};
+ghost use mathlib.Core.List.{_++_};
+ghost use Prim.Native.Nat.{ℕ, _+_, _-_, _<_, _≤_};
+ghost use lib.ListN.{length, getD, take, drop};
+ghost use lib.IntN.{natAbs};
+ghost use Rattle.fields.specs.Form.{I, F1, decimal, numeral, sign, signed, dot};
+ghost use Rattle.fields.specs.Read.{readField, isNumber};
+ghost use Rattle.fields.specs.Show.{isMinus, digits, aligned, showField};
+ghost use Rattle.fields.specs.Columns.{columns, firstNotBlank, further};
+ghost use Rattle.fields.specs.Rows.{threeAt, sixOf};
+ghost use Rattle.fields.specs.Bytes.{isDigit, mayPrecede, hasMinus, Small, leftByte};
+
+// What stands in a number field.
+pub enum Field {
+    Number(i32),
+    Bad,
+}
+
+// Where something stands, if anywhere.
+pub enum Found {
+    At(usize),
+    Nowhere,
+}
+
+// Three numbers, or the first column of the first wrong field.
+pub enum Triple {
+    Three(i32, i32, i32),
+    Amiss(usize),
+}
+
+// Six numbers, likewise.
+pub enum Row {
+    Six(i32, i32, i32, i32, i32, i32),
+    Wrong(usize),
+}
+
+// ---- A field that is read
+
+fn is_digit(b: u8) -> bool
+    ensures { λ r. ⌜ r ≡ isDigit b ⌝ }
+{
+    (48 <= b) & (b <= 57)
+}
+
+fn may_precede(b: u8, next: u8) -> bool
+    ensures { λ r. ⌜ r ≡ mayPrecede b next ⌝ }
+{
+    (b == b' ') | (((b == b'-') | is_digit(b)) & is_digit(next))
+}
+
+// Whether f is a number of the form In. No branch per byte: nearly all bytes of a file pass here.
+pub fn is_int(f: &[u8]) -> bool
+    ensures { λ r. ⌜ r ≡ isNumber (readField I (now (f .entry))) ⌝ }
+{
+    if f.len() == 0 {
+        return false;
+    }
+    let last = f.len() - 1;
+    let mut ok = true;
+    let mut i = 0;
+    while i < last {
+        ok = ok & may_precede(f[i], f[i + 1]);
+        i += 1;
+    }
+    ok & is_digit(f[last])
+}
+
+// What a digit counts; a blank and a minus count 0.
+fn low(b: u8) -> u64
+    ensures { λ r. ⌜ r ≡ b - 48 ⌝ }
+{
+    if b < 48 {
+        return 0;
+    }
+    (b - 48) as u64
+}
+
+// The number that the digits of f make, written after the number acc.
+fn numeral_of(f: &[u8], acc: u64) -> u64
+    requires { ⌜ (length (now f) ≤ 9) × (acc < 1000000000) ⌝ }
+    ensures { λ r. ⌜ r ≡ numeral acc (now (f .entry)) ⌝ }
+{
+    let mut n = acc;
+    let mut i = 0;
+    while i < f.len() {
+        n = n * 10 + low(f[i]);
+        i += 1;
+    }
+    n
+}
+
+fn has_minus(f: &[u8]) -> bool
+    ensures { λ r. ⌜ r ≡ hasMinus (now (f .entry)) ⌝ }
+{
+    let mut minus = false;
+    let mut i = 0;
+    while i < f.len() {
+        minus = minus | (f[i] == b'-');
+        i += 1;
+    }
+    minus
+}
+
+fn signed_of(minus: bool, n: u64) -> i32
+    requires { ⌜ n < 1000000000 ⌝ }
+    ensures { λ r. ⌜ r ≡ signed minus n ⌝ }
+{
+    kit::with_sign(minus, n) as i32
+}
+
+// The number of a field that is one.
+pub fn int_value(f: &[u8]) -> i32
+    requires { ⌜ (length (now f) ≤ 9) × (isNumber (readField I (now f)) ≡ true) ⌝ }
+    ensures { λ r. ⌜ Field.Number r ≡ readField I (now (f .entry)) ⌝ }
+{
+    signed_of(has_minus(f), numeral_of(f, 0))
+}
+
+// The form In.
+pub fn read_int(f: &[u8]) -> Field
+    requires { ⌜ length (now f) ≤ 9 ⌝ }
+    ensures { λ r. ⌜ r ≡ readField I (now (f .entry)) ⌝ }
+{
+    if is_int(f) {
+        Field::Number(int_value(f))
+    } else {
+        Field::Bad
+    }
+}
+
+// With so many digits after the point: a number of the form In, the point, digits.
+fn is_decimal(f: &[u8], after: usize) -> bool
+    requires { ⌜ 0 < after ⌝ }
+    ensures { λ r. ⌜ r ≡ isNumber (readField (decimal after) (now (f .entry))) ⌝ }
+{
+    if f.len() <= after {
+        return false;
+    }
+    let k = f.len() - after - 1;
+    let p = k + 1;
+    is_int(&f[..k]) & (f[k] == b'.') & is_digit(f[p]) & is_int(&f[p..])
+}
+
+// The number of the bytes before the point and of those after it. The sign is the whole field's: `-0.5` is -5 tenths.
+fn decimal_value(front: &[u8], part: &[u8]) -> i32
+    requires { ⌜ Small (now front) (now part) ⌝ }
+    ensures { λ r. ⌜ r ≡ signed (hasMinus (now (front .entry))) (numeral (numeral 0 (now (front .entry))) (now (part .entry))) ⌝ }
+{
+    let whole = numeral_of(front, 0);
+    signed_of(has_minus(front), numeral_of(part, whole))
+}
+
+fn read_decimal(f: &[u8], after: usize) -> Field
+    requires { ⌜ (0 < after) × (length (now f) ≤ 10) ⌝ }
+    ensures { λ r. ⌜ r ≡ readField (decimal after) (now (f .entry)) ⌝ }
+{
+    if is_decimal(f, after) {
+        let k = f.len() - after - 1;
+        let p = k + 1;
+        Field::Number(decimal_value(&f[..k], &f[p..]))
+    } else {
+        Field::Bad
+    }
+}
+
+// The form Fn.1, in tenths.
+pub fn read_tenths(f: &[u8]) -> Field
+    requires { ⌜ length (now f) ≤ 10 ⌝ }
+    ensures { λ r. ⌜ r ≡ readField F1 (now (f .entry)) ⌝ }
+{
+    read_decimal(f, 1)
+}
+
+fn read_number(f: &[u8], after: usize) -> Field
+    requires { ⌜ length (now f) ≤ 9 + dot after ⌝ }
+    ensures { λ r. ⌜ r ≡ readField (decimal after) (now (f .entry)) ⌝ }
+{
+    if after == 0 {
+        return read_int(f);
+    }
+    read_decimal(f, after)
+}
+
+// ---- The columns of a line, which may stop early
+
+// The field in the n columns after the first a. A number's last column holds a digit, so a missing one makes it bad.
+fn number_at(line: &[u8], a: usize, n: usize, after: usize) -> Field
+    requires { ⌜ (a ≤ 80) × (n ≤ 9 + dot after) ⌝ }
+    ensures { λ r. ⌜ r ≡ readField (decimal after) (columns (now (line .entry)) a n) ⌝ }
+{
+    let e = a + n;
+    if line.len() < e {
+        return Field::Bad;
+    }
+    read_number(&line[a..e], after)
+}
+
+pub fn int_at(line: &[u8], a: usize, n: usize) -> Field
+    requires { ⌜ (a ≤ 80) × (n ≤ 9) ⌝ }
+    ensures { λ r. ⌜ r ≡ readField I (columns (now (line .entry)) a n) ⌝ }
+{
+    number_at(line, a, n, 0)
+}
+
+pub fn tenths_at(line: &[u8], a: usize, n: usize) -> Field
+    requires { ⌜ (a ≤ 80) × (n ≤ 10) ⌝ }
+    ensures { λ r. ⌜ r ≡ readField F1 (columns (now (line .entry)) a n) ⌝ }
+{
+    number_at(line, a, n, 1)
+}
+
+// Three fields of six columns after the first a.
+pub fn three_numbers(line: &[u8], a: usize, after: usize) -> Triple
+    requires { ⌜ a ≤ 60 ⌝ }
+    ensures { λ r. ⌜ r ≡ threeAt (decimal after) (now (line .entry)) a ⌝ }
+{
+    let first = number_at(line, a, 6, after);
+    let Field::Number(x) = first else {
+        return Triple::Amiss(a + 1);
+    };
+    let second = number_at(line, a + 6, 6, after);
+    let Field::Number(y) = second else {
+        return Triple::Amiss(a + 7);
+    };
+    let third = number_at(line, a + 12, 6, after);
+    let Field::Number(z) = third else {
+        return Triple::Amiss(a + 13);
+    };
+    Triple::Three(x, y, z)
+}
+
+// The six fields I6 of an epoch.
+pub fn six_numbers(line: &[u8]) -> Row
+    ensures { λ r. ⌜ r ≡ sixOf (now (line .entry)) ⌝ }
+{
+    match three_numbers(line, 0, 0) {
+        Triple::Three(a, b, c) => match three_numbers(line, 18, 0) {
+            Triple::Three(d, e, f) => Row::Six(a, b, c, d, e, f),
+            Triple::Amiss(column) => Row::Wrong(column),
+        },
+        Triple::Amiss(column) => Row::Wrong(column),
+    }
+}
+
+// The byte after the first i columns.
+pub fn byte_at(line: &[u8], i: usize) -> u8
+    ensures { λ r. ⌜ r ≡ getD (now (line .entry)) i 32 ⌝ }
+{
+    if i < line.len() {
+        return line[i];
+    }
+    b' '
+}
+
+// Text, as it stands in the columns after the first a.
+pub fn text_into(line: &[u8], a: usize, out: &mut [u8])
+    requires { ⌜ a + length (now out) ≤ 80 ⌝ }
+    ensures { λ _. ⌜ now (out .exit) ≡ columns (now (line .entry)) a (length (now (out .entry))) ⌝ }
+{
+    let mut i = 0;
+    while i < out.len() {
+        out[i] = byte_at(line, a + i);
+        i += 1;
+    }
+}
+
+// Columns a + 1 to e must be blank: the first of them that is not.
+pub fn first_not_blank(line: &[u8], a: usize, e: usize) -> Found
+    ensures { λ r. ⌜ r ≡ further (a + 1) (firstNotBlank (columns (now (line .entry)) a (e - a))) ⌝ }
+{
+    let mut i = a;
+    while i < e {
+        if byte_at(line, i) != b' ' {
+            return Found::At(i + 1);
+        }
+        i += 1;
+    }
+    Found::Nowhere
+}
+
+// ---- A field that is written
+
+fn is_minus(z: i32) -> bool
+    ensures { λ r. ⌜ r ≡ isMinus z ⌝ }
+{
+    z < 0
+}
+
+fn size_of(z: i32) -> u64
+    ensures { λ r. ⌜ r ≡ natAbs z ⌝ }
+{
+    kit::magnitude(z as i64)
+}
+
+fn left_byte(n: u64, minus: bool) -> u8
+    ensures { λ r. ⌜ r ≡ leftByte n minus ⌝ }
+{
+    if 0 < n {
+        return 48 + (n % 10) as u8;
+    }
+    if minus { b'-' } else { b' ' }
+}
+
+// A whole number, right-aligned: the last digit always, to its left the other digits, the minus, blanks.
+fn write_whole(out: &mut [u8], minus: bool, n: u64)
+    requires { ⌜ 0 < length (now out) ⌝ }
+    ensures { λ _. ⌜ now (out .exit) ≡ aligned (length (now (out .entry))) (sign minus ++ digits 1 n) ⌝ }
+{
+    let mut i = out.len() - 1;
+    out[i] = 48 + (n % 10) as u8;
+    let mut left = n / 10;
+    let mut due = minus;
+    while 0 < i {
+        i -= 1;
+        out[i] = left_byte(left, due);
+        due = (0 < left) & due;
+        left = left / 10;
+    }
+}
+
+// The form In.
+pub fn write_int(out: &mut [u8], z: i32)
+    requires { ⌜ 0 < length (now out) ⌝ }
+    ensures { λ _. ⌜ now (out .exit) ≡ showField I (length (now (out .entry))) z ⌝ }
+{
+    write_whole(out, is_minus(z), size_of(z));
+}
+
+// The form Fn.1, of tenths.
+pub fn write_tenths(out: &mut [u8], z: i32)
+    requires { ⌜ 2 < length (now out) ⌝ }
+    ensures { λ _. ⌜ now (out .exit) ≡ showField F1 (length (now (out .entry))) z ⌝ }
+{
+    let k = out.len() - 2;
+    let n = size_of(z);
+    write_whole(&mut out[..k], is_minus(z), n / 10);
+    out[k] = b'.';
+    out[k + 1] = 48 + (n % 10) as u8;
+}
+
+// Into the n columns after the first a.
+pub fn put_int(line: &mut [u8], a: usize, n: usize, z: i32)
+    requires { ⌜ (0 < n) × (a + n ≤ length (now line)) ⌝ }
+    ensures { λ _. ⌜ now (line .exit) ≡ take a (now (line .entry)) ++ (showField I n z ++ drop (a + n) (now (line .entry))) ⌝ }
+{
+    let e = a + n;
+    write_int(&mut line[a..e], z);
+}
+
+pub fn put_tenths(line: &mut [u8], a: usize, n: usize, z: i32)
+    requires { ⌜ (2 < n) × (a + n ≤ length (now line)) ⌝ }
+    ensures { λ _. ⌜ now (line .exit) ≡ take a (now (line .entry)) ++ (showField F1 n z ++ drop (a + n) (now (line .entry))) ⌝ }
+{
+    let e = a + n;
+    write_tenths(&mut line[a..e], z);
+}

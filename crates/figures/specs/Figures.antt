@@ -1,0 +1,177 @@
+-- 01, 'Figures to check by': the lines marked P, as rows of one table with one proof.
+use mathlib.Core.Path.{_≡_, refl, ap}
+use mathlib.Core.Bool.{Bool, true, false, _&&_}
+use mathlib.Core.List.{List, [], _∷_}
+use Prim.Native.Nat.{ℕ, _≤_}
+use native.Mathlib.Omega.{arith}
+use native.Mathlib.Decide.{ℕ-discrete, decLe}
+use lib.Dec.{T, eqb, leb, eqb→eq, leb→le}
+use lib.IntN.{ℤ, pos, negsuc}
+use lib.ListN.{length}
+use Rattle.kit.specs.Answer.{Answer, ok, refused, All, need, bind, amap, pick, ×-dec, all-dec, same, sames, yields}
+use Rattle.kit.specs.Integer.{int?}
+use Rattle.kit.specs.Truth.{truth, truth-ok}
+use Rattle.kit.specs.Range.{within?, natural?}
+use Rattle.calendar.specs.Calendar.{Dated, dated, isLeap, monthDays, yearDays, second}
+use Rattle.calendar.specs.Sums.{sum}
+use Rattle.calendar.specs.FieldLaws.{dated-of, dated-ok}
+use Rattle.calendar.specs.declared.Taken.{Taken}
+use Rattle.calendar.specs.declared.Taken.the-variants.{At, Wrong}
+use Rattle.fields.specs.Form.{I, Spells}
+use Rattle.fields.specs.Read.{readField, numberOf, formed?}
+use Rattle.fields.specs.FieldLaws.{read-made, made-read}
+use Rattle.fields.specs.declared.Field.{Field}
+use Rattle.fields.specs.declared.Field.the-variants.{Number, Bad}
+use Rattle.mapset.specs.MapSet.{MapSet}
+use Rattle.layout.specs.Text.{pad}
+use Rattle.layout.specs.Records.{Cells, ValueRows, v-last}
+use Rattle.layout.specs.Labels.{bytes}
+use Rattle.layout.specs.Layout.{Makes}
+use Rattle.reading.specs.Feed.{Fault, Why, feed, split}
+use Rattle.reading.specs.Fields.{number, blank, cells}
+use Rattle.reading.specs.Maps.{short}
+use Rattle.reading.specs.Read.{begin, read}
+use Rattle.reading.specs.RecordLaws.{cells-yields}
+use Rattle.reading.specs.Exact.{refused-unmade}
+
+-- a row of the table
+pub data Figure : Type 0 where
+  -- year, month, day at 00:00:00 is a second from 1900; is a date; is none
+  is-second : ℕ → ℕ → ℕ → ℕ → Figure
+  is-date no-date : ℕ → ℕ → ℕ → Figure
+  -- an I5 field is a number; is none
+  is-number : List ℕ → ℤ → Figure
+  no-number : List ℕ → Figure
+  -- the text rules make the line from these values of a row of nodes; make the text from no map set
+  is-line : List ℕ → List ℤ → Figure
+  no-text : List ℕ → Figure
+
+pub table : List Figure
+table =
+    is-second 1995 10 15 3022704000
+    ∷ is-date 2000 2 29
+    ∷ is-date 2096 2 29
+    ∷ no-date 1900 2 29
+    ∷ no-date 2100 2 29
+    ∷ is-number (bytes "   -0") (pos 0)
+    ∷ is-number (bytes "00000") (pos 0)
+    ∷ no-number (bytes "   +5")
+    ∷ no-number (bytes "   5 ")
+    ∷ is-line (bytes "  100 9999   -5") (pos 100 ∷ pos 9999 ∷ negsuc 4 ∷ [])
+    ∷ no-text []
+    ∷ []
+
+-- what a row says
+abbrev pub Midnight : ℕ → ℕ → ℕ → ℕ → Type 0
+Midnight y m d t = Dated (pos y) (pos m) (pos d) (pos 0) (pos 0) (pos 0) t
+
+abbrev pub Right : Figure → Type 0
+Right (is-second y m d t) = Midnight y m d t
+Right (is-date y m d) = (t : ℕ) × Midnight y m d t
+Right (no-date y m d) = (t : ℕ) → ¬ Midnight y m d t
+Right (is-number f z) = Spells I 5 z f
+Right (no-number f) = (z : ℤ) → ¬ Spells I 5 z f
+Right (is-line l zs) = ValueRows zs (pad l ∷ [])
+Right (no-text t) = (m : MapSet) → ¬ Makes m t
+
+-- ---- the proof: each row by a test that is computed
+
+abbrev midnight : ℕ → ℕ → ℕ → Taken
+midnight y m d = dated (pos y) (pos m) (pos d) (pos 0) (pos 0) (pos 0)
+
+abbrev is-at : ℕ → Taken → Bool
+is-at t (At u) = eqb u t
+is-at t (Wrong c) = false
+
+abbrev is-some : Taken → Bool
+is-some (At u) = true
+is-some (Wrong c) = false
+
+abbrev is-none : Taken → Bool
+is-none (At u) = false
+is-none (Wrong c) = true
+
+abbrev is-field : ℤ → Field → Bool
+is-field z (Number y) = truth (int? y z)
+is-field z Bad = false
+
+abbrev is-bad : Field → Bool
+is-bad (Number y) = false
+is-bad Bad = true
+
+abbrev is-row : List ℤ → Answer Fault (List ℤ) → Bool
+is-row zs (ok ys) = truth (sames int? ys zs)
+is-row zs (refused f) = false
+
+abbrev is-refused : Answer Why MapSet → Bool
+is-refused (ok m) = false
+is-refused (refused w) = true
+
+abbrev test : Figure → Bool
+test (is-second y m d t) = is-at t (midnight y m d)
+test (is-date y m d) = is-some (midnight y m d)
+test (no-date y m d) = is-none (midnight y m d)
+test (is-number f z) = eqb (length f) 5 && is-field z (readField I f)
+test (no-number f) = is-bad (readField I f)
+test (is-line l zs) = leb 1 (length zs) && (leb (length zs) 16 && (eqb (length (pad l)) 80 && is-row zs (cells 1 (length zs) (pad l))))
+test (no-text t) = is-refused (read t)
+
+both : (a b : Bool) → T (a && b) → T a × T b
+both true b t = (tt, t)
+both false b t = absurd t
+
+at-ok : (t : ℕ) (x : Taken) → T (is-at t x) → x ≡ At t
+at-ok t (At u) h = ap At (eqb→eq u t h)
+at-ok t (Wrong c) h = absurd h
+
+sound : (f : Figure) → T (test f) → Right f
+sound (is-second y m d t) h = dated-ok (pos y) (pos m) (pos d) (pos 0) (pos 0) (pos 0) t (at-ok t (midnight y m d) h)
+sound (is-date y m d) h = by (midnight y m d) refl h
+  where
+    by : (x : Taken) → midnight y m d ≡ x → T (is-some x) → (t : ℕ) × Midnight y m d t
+    by (At t) e h = (t, dated-ok (pos y) (pos m) (pos d) (pos 0) (pos 0) (pos 0) t e)
+    by (Wrong c) e h = absurd h
+sound (no-date y m d) h = λ t x. by (midnight y m d) h (dated-of (pos y) (pos m) (pos d) (pos 0) (pos 0) (pos 0) t x)
+  where
+    by : (x : Taken) {t : ℕ} → T (is-none x) → ¬ (x ≡ At t)
+    by (At u) h e = h
+    by (Wrong c) {t} h e = let z : _≡_ {A = ℕ} 0 1 = cc in omega arith
+sound (is-number f z) h = let b = both (eqb (length f) 5) _ h in rw (eqb→eq (length f) 5 (b .0)) at (made-read f (field-ok z (readField I f) (b .1)))
+  where
+    field-ok : (z : ℤ) (x : Field) → T (is-field z x) → x ≡ Number z
+    field-ok z (Number y) h = ap Number (truth-ok (int? y z) h)
+    field-ok z Bad h = absurd h
+sound (no-number f) h = λ z x. by (readField I f) h (read-made x)
+  where
+    by : (x : Field) {z : ℤ} → T (is-bad x) → ¬ (x ≡ Number z)
+    by (Number y) h e = h
+    by Bad {z} h e = let z : _≡_ {A = ℕ} 0 1 = cc in omega arith
+sound (is-line l zs) h =
+    let a = both (leb 1 (length zs)) _ h in
+    let b = both (leb (length zs) 16) _ (a .1) in
+    let c = both (eqb (length (pad l)) 80) _ (b .1) in
+    let n : length zs ≤ 16 = leb→le (length zs) 16 (b .0) in
+    let w : length (pad l) ≡ 80 = eqb→eq (length (pad l)) 80 (c .0) in
+    let x = yields _ (cells-yields 1 (length zs) (pad l) (omega arith)) (row-ok zs (cells 1 (length zs) (pad l)) (c .1)) in
+    v-last (leb→le 1 (length zs) (a .0)) n w (x .0)
+  where
+    row-ok : (zs : List ℤ) (x : Answer Fault (List ℤ)) → T (is-row zs x) → x ≡ ok zs
+    row-ok zs (ok ys) h = ap ok (truth-ok (sames int? ys zs) h)
+    row-ok zs (refused f) h = absurd h
+sound (no-text t) h = by (read t) refl h
+  where
+    by : (x : Answer Why MapSet) → read t ≡ x → T (is-refused x) → (m : MapSet) → ¬ Makes m t
+    by (ok m) e h = absurd h
+    by (refused w) e h = refused-unmade t e
+
+abbrev every : List Figure → Bool
+every [] = true
+every (f ∷ fs) = test f && every fs
+
+all-right : (fs : List Figure) → T (every fs) → All Right fs
+all-right [] h = tt
+all-right (f ∷ fs) h = let b = both (test f) (every fs) h in (sound f (b .0), all-right fs (b .1))
+
+pub figures : All Right table
+unfolding table truth dated second sum yearDays monthDays isLeap natural? within? readField numberOf formed? pick ×-dec all-dec same sames decLe ℕ-discrete int? cells number blank pad need amap read begin feed split short
+figures = all-right table tt

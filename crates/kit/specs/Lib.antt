@@ -1,0 +1,6 @@
+-- The root of the definitions.
+pub mod Parts
+pub mod Answer
+pub mod Range
+pub mod Integer
+pub mod Truth

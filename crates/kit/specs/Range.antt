@@ -1,0 +1,21 @@
+-- Ranges of naturals.
+use Prim.Native.Nat.{ℕ, _≤_}
+use native.Mathlib.Decide.{decLe}
+use lib.IntN.{ℤ, pos, negsuc}
+use Rattle.kit.specs.Answer.{×-dec}
+
+-- x is from low to high
+abbrev pub Within : ℕ → ℕ → ℕ → Type 0
+Within low high x = (low ≤ x) × (x ≤ high)
+
+unfoldable pub within? : (low high x : ℕ) → Dec (Within low high x)
+within? low high x = ×-dec (decLe low x) (decLe x high)
+
+-- an integer that is a natural from low to high
+abbrev pub Natural : ℕ → ℕ → ℤ → Type 0
+Natural low high (pos n) = Within low high n
+Natural low high (negsuc n) = ⊥
+
+unfoldable pub natural? : (low high : ℕ) (z : ℤ) → Dec (Natural low high z)
+natural? low high (pos n) = within? low high n
+natural? low high (negsuc n) = no (λ h. h)

@@ -1,0 +1,87 @@
+// The map set's header record, as document 01 lists it: each field looked at, and which starred records stand.
+// The field of a starred record that does not stand holds 0.
+
+// The version record: version in tenths, type, and the code's place in 01's list.
+pub struct Version {
+    pub tenths: u32,
+    pub kind: u8,
+    pub code: u32,
+}
+
+// The epochs of the first and the last TEC map in seconds from 1900, INTERVAL, and the number of TEC maps.
+pub struct Times {
+    pub first: u64,
+    pub last: u64,
+    pub interval: u32,
+    pub maps: u32,
+}
+
+// Elevation cutoff in tenths of a degree, base radius in tenths of a kilometre, and the map dimension.
+pub struct Model {
+    pub cutoff: u32,
+    pub radius: u32,
+    pub dimension: u32,
+}
+
+// From first to last by step, in tenths of a kilometre or of a degree.
+pub struct Axis {
+    pub first: i32,
+    pub last: i32,
+    pub step: i32,
+}
+
+pub struct Grid {
+    pub heights: Axis,
+    pub latitudes: Axis,
+    pub longitudes: Axis,
+}
+
+// # OF STATIONS or # OF SATELLITES.
+pub struct Counted {
+    pub stands: bool,
+    pub count: u32,
+}
+
+// SYS / #STA / #SAT of one letter.
+pub struct System {
+    pub stands: bool,
+    pub stations: u32,
+    pub satellites: u32,
+}
+
+// One field for each letter of 01.
+pub struct Systems {
+    pub g: System,
+    pub r: System,
+    pub e: System,
+    pub c: System,
+    pub j: System,
+    pub i: System,
+    pub s: System,
+}
+
+pub struct Header {
+    pub version: Version,
+    pub times: Times,
+    pub model: Model,
+    pub grid: Grid,
+    pub stations: Counted,
+    pub satellites: Counted,
+    pub systems: Systems,
+}
+
+// What a map holds: total electron content, its error, or the height it stands at.
+pub enum Kind {
+    Tec,
+    Rms,
+    Height,
+}
+
+// The header's texts: PGM / RUN BY / DATE, MAPPING FUNCTION, OBSERVABLES USED.
+pub struct Texts {
+    pub program: [u8; 20],
+    pub agency: [u8; 20],
+    pub date: [u8; 20],
+    pub mapping: [u8; 4],
+    pub observables: [u8; 60],
+}

@@ -1,0 +1,103 @@
+-- The reading accepts a text exactly when the rules make it from some map set, and hands back the only one.
+use mathlib.Core.Path.{_≡_, refl, sym, ap, _∙_}
+use mathlib.Core.Logic.{_↔_}
+use Prim.Native.Nat.{ℕ, zero, suc, _<_}
+use native.Mathlib.Omega.{arith}
+use native.Mathlib.Decide.{ℕ-discrete}
+use mathlib.Core.Option.{Option, none, some}
+use mathlib.Core.List.{List, [], _∷_, _++_}
+use lib.ListN.{length, getD, drop, replicate}
+use lib.IntN.{ℤ, pos, negsuc}
+use Rattle.kit.specs.Answer.{Answer, ok, refused, need, bind, get, pick, same, sames, All, need-yes, Yields, y-ok, y-no, yields, need-yields, get-yields, bind-yields, yields-map}
+use Rattle.mapset.specs.Header.{VersionRules, Said, says}
+use Rattle.mapset.specs.MapSet.{MapSet}
+use Rattle.layout.specs.Records.{Vals}
+use Rattle.layout.specs.Labels.{version, name, codes, layout, Rec}
+use Rattle.layout.specs.Layout.{plain, Heads, Rows, rows-of, Makes, makes}
+use Rattle.reading.specs.Feed.{Fault, fault, Why, on-line, Feed, over, bad, row, feed, split}
+use Rattle.reading.specs.Fields.{fields}
+use Rattle.reading.specs.Maps.{short}
+use Rattle.reading.specs.Head.{place, heading}
+use Rattle.reading.specs.Read.{nothing-yet, code-of, begin, read}
+use Rattle.reading.specs.LineLaws.{Carries, c-over, c-row, carries, clean, laid, ended, split-of, Sized, sized}
+use Rattle.reading.specs.RecordLaws.{below, rec-name, rec-fields, named-rec}
+use Rattle.reading.specs.MapLaws.{on-line-yields}
+use Rattle.reading.specs.SlotLaws.{unjoined, empty, fit-none}
+use Rattle.reading.specs.HeadLaws.{place-ok, heads, Headed, headed}
+
+-- ---- the version record
+
+place-code : (c : ℕ) → c < 9 → place same (getD codes c []) codes ≡ some c
+unfolding place pick same sames ℕ-discrete
+place-code c h = below (λ c. place same (getD codes c []) codes ≡ some c) 9 (refl, (refl, (refl, (refl, (refl, (refl, (refl, (refl, (refl, tt))))))))) c h
+
+abbrev Version : ℕ → List ℕ → Type 0
+Version c r = Rec version (pos 11, (73 ∷ [], (getD codes c [], tt))) r
+
+code-made : (c : ℕ) {r : List ℕ} → c < 9 → Version c r → code-of r ≡ ok c
+unfolding code-of bind get
+code-made c l x = need-yes _ _ _ (rec-name x) ∙ rw (rec-fields x) (need-yes _ _ _ refl ∙ need-yes _ _ _ refl ∙ rw (place-code c l))
+
+code-yields : (r : List ℕ) → length r ≡ 80 → Yields (λ c. (c < 9) × Version c r) (code-of r)
+unfolding code-of
+code-yields r z =
+    need-yields _ _ (λ p. bind-yields (fields version r) (λ v e. need-yields _ _ (λ a. need-yields _ _ (λ b. get-yields _ _ (λ c f.
+    let t = place-ok same (v .1 .1 .0) [] codes c f in
+    let w : v ≡ (pos 11, (73 ∷ [], (getD codes c [], tt))) = λ i. (a i, (b i, (sym (t .1) i, tt))) in
+    y-ok (t .0, rw w at (named-rec r z p e)))))))
+
+-- ---- what the rules make is read
+
+begun : {m : MapSet} {rs : List (List ℕ)} {f : Feed} → Carries f rs → Rows m rs → begin f ≡ ok m
+unfolding begin bind on-line
+begun {m} (c-row x) (rows-of v c h) =
+    rw (code-made (m .header .version .code) (v .code) c) (heads v h x (unjoined (says (m .header) (m .texts))))
+
+pub read-made : {m : MapSet} {t : List ℕ} → Makes m t → read t ≡ ok m
+unfolding read
+read-made (makes r l e) = rw (split-of e (clean l)) (begun (carries l 1) r)
+
+-- ---- what is read the rules make
+
+abbrev Began : Feed → MapSet → Type 0
+Began f m = (rs : List (List ℕ)) × Carries f rs × Rows m rs
+
+none-got : (n : ℕ) → All (λ (o : Option Said). o ≡ none) (replicate n none)
+none-got zero = tt
+none-got (suc n) = (refl, none-got n)
+
+first-row : {c : ℕ} {r : List ℕ} {f : Feed} (m : MapSet) (h : Headed c plain (negsuc 0) nothing-yet f m) → c < 9 → Version c r → Rows m (r ∷ h .rows)
+first-row {c} {r} m h l x =
+    let e : m .header .version .code ≡ c = ap (λ v. v .code) (h .coded) in
+    rows-of {r = r} (record { tenths = ap (λ v. v .tenths) (h .coded); kind = ap (λ v. v .kind) (h .coded); code = rw e l }) (rw e x)
+    (rw (empty (h .joined) (none-got 22)) at (h .heads))
+
+began : (f : Feed) → Sized f → Yields (Began f) (begin f)
+unfolding begin short
+began (over n) s = y-no
+began (bad w) s = y-no
+began (row n r f) s =
+    bind-yields _ (λ c e.
+    let x = yields _ (on-line-yields n (code-yields r (s .0 .0))) e in
+    yields-map (λ m h. (r ∷ h .rows, c-row (h .carries), first-row m h (x .0) (x .1)))
+    (headed c f (s .1) plain (negsuc 0) nothing-yet (record { sized = refl; fit = fit-none 22 })))
+
+pub made-read : {m : MapSet} (t : List ℕ) → read t ≡ ok m → Makes m t
+unfolding read
+made-read t e =
+    let (rs, c, r) = yields _ (began (feed 1 (split t)) (sized 1 (split t))) e in
+    makes r (laid 1 (split t) rs c) (ended t)
+
+-- ---- the theorems
+
+-- accepted exactly when made
+pub reads-exactly : (m : MapSet) (t : List ℕ) → (Makes m t) ↔ (read t ≡ ok m)
+reads-exactly m t = (read-made, made-read t)
+
+-- from the only map set
+pub made-once : {m m′ : MapSet} {t : List ℕ} → Makes m t → Makes m′ t → m ≡ m′
+made-once a b = cc (read-made a, read-made b)
+
+-- a refused text is made from no map set
+pub refused-unmade : {w : Why} (t : List ℕ) → read t ≡ refused w → (m : MapSet) → ¬ Makes m t
+refused-unmade t e m a = let b = read-made a in let z : _≡_ {A = ℕ} 0 1 = cc in omega arith

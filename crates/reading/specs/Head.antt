@@ -1,0 +1,209 @@
+-- 01, 'Header records', read row by row: 4, 5, 6, 9, 8, 7 on one row, and within 7 a field's own range before a rule over several fields.
+use mathlib.Core.Path.{_≡_, refl}
+use mathlib.Core.Bool.{Bool, true, false}
+use mathlib.Core.Option.{Option, none, some}
+use mathlib.Core.List.{List, [], _∷_}
+use Prim.Native.Nat.{ℕ, zero, suc, _+_}
+use native.Mathlib.Omega.{arith}
+use native.Mathlib.Decide.{ℕ-discrete}
+use lib.ListN.{getD, set, drop, replicate}
+use lib.IntN.{ℤ, pos, negsuc, natAbs}
+use Rattle.kit.specs.Answer.{Answer, ok, refused, need, bind, amap, get, pick, same}
+use Rattle.kit.specs.Range.{natural?}
+use Rattle.mapset.specs.declared.Axis.{Axis}
+use Rattle.mapset.specs.declared.Counted.{Counted}
+use Rattle.mapset.specs.declared.System.{System}
+use Rattle.mapset.specs.declared.Header.{Header}
+use Rattle.mapset.specs.declared.Texts.{Texts}
+use Rattle.mapset.specs.Header.{Content, count, tenths, epoch as an-epoch, axis, program, mapping, observables, system as a-system, starred, Said, number, along, words, counts}
+use Rattle.mapset.specs.Decisions.{end?, step?, together?, limits?, dimension?}
+use Rattle.mapset.specs.MapSet.{MapSet}
+use Rattle.layout.specs.Records.{Vals}
+use Rattle.layout.specs.Labels.{Label, version, description, comment, system, exponent, aux-start, aux-end, header-end, epoch, block, file-end, head, start, end, name, items, content, letters}
+use Rattle.layout.specs.Layout.{Slots, systems, Mode, plain, aux}
+use Rattle.reading.specs.Feed.{Fault, fault, Why, on-line, Feed, over, bad, row}
+use Rattle.reading.specs.Fields.{label, fields}
+use Rattle.reading.specs.Maps.{misplaced, missing, date, on-date, exponent?, short, run}
+use Rattle.reading.specs.declared.Place.the-variants.{Between}
+
+-- ---- what a record's values say, if they are accepted
+
+abbrev pub axis-of : ℤ → ℤ → ℤ → Axis
+axis-of a b d = record { first = a; last = b; step = d }
+
+unfoldable pub meant : (k : Content) → Vals (items k) → Answer Fault Said
+meant (count low high) v = need (natural? low high (v .0)) (fault 7 1) (ok (number (natAbs (v .0))))
+meant (tenths low high) v = need (natural? low high (v .0)) (fault 7 1) (ok (number (natAbs (v .0))))
+meant an-epoch v = on-date (date v) (λ t. ok (number t))
+meant (axis l) v =
+    need (end? l (v .0)) (fault 7 3)
+    (need (end? l (v .1 .0)) (fault 7 9)
+    (need (step? l (v .1 .1 .0)) (fault 7 15)
+    (need (together? l (axis-of (v .0) (v .1 .0) (v .1 .1 .0))) (fault 7 0)
+    (ok (along (axis-of (v .0) (v .1 .0) (v .1 .1 .0)))))))
+meant program v = ok (words (v .0 ∷ v .1 .0 ∷ v .1 .1 .0 ∷ []))
+meant mapping v = ok (words (v .0 ∷ []))
+meant observables v = ok (words (v .0 ∷ []))
+meant a-system v =
+    need (natural? 0 999999 (v .1 .0)) (fault 7 7)
+    (need (natural? 0 999999 (v .1 .1 .0)) (fault 7 13)
+    (ok (counts (natAbs (v .1 .0)) (natAbs (v .1 .1 .0)))))
+
+abbrev pub next : Option ℕ → Option ℕ
+next none = none
+next (some i) = some (suc i)
+
+-- the place of a thing in a list
+unfoldable pub place : {A : Type 0} → ((x y : A) → Dec (x ≡ y)) → A → List A → Option ℕ
+place d x [] = none
+place d x (y ∷ ys) = pick (d x y) (some 0) (next (place d x ys))
+
+-- ---- what was got so far, by the places of the header's `contents`
+
+unfoldable pub none? : (o : Option Said) → Dec (o ≡ none)
+none? none = yes refl
+none? (some s) = no (λ e. let z : _≡_ {A = ℕ} 0 1 = cc in omega arith)
+
+-- no record is missing but starred ones
+abbrev pub Complete : List Bool → Slots → Type 0
+Complete [] ss = Unit {0}
+Complete (b ∷ bs) [] = ⊥
+Complete (true ∷ bs) (s ∷ ss) = Complete bs ss
+Complete (false ∷ bs) (none ∷ ss) = ⊥
+Complete (false ∷ bs) (some s ∷ ss) = Complete bs ss
+
+unfoldable pub complete? : (bs : List Bool) (ss : Slots) → Dec (Complete bs ss)
+complete? [] ss = yes tt
+complete? (b ∷ bs) [] = no (λ h. h)
+complete? (true ∷ bs) (s ∷ ss) = complete? bs ss
+complete? (false ∷ bs) (none ∷ ss) = no (λ h. h)
+complete? (false ∷ bs) (some s ∷ ss) = complete? bs ss
+
+abbrev pub number-in : Option Said → ℕ
+number-in none = 0
+number-in (some (number n)) = n
+number-in (some (along a)) = 0
+number-in (some (words ws)) = 0
+number-in (some (counts a b)) = 0
+
+abbrev pub axis-in : Option Said → Axis
+axis-in none = axis-of (pos 0) (pos 0) (pos 0)
+axis-in (some (number n)) = axis-of (pos 0) (pos 0) (pos 0)
+axis-in (some (along a)) = a
+axis-in (some (words ws)) = axis-of (pos 0) (pos 0) (pos 0)
+axis-in (some (counts a b)) = axis-of (pos 0) (pos 0) (pos 0)
+
+abbrev pub words-in : Option Said → List (List ℕ)
+words-in none = []
+words-in (some (number n)) = []
+words-in (some (along a)) = []
+words-in (some (words ws)) = ws
+words-in (some (counts a b)) = []
+
+abbrev pub counted-in : Option Said → Counted
+counted-in none = record { stands = false; count = 0 }
+counted-in (some (number n)) = record { stands = true; count = n }
+counted-in (some (along a)) = record { stands = false; count = 0 }
+counted-in (some (words ws)) = record { stands = false; count = 0 }
+counted-in (some (counts a b)) = record { stands = false; count = 0 }
+
+abbrev pub system-in : Option Said → System
+system-in none = record { stands = false; stations = 0; satellites = 0 }
+system-in (some (number n)) = record { stands = false; stations = 0; satellites = 0 }
+system-in (some (along a)) = record { stands = false; stations = 0; satellites = 0 }
+system-in (some (words ws)) = record { stands = false; stations = 0; satellites = 0 }
+system-in (some (counts a b)) = record { stands = true; stations = a; satellites = b }
+
+-- the header record of what was got, under a version record with the code c
+unfoldable pub made : ℕ → Slots → Header
+made c got =
+    record {
+      version = record { tenths = 11; kind = 73; code = c };
+      times = record {
+        first = number-in (getD got 1 none);
+        last = number-in (getD got 2 none);
+        interval = number-in (getD got 3 none);
+        maps = number-in (getD got 4 none);
+      };
+      model = record { cutoff = number-in (getD got 6 none); radius = number-in (getD got 10 none); dimension = number-in (getD got 11 none) };
+      grid = record { heights = axis-in (getD got 12 none); latitudes = axis-in (getD got 13 none); longitudes = axis-in (getD got 14 none) };
+      stations = counted-in (getD got 8 none);
+      satellites = counted-in (getD got 9 none);
+      systems = record {
+        g = system-in (getD got 15 none);
+        r = system-in (getD got 16 none);
+        e = system-in (getD got 17 none);
+        c = system-in (getD got 18 none);
+        j = system-in (getD got 19 none);
+        i = system-in (getD got 20 none);
+        s = system-in (getD got 21 none);
+      };
+    }
+
+unfoldable pub made-texts : Slots → Texts
+made-texts got =
+    record {
+      program = getD (words-in (getD got 0 none)) 0 [];
+      agency = getD (words-in (getD got 0 none)) 1 [];
+      date = getD (words-in (getD got 0 none)) 2 [];
+      mapping = getD (words-in (getD got 5 none)) 0 [];
+      observables = getD (words-in (getD got 7 none)) 0 [];
+    }
+
+-- ---- row by row
+
+-- on with the header: whether an aux block is open, the exponent in force, and what was got; or END OF HEADER
+pub data Turn : Type 0 where
+  more : Mode → ℤ → Slots → Turn
+  done : Turn
+
+-- each record at most once
+unfoldable pub once : ℤ → Slots → ℕ → Answer Fault Said → Answer Fault Turn
+once e got i x = need (none? (getD got i none)) (fault 5 61) (bind x (λ s. ok (more plain e (set got i (some s)))))
+
+-- SYS once per letter, which is taken as it stands in column 6
+unfoldable pub on-system : ℤ → Slots → List ℕ → Option ℕ → Answer Fault Turn
+on-system e got r none = bind (fields system r) (λ v. refused (fault 7 6))
+on-system e got r (some j) = once e got (systems + j) (bind (fields system r) (meant a-system))
+
+-- END OF HEADER: 9, 8, 7
+unfoldable pub on-end : ℕ → Slots → List ℕ → Answer Fault Turn
+on-end c got r =
+    bind (fields header-end r)
+    (λ v. need (complete? starred got) missing
+    (need (dimension? (made c got .model .dimension) (made c got .grid .heights)) (fault 8 0)
+    (need (limits? (made c got .times .maps) (made c got .grid)) (fault 7 0)
+    (ok done))))
+
+-- a record of the header, under a version record with the code c, by its label; every other label is misplaced
+unfoldable pub at-head : (c : ℕ) → ℤ → Slots → Label → List ℕ → Answer Fault Turn
+at-head c e got description r = bind (fields description r) (λ v. ok (more plain e got))
+at-head c e got comment r = bind (fields comment r) (λ v. ok (more plain e got))
+at-head c e got exponent r = bind (fields exponent r) (λ v. need (exponent? (v .0)) (fault 7 1) (ok (more plain (v .0) got)))
+at-head c e got (head i) r = once e got i (bind (fields (head i) r) (meant (content i)))
+at-head c e got system r = on-system e got r (place ℕ-discrete (getD r 5 32) letters)
+at-head c e got aux-start r = bind (fields aux-start r) (λ v. ok (more aux e got))
+at-head c e got header-end r = on-end c got r
+at-head c e got version r = misplaced
+at-head c e got aux-end r = misplaced
+at-head c e got (start k) r = misplaced
+at-head c e got (end k) r = misplaced
+at-head c e got epoch r = misplaced
+at-head c e got block r = misplaced
+at-head c e got file-end r = misplaced
+
+-- inside an aux block every row but END OF AUX DATA is skipped
+unfoldable pub head-step : (c : ℕ) → Mode → ℤ → Slots → List ℕ → Answer Fault Turn
+head-step c plain e got r = get (label r) (fault 4 61) (λ l. at-head c e got l r)
+head-step c aux e got r = pick (same (drop 60 r) (name aux-end)) (bind (fields aux-end r) (λ v. ok (more plain e got))) (ok (more aux e got))
+
+unfoldable pub heading : (c : ℕ) → Mode → ℤ → Slots → Feed → Answer Why MapSet
+heading c a e got (over n) = short n
+heading c a e got (bad w) = refused w
+heading c a e got (row n r f) =
+    bind (on-line n (head-step c a e got r))
+    (λ t. elim t [
+      | more a′ e′ got′ ↦ heading c a′ e′ got′ f
+      | done ↦ amap (λ w. record { header = made c got; texts = made-texts got; maps = w .1 })
+          (run (made c got) Between (record { exponent = e; epochs = []; rms = 0; height = 0 }) 0 f)
+    ])

@@ -1,0 +1,116 @@
+//! Number fields: In and Fn.1, read and written.
+
+/// "In is blanks, an optional minus, one or more digits, the last digit in the
+/// field's last column."
+pub fn integer(field: &[u8]) -> Option<i64> {
+    let (negative, rest) = sign(field);
+    Some(apply(negative, digits(rest)?))
+}
+
+/// "Fn.1 is the same with a point and one digit more." The value in tenths.
+pub fn tenths(field: &[u8]) -> Option<i64> {
+    let (negative, rest) = sign(field);
+    let point = rest.len().checked_sub(2)?;
+    if rest[point] != b'.' {
+        return None;
+    }
+    let whole = digits(&rest[..point])?;
+    let tenth = digits(&rest[point + 1..])?;
+    Some(apply(negative, whole * 10 + tenth))
+}
+
+/// Drops the leading blanks and an optional minus.
+fn sign(field: &[u8]) -> (bool, &[u8]) {
+    let start = field.iter().position(|&b| b != b' ');
+    let body = &field[start.unwrap_or(field.len())..];
+    match body.strip_prefix(b"-") {
+        Some(rest) => (true, rest),
+        None => (false, body),
+    }
+}
+
+/// One or more digits and nothing else. Fields have at most 8 columns.
+fn digits(body: &[u8]) -> Option<i64> {
+    if body.is_empty() || !body.iter().all(u8::is_ascii_digit) {
+        return None;
+    }
+    Some(body.iter().fold(0, |n, b| n * 10 + i64::from(b - b'0')))
+}
+
+fn apply(negative: bool, size: i64) -> i64 {
+    if negative {
+        -size
+    } else {
+        size
+    }
+}
+
+/// "Numbers are right-aligned without needless zeros."
+pub fn integer_text(value: i64, width: usize) -> String {
+    format!("{value:>width$}")
+}
+
+/// A number of tenths with its point; the digit before the point is no
+/// needless zero, as Fn.1 asks for one or more digits there.
+pub fn tenths_text(value: i64, width: usize) -> String {
+    let minus = if value < 0 { "-" } else { "" };
+    let size = value.unsigned_abs();
+    let text = format!("{minus}{}.{}", size / 10, size % 10);
+    format!("{text:>width$}")
+}
+
+#[cfg(test)]
+mod tests {
+    use super::*;
+
+    #[test]
+    fn figures_of_01() {
+        assert_eq!(integer(b"   -0"), Some(0));
+        assert_eq!(integer(b"00000"), Some(0));
+        assert_eq!(integer(b"   +5"), None);
+        assert_eq!(integer(b"   5 "), None);
+    }
+
+    #[test]
+    fn integers() {
+        assert_eq!(integer(b"-9999"), Some(-9999));
+        assert_eq!(integer(b"99999"), Some(99999));
+        assert_eq!(integer(b"-0005"), Some(-5));
+        assert_eq!(integer(b" -  5"), None);
+        assert_eq!(integer(b"     "), None);
+        assert_eq!(integer(b"    -"), None);
+        assert_eq!(integer(b"--005"), None);
+        assert_eq!(integer(b"1 002"), None);
+        assert_eq!(integer(b"  5.0"), None);
+        assert_eq!(integer(b"  1e2"), None);
+    }
+
+    #[test]
+    fn numbers_of_tenths() {
+        assert_eq!(tenths(b"  87.5"), Some(875));
+        assert_eq!(tenths(b"-180.0"), Some(-1800));
+        assert_eq!(tenths(b"  -0.0"), Some(0));
+        assert_eq!(tenths(b"  -0.5"), Some(-5));
+        assert_eq!(tenths(b"0000.1"), Some(1));
+        assert_eq!(tenths(b"9999.9"), Some(99999));
+        assert_eq!(tenths(b"    .5"), None);
+        assert_eq!(tenths(b"   -.5"), None);
+        assert_eq!(tenths(b"    5."), None);
+        assert_eq!(tenths(b"     5"), None);
+        assert_eq!(tenths(b"  5.00"), None);
+        assert_eq!(tenths(b"  5.0 "), None);
+        assert_eq!(tenths(b"  + .0"), None);
+        assert_eq!(tenths(b"  1..0"), None);
+        assert_eq!(tenths(b"      "), None);
+    }
+
+    #[test]
+    fn numbers_as_text() {
+        assert_eq!(integer_text(-5, 5), "   -5");
+        assert_eq!(integer_text(0, 6), "     0");
+        assert_eq!(tenths_text(-5, 6), "  -0.5");
+        assert_eq!(tenths_text(0, 6), "   0.0");
+        assert_eq!(tenths_text(-1800, 6), "-180.0");
+        assert_eq!(tenths_text(999_999, 8), " 99999.9");
+    }
+}

@@ -1,0 +1,28 @@
+//! The second program: an independent, plain implementation of IONEX 1.1,
+//! written from the documents only. It reads text into lent areas, writes a
+//! map set as canonical text, and answers for the value at a place and second.
+//!
+//! "01" in comments is the scope paper; "001" and "000" are the two source
+//! documents (IONEX 1.1 and version 1).
+
+#![forbid(unsafe_code)]
+
+pub mod ask;
+pub mod calendar;
+pub mod fields;
+pub mod header;
+pub mod labels;
+pub mod lines;
+pub mod maps;
+pub mod program;
+pub mod read;
+pub mod refusal;
+pub mod write;
+
+pub use ask::{ask, Answer, Question};
+pub use calendar::moved;
+pub use header::{Axis, Count, Header, System, Texts};
+pub use maps::{Areas, View};
+pub use read::{read, Reading};
+pub use refusal::Refusal;
+pub use write::write;

@@ -1,0 +1,239 @@
+//! Asking: 01's figures, 'Easy to get wrong', and the order of refusals.
+
+mod common;
+use common::*;
+use second::{ask, Answer, Header, Question, Texts};
+
+type Set = (Header, Texts, Own);
+
+/// The base grid: rows 10.0 and 0.0, columns 0.0, 10.0 and 20.0, two maps 7200 s
+/// apart, RMS map 2 only, no height maps.
+fn set() -> Set {
+    accepted(&base(), [12, 12, 0, 12, 2, 2])
+}
+
+const FIRST: u64 = 36_524 * 86_400;
+
+fn at(latitude: i64, longitude: i64, after: u64) -> Question {
+    Question {
+        kind: 0,
+        method: 1,
+        layer: 0,
+        latitude,
+        longitude,
+        second: FIRST + after,
+    }
+}
+
+fn answer(set: &mut Set, question: &Question) -> Result<Answer, u8> {
+    let (header, texts, own) = set;
+    ask(header, texts, &own.lent().view(), question).map_err(|r| r.number())
+}
+
+fn tecu(value: i64) -> Result<Answer, u8> {
+    Ok(Answer::ThousandthsOfTecu(value))
+}
+
+#[test]
+fn figure_four_corners() {
+    // "corners 100, 200 over 300, 400 (exponent -1): p = q = 1/2 gives 25,000"
+    let mut set = set();
+    set.2.tec[..6].copy_from_slice(&[300, 400, 9999, 100, 200, 9999]);
+    assert_eq!(answer(&mut set, &at(500, 500, 0)), tecu(25_000));
+    set.2.tec[..6].copy_from_slice(&[100, 200, 9999, 300, 400, 9999]);
+    assert_eq!(answer(&mut set, &at(500, 500, 0)), tecu(25_000));
+}
+
+#[test]
+fn figure_halves() {
+    // "0 and 1 under -3, halfway: 1; 0 and -1: -1", in space and in time.
+    let mut set = set();
+    set.2.exponents[..4].fill(-3);
+    for (one, half) in [(1, 1), (-1, -1)] {
+        set.2.tec[..6].copy_from_slice(&[0, one, 0, 0, 0, 0]);
+        set.2.tec[6..].copy_from_slice(&[one; 6]);
+        assert_eq!(answer(&mut set, &at(1000, 500, 0)), tecu(half));
+        assert_eq!(answer(&mut set, &at(1000, 2000, 3600)), tecu(half));
+        assert_eq!(answer(&mut set, &at(1000, 2000, 3599)), tecu(0));
+    }
+}
+
+#[test]
+fn rounded_once() {
+    // Map 1: 0 and 1 halfway is 1/2, map 2: 0; a third of the time on: 1/3, so 0.
+    // Rounding in space first would make 2/3, so 1.
+    let mut set = set();
+    set.2.exponents[..4].fill(-3);
+    set.2.tec.fill(0);
+    set.2.tec[1] = 1;
+    assert_eq!(answer(&mut set, &at(1000, 500, 2400)), tecu(0));
+    assert_eq!(answer(&mut set, &at(1000, 500, 0)), tecu(1));
+}
+
+#[test]
+fn each_block_has_its_exponent() {
+    let mut set = set();
+    set.2.tec[0] = 7;
+    for (exponent, value) in [(-3, 7), (-2, 70), (-1, 700), (0, 7000)] {
+        set.2.exponents[0] = exponent;
+        assert_eq!(answer(&mut set, &at(1000, 0, 0)), tecu(value));
+    }
+    // Halfway between 7 under 0 (7000) and 4 under -1 (400).
+    assert_eq!(answer(&mut set, &at(500, 0, 0)), tecu(3700));
+}
+
+#[test]
+fn nodes_without_a_value() {
+    let mut set = set();
+    set.2.tec[1] = 9999;
+    // The absent node has weight zero at its neighbour, in space and in time.
+    assert_eq!(answer(&mut set, &at(1000, 0, 0)), tecu(100));
+    assert_eq!(answer(&mut set, &at(1000, 1, 0)), Err(22));
+    assert_eq!(answer(&mut set, &at(1000, 1000, 7200)), tecu(1200));
+    assert_eq!(answer(&mut set, &at(1000, 1000, 7199)), Err(22));
+    assert_eq!(answer(&mut set, &at(0, 1000, 0)), tecu(500));
+    assert_eq!(answer(&mut set, &at(1, 1000, 0)), Err(22));
+    for (wrong, exponent) in [(100_000, -1), (-10_000, -1), (5, 1), (5, -4)] {
+        set.2.tec[1] = wrong;
+        set.2.exponents[0] = exponent;
+        assert_eq!(answer(&mut set, &at(1000, 1000, 0)), Err(22));
+        assert_eq!(answer(&mut set, &at(0, 1000, 0)), tecu(500));
+    }
+    set.2.tec[1] = 99_999;
+    set.2.exponents[0] = 0;
+    assert_eq!(answer(&mut set, &at(1000, 1000, 0)), tecu(99_999_000));
+}
+
+#[test]
+fn kinds_and_units() {
+    let mut set = set();
+    let mut question = at(1000, 0, 7200);
+    question.kind = 1;
+    assert_eq!(answer(&mut set, &question), tecu(2100));
+    // RMS map 1 is absent.
+    question.second -= 1;
+    assert_eq!(answer(&mut set, &question), Err(22));
+    question.method = 0;
+    assert_eq!(answer(&mut set, &question), tecu(2100));
+    question.kind = 2;
+    assert_eq!(answer(&mut set, &question), Err(22));
+    set.2.marks = vec![2, 3];
+    set.2.height = vec![-5; 12];
+    let answered = answer(&mut set, &question);
+    assert_eq!(answered, Ok(Answer::ThousandthsOfKilometre(-500)));
+}
+
+#[test]
+fn in_time() {
+    let mut set = set();
+    let mut question = at(1000, 0, 3600);
+    // Halfway between 1 and 11 under -1: 6, so 600; the earlier map alone: 100.
+    assert_eq!(answer(&mut set, &question), tecu(600));
+    question.method = 0;
+    assert_eq!(answer(&mut set, &question), tecu(100));
+    question.second += 1;
+    assert_eq!(answer(&mut set, &question), tecu(1100));
+    question.second = FIRST + 7200;
+    assert_eq!(answer(&mut set, &question), tecu(1100));
+    question.method = 1;
+    assert_eq!(answer(&mut set, &question), tecu(1100));
+    question.second += 1;
+    assert_eq!(answer(&mut set, &question), Err(20));
+    question.second = FIRST - 1;
+    assert_eq!(answer(&mut set, &question), Err(20));
+}
+
+#[test]
+fn in_space() {
+    let mut set = set();
+    assert_eq!(answer(&mut set, &at(1001, 0, 0)), Err(21));
+    assert_eq!(answer(&mut set, &at(-1, 0, 0)), Err(21));
+    assert_eq!(answer(&mut set, &at(i64::MIN, i64::MIN, 0)), Err(21));
+    assert_eq!(answer(&mut set, &at(i64::MAX, 0, 0)), Err(21));
+    assert_eq!(answer(&mut set, &at(0, 2000, 0)), tecu(600));
+    assert_eq!(answer(&mut set, &at(0, 2001, 0)), Err(21));
+    assert_eq!(answer(&mut set, &at(0, -1, 0)), Err(21));
+    assert_eq!(answer(&mut set, &at(0, 36_000, 0)), tecu(400));
+    assert_eq!(answer(&mut set, &at(0, -36_000 * 5 + 1000, 0)), tecu(500));
+    let mut question = at(0, 0, 0);
+    question.layer = 1;
+    assert_eq!(answer(&mut set, &question), Err(21));
+    question.layer = -1;
+    assert_eq!(answer(&mut set, &question), Err(21));
+    question.layer = i64::MIN;
+    assert_eq!(answer(&mut set, &question), Err(21));
+}
+
+#[test]
+fn one_row_one_column() {
+    let mut set = set();
+    set.0.latitudes.last = 100;
+    set.0.longitudes.first = 100;
+    set.0.longitudes.last = 100;
+    set.2.marks.fill(0);
+    assert_eq!(answer(&mut set, &at(1000, 1000, 7200)), tecu(200));
+    assert_eq!(answer(&mut set, &at(1000, 1001, 7200)), Err(21));
+    assert_eq!(answer(&mut set, &at(1000, 999, 7200)), Err(21));
+    assert_eq!(answer(&mut set, &at(999, 1000, 7200)), Err(21));
+    assert_eq!(answer(&mut set, &at(1000, 1000 - 36_000, 0)), tecu(100));
+}
+
+#[test]
+fn one_map() {
+    let mut set = set();
+    set.0.maps = 1;
+    set.0.last_epoch = set.0.first_epoch;
+    set.2.marks = vec![0];
+    for method in [0, 1] {
+        let mut question = at(1000, 500, 0);
+        question.method = method;
+        // Halfway between 1 and 2 under -1.
+        assert_eq!(answer(&mut set, &question), tecu(150));
+        question.second += 1;
+        assert_eq!(answer(&mut set, &question), Err(20));
+    }
+}
+
+#[test]
+fn order_of_refusals() {
+    let mut set = set();
+    let mut question = at(5000, 0, 9999);
+    question.kind = 3;
+    set.0.maps = 0;
+    assert_eq!(answer(&mut set, &question), Err(23));
+    question.kind = 1;
+    question.method = 2;
+    assert_eq!(answer(&mut set, &question), Err(23));
+    question.method = -1;
+    assert_eq!(answer(&mut set, &question), Err(23));
+    question.method = 1;
+    assert_eq!(answer(&mut set, &question), Err(31));
+    set.0.maps = 2;
+    assert_eq!(answer(&mut set, &question), Err(20));
+    question.second = FIRST;
+    assert_eq!(answer(&mut set, &question), Err(21));
+    question.latitude = 1000;
+    assert_eq!(answer(&mut set, &question), Err(22));
+}
+
+#[test]
+fn what_asking_judges() {
+    let question = at(1000, 0, 0);
+    let with = |change: &dyn Fn(&mut Set)| {
+        let mut set = set();
+        change(&mut set);
+        answer(&mut set, &question)
+    };
+    assert_eq!(with(&|s| s.2.marks[1] = 4), Err(31));
+    assert_eq!(with(&|s| s.2.marks[0] = 2), Err(31));
+    assert_eq!(with(&|s| s.2.epochs[1] += 1), Err(31));
+    assert_eq!(with(&|s| s.2.rms.truncate(11)), Err(31));
+    assert_eq!(with(&|s| s.2.exponents.truncate(11)), Err(31));
+    assert_eq!(with(&|s| s.1.date[0] = 9), Err(31));
+    assert_eq!(with(&|s| s.0.stations.count = 1), Err(31));
+    // Values and exponents of nodes that are not needed are not looked at.
+    assert_eq!(with(&|s| s.2.tec[11] = i32::MIN), tecu(100));
+    assert_eq!(with(&|s| s.2.exponents[3] = 99), tecu(100));
+    assert_eq!(with(&|s| s.2.rms[0] = 5), tecu(100));
+    assert_eq!(with(&|s| s.2.exponents[11] = 0), tecu(100));
+}

@@ -1,0 +1,402 @@
+//! The self-check of one library and the comparison of two.
+
+use crate::jobs::{self, Job, Known, Truth};
+use crate::library::Library;
+use crate::oracle;
+use crate::run::{self, Outcome};
+use crate::set::{Buffers, MapSet};
+use second::{Reading, Refusal};
+use std::collections::BTreeMap;
+use std::fs;
+use std::path::PathBuf;
+
+/// How often each answer must have occurred.
+const OFTEN: u64 = 100;
+
+/// How often each answer occurred.
+#[derive(Default)]
+pub struct Counts {
+    pub accepted: u64,
+    pub written: u64,
+    pub answered: u64,
+    pub moved: u64,
+    /// Refusals of reading by number, and those after END OF HEADER.
+    pub reading: [u64; 12],
+    pub deep: [u64; 12],
+    pub writing: [u64; 32],
+    pub asking: [u64; 32],
+    pub moving: u64,
+}
+
+impl Counts {
+    fn add(&mut self, job: &Job, outcome: &Outcome) {
+        let number = outcome.refusal().map(|r| usize::from(r.number()));
+        match (job, number) {
+            (Job::Read { .. }, None) => self.accepted += 1,
+            (Job::Read { text, .. }, Some(number)) => {
+                self.reading[number] += 1;
+                if let Some(Refusal::Place { line, .. }) = outcome.refusal() {
+                    if header_end(text).is_some_and(|end| line > end) {
+                        self.deep[number] += 1;
+                    }
+                }
+            }
+            (Job::Write { .. }, None) => self.written += 1,
+            (Job::Write { .. }, Some(number)) => self.writing[number] += 1,
+            (Job::Ask { .. }, None) => self.answered += 1,
+            (Job::Ask { .. }, Some(number)) => self.asking[number] += 1,
+            (Job::Move { .. }, None) => self.moved += 1,
+            (Job::Move { .. }, Some(_)) => self.moving += 1,
+        }
+    }
+
+    fn rows(&self) -> Vec<(String, u64)> {
+        let mut rows = vec![("accepted".to_string(), self.accepted)];
+        for number in 1..=11 {
+            rows.push((format!("refused {number}"), self.reading[number]));
+        }
+        for number in 5..=9 {
+            let name = format!("refused {number} inside the maps");
+            rows.push((name, self.deep[number]));
+        }
+        rows.push(("written".to_string(), self.written));
+        for number in 30..=31 {
+            rows.push((format!("writing refused {number}"), self.writing[number]));
+        }
+        rows.push(("answered".to_string(), self.answered));
+        for number in [20, 21, 22, 23, 31] {
+            rows.push((format!("asking refused {number}"), self.asking[number]));
+        }
+        rows.push(("moved".to_string(), self.moved));
+        rows.push(("moving refused 7".to_string(), self.moving));
+        rows
+    }
+}
+
+/// The line number of the first END OF HEADER outside aux blocks.
+fn header_end(text: &[u8]) -> Option<u64> {
+    let mut aux = false;
+    for (k, line) in text.split(|&b| b == b'\n').enumerate() {
+        match line.get(60..).unwrap_or(b"").trim_ascii_end() {
+            b"START OF AUX DATA" => aux = true,
+            b"END OF AUX DATA" => aux = false,
+            b"END OF HEADER" if !aux => return Some(k as u64 + 1),
+            _ => {}
+        }
+    }
+    None
+}
+
+#[derive(Default)]
+pub struct Tally {
+    pub passed: u64,
+    pub failed: u64,
+}
+
+impl Tally {
+    pub fn note(&mut self, good: bool) {
+        if good {
+            self.passed += 1;
+        } else {
+            self.failed += 1;
+        }
+    }
+}
+
+/// Every job of the seeds run by one library and judged. Prints the counts.
+pub fn self_check(library: &dyn Library, count: u64, seed: u64) -> Tally {
+    over_seeds(count, seed, |job| {
+        let outcome = run::run(library, job);
+        let complaint = judge(library, job, &outcome);
+        (outcome, complaint)
+    })
+}
+
+/// Every job of the seeds run by two libraries, which must agree in everything.
+pub fn compare(a: &dyn Library, b: &dyn Library, count: u64, seed: u64) -> Tally {
+    over_seeds(count, seed, |job| {
+        let first = run::run(a, job);
+        let second = run::run(b, job);
+        let complaint = run::difference(&first, &second);
+        (first, complaint)
+    })
+}
+
+fn over_seeds(count: u64, seed: u64, try_job: impl Fn(&Job) -> (Outcome, Option<String>)) -> Tally {
+    let mut tally = Tally::default();
+    let mut counts = Counts::default();
+    for seed in seed..seed.saturating_add(count) {
+        for (k, job) in jobs::jobs(seed).iter().enumerate() {
+            let (outcome, complaint) = try_job(job);
+            counts.add(job, &outcome);
+            tally.note(complaint.is_none());
+            if let Some(complaint) = complaint {
+                println!("seed {seed} job {k} ({}): {complaint}", job.name());
+                leave(seed, k, job);
+            }
+        }
+    }
+    for (name, number) in counts.rows() {
+        let often = number >= OFTEN;
+        let remark = if often { "" } else { "  too seldom" };
+        println!("{number:>9}  {name}{remark}");
+        tally.note(often);
+    }
+    tally
+}
+
+/// Leaves what a failed job was given under tests/failed/.
+fn leave(seed: u64, k: usize, job: &Job) {
+    let folder = PathBuf::from(env!("CARGO_MANIFEST_DIR")).join("failed");
+    let written = fs::create_dir_all(&folder).and_then(|()| match job {
+        Job::Read { text, .. } => fs::write(folder.join(format!("{seed}-{k}.inx")), text),
+        _ => fs::write(
+            folder.join(format!("{seed}-{k}.txt")),
+            format!("{job:#?}\n"),
+        ),
+    });
+    if let Err(error) = written {
+        println!("could not leave the job: {error}");
+    }
+}
+
+/// What is wrong with an outcome, if anything is.
+fn judge(library: &dyn Library, job: &Job, outcome: &Outcome) -> Option<String> {
+    match (job, outcome) {
+        (Job::Read { text, lent, truth }, Outcome::Read { answer, areas }) => {
+            judge_reading(library, text, lent, truth, answer, areas)
+        }
+        (Job::Write { set, out, known }, Outcome::Write { answer, out: after }) => {
+            judge_writing(library, set, out, *known, answer, after)
+        }
+        (
+            Job::Ask {
+                set,
+                question,
+                known,
+            },
+            Outcome::Ask(answer),
+        ) => match answer {
+            Err(Refusal::Bare { number: 31 }) if *known == Known::Open => None,
+            _ => oracle::wrong(set, question, answer),
+        },
+        (Job::Move { epoch, by }, Outcome::Move(answer)) => judge_moving(*epoch, *by, answer),
+        _ => Some("a panic".to_string()),
+    }
+}
+
+/// How often each number, column and part of the text occurs among the refusals
+/// of reading: 'h' up to END OF HEADER, 'm' after it.
+pub fn places(library: &dyn Library, count: u64, seed: u64) {
+    let mut places = BTreeMap::new();
+    for seed in seed..seed.saturating_add(count) {
+        for job in jobs::jobs(seed) {
+            let Job::Read { text, .. } = &job else {
+                continue;
+            };
+            if let Some(Refusal::Place {
+                number,
+                line,
+                column,
+            }) = run::run(library, &job).refusal()
+            {
+                let deep = header_end(text).is_some_and(|end| line > end);
+                let part = if deep { 'm' } else { 'h' };
+                *places.entry((number, part, column)).or_insert(0u64) += 1;
+            }
+        }
+    }
+    let mut last = None;
+    for ((number, part, column), times) in places {
+        if last != Some((number, part)) {
+            print!("{}{number} {part}:", if last.is_some() { "\n" } else { "" });
+            last = Some((number, part));
+        }
+        print!(" {column}x{times}");
+    }
+    println!();
+}
+
+fn must(good: bool, complaint: &str) -> Option<String> {
+    (!good).then(|| complaint.to_string())
+}
+
+fn judge_reading(
+    library: &dyn Library,
+    text: &[u8],
+    lent: &Buffers,
+    truth: &Truth,
+    answer: &Reading,
+    areas: &Buffers,
+) -> Option<String> {
+    match (truth, answer) {
+        (Truth::Set(set), Reading::Accepted { header, texts }) => {
+            must(*header == set.header, "not the header generated")
+                .or_else(|| must(*texts == set.texts, "not the texts generated"))
+                .or_else(|| {
+                    let expected = lent.overlaid(&set.areas);
+                    must(*areas == expected, "not the areas generated")
+                })
+                .or_else(|| round_trip(library, set))
+        }
+        (Truth::Set(_), Reading::Refused(refusal)) => Some(format!("a good text: {refusal}")),
+        (Truth::Short { area, need }, Reading::Refused(refusal)) => {
+            let expected = Refusal::Area {
+                area: *area,
+                need: *need,
+            };
+            must(*refusal == expected, "not the short area")
+                .or_else(|| must(areas == lent, "a refusal changed an area"))
+        }
+        (Truth::Short { .. }, _) => Some("accepted with a short area".to_string()),
+        (Truth::Open, Reading::Refused(refusal)) => {
+            must(areas == lent, "a refusal changed an area")
+                .or_else(|| place(text, refusal))
+                .or_else(|| cut_at(library, text, lent, refusal))
+        }
+        (Truth::Open, Reading::Accepted { header, texts }) => {
+            let found = MapSet {
+                header: *header,
+                texts: *texts,
+                areas: areas.clone(),
+            };
+            let cut = found.cut();
+            let expected = lent.overlaid(&cut.areas);
+            must(*areas == expected, "more than the needs was changed")
+                .or_else(|| round_trip(library, &cut))
+        }
+    }
+}
+
+/// Whether a refusal's place can be one in this text.
+fn place(text: &[u8], refusal: &Refusal) -> Option<String> {
+    let Refusal::Place {
+        number,
+        line,
+        column,
+    } = *refusal
+    else {
+        return must(refusal.number() == 11, "no refusal of reading");
+    };
+    let mut lines: Vec<&[u8]> = text.split(|&b| b == b'\n').collect();
+    if lines.last().is_some_and(|last| last.is_empty()) {
+        lines.pop();
+    }
+    if number == 10 {
+        return must(line == lines.len() as u64 + 1 && column == 0, "not the end");
+    }
+    let Some(bytes) = lines.get((line as usize).wrapping_sub(1)) else {
+        return Some("a line that is not there".to_string());
+    };
+    let good = match number {
+        1 => bytes.len() > 80 && column == 81,
+        2 => bytes
+            .get(column as usize - 1)
+            .is_some_and(|b| !(32..=126).contains(b)),
+        3 => [61, 1, 21, 41].contains(&column),
+        4 | 5 => column == 61,
+        6 => (1..=80).contains(&column),
+        7 | 8 => column <= 31,
+        9 => column == 0,
+        _ => false,
+    };
+    must(good, &format!("{refusal} cannot be"))
+}
+
+/// "Lowest line first": cut before the refused line, the text ends too early (or
+/// was over already); cut after it, it is refused the same way.
+fn cut_at(library: &dyn Library, text: &[u8], lent: &Buffers, refusal: &Refusal) -> Option<String> {
+    let Refusal::Place { number, line, .. } = *refusal else {
+        return None;
+    };
+    if number == 10 {
+        return None;
+    }
+    let starts: Vec<usize> = std::iter::once(0)
+        .chain((0..text.len()).filter(|&k| text[k] == b'\n').map(|k| k + 1))
+        .collect();
+    let read = |end: usize| library.read(&text[..end], &mut lent.clone());
+    let before = read(starts[line as usize - 1]);
+    let early = Reading::Refused(Refusal::Place {
+        number: 10,
+        line,
+        column: 0,
+    });
+    let over = match before {
+        Reading::Accepted { .. } => true,
+        Reading::Refused(refusal) => refusal.number() == 11,
+    };
+    must(before == early || over, "refused before the line cut off").or_else(|| {
+        let end = starts.get(line as usize).copied().unwrap_or(text.len());
+        let same = read(end) == Reading::Refused(*refusal);
+        must(same, "refused otherwise when cut after the line")
+    })
+}
+
+/// The canonical text read again gives the set again, and is a fixed point.
+fn round_trip(library: &dyn Library, set: &MapSet) -> Option<String> {
+    let expected = second::write::canonical(&set.header, &set.texts, &set.areas.view());
+    let mut text = vec![0; expected.len() + 10];
+    match library.write(set, &mut text) {
+        Ok(length) => text.truncate(length),
+        Err(refusal) => return Some(format!("a good set is not written: {refusal}")),
+    }
+    let mut areas = Buffers::filled(set.areas.lengths(), 1);
+    let Reading::Accepted { header, texts } = library.read(&text, &mut areas) else {
+        return Some("the canonical text is refused".to_string());
+    };
+    let again = MapSet {
+        header,
+        texts,
+        areas,
+    };
+    if again != *set {
+        return Some("the canonical text gives another set".to_string());
+    }
+    let mut second = vec![0; text.len()];
+    let length = library.write(&again, &mut second);
+    must(
+        length == Ok(text.len()) && second == text,
+        "the canonical text is no fixed point",
+    )
+}
+
+fn judge_writing(
+    library: &dyn Library,
+    set: &MapSet,
+    out: &[u8],
+    known: Known,
+    answer: &Result<usize, Refusal>,
+    after: &[u8],
+) -> Option<String> {
+    match answer {
+        Err(Refusal::Bare { number: 31 }) => must(known != Known::Valid, "a good set is refused")
+            .or_else(|| must(after == out, "a refusal changed the output")),
+        Err(Refusal::Output { need }) => must(known != Known::Invalid, "30 for no set")
+            .or_else(|| must(*need > out.len() as u64, "a need that was lent"))
+            .or_else(|| must(after == out, "a refusal changed the output"))
+            .or_else(|| {
+                let mut enough = vec![0; *need as usize];
+                let length = library.write(set, &mut enough);
+                must(length == Ok(enough.len()), "not the need")
+            })
+            .or_else(|| round_trip(library, &set.cut())),
+        Ok(length) => must(known != Known::Invalid, "no set is written")
+            .or_else(|| must(after[*length..] == out[*length..], "bytes past the text"))
+            .or_else(|| round_trip(library, &set.cut())),
+        Err(refusal) => Some(format!("{refusal} is no refusal of writing")),
+    }
+}
+
+fn judge_moving(epoch: u64, by: i64, answer: &Result<u64, Refusal>) -> Option<String> {
+    let end = i128::from(second::calendar::END);
+    let result = i128::from(epoch) + i128::from(by);
+    let good = i128::from(epoch) < end && (0..end).contains(&result);
+    match answer {
+        Ok(moved) => must(good && i128::from(*moved) == result, "wrongly moved"),
+        Err(refusal) => must(
+            !good && *refusal == Refusal::Bare { number: 7 },
+            "wrongly refused",
+        ),
+    }
+}

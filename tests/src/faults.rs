@@ -1,0 +1,441 @@
+//! Planted faults: a library that answers as the second program does but for one
+//! thing. Each must be found by the comparison.
+
+use crate::jobs;
+use crate::library::{Library, Second};
+use crate::run;
+use crate::set::{Buffers, MapSet};
+use second::maps::Grid;
+use second::{Answer, Axis, Header, Question, Reading, Refusal, Texts};
+
+#[derive(Clone, Copy, Debug, PartialEq, Eq)]
+pub enum Fault {
+    // Reading: the answer.
+    AcceptedAsRefused,
+    RefusedAsAccepted,
+    Number,
+    Line,
+    Column,
+    ShortArea,
+    ShortNeed,
+    // Reading: the header record, its axes (0 heights, 1 latitudes, 2 longitudes;
+    // first, last, step) and its starred records.
+    Version,
+    FileType,
+    Code,
+    FirstEpoch,
+    LastEpoch,
+    Interval,
+    Maps,
+    Cutoff,
+    Radius,
+    Dimension,
+    AxisNumber(usize, usize),
+    StationsFlag,
+    StationsCount,
+    SatellitesFlag,
+    SatellitesCount,
+    SystemFlag(usize),
+    SystemStations(usize),
+    SystemSatellites(usize),
+    // Reading: a text, the last needed element of an area, the guard behind it,
+    // an area touched by a refusal.
+    Text(usize),
+    Area(usize),
+    Guard(usize),
+    Touched(usize),
+    /// The exponent set back to -1 at each map.
+    ExponentReset,
+    // Writing.
+    WrittenByte,
+    WrittenPast,
+    WrittenLength,
+    WriteNeed,
+    WriteNumber,
+    WriteTouched,
+    // Asking.
+    Value,
+    Unit,
+    AskNumber,
+    /// Rounding in space and again in time.
+    RoundedTwice,
+    /// The later of two equally near maps.
+    LaterMap,
+    /// Refusing for an absent node whose weight is zero.
+    ZeroWeight,
+    /// 9999 taken as a value.
+    AbsentAsValue,
+    // Moving.
+    MovedValue,
+    MovedRefusal,
+}
+
+pub fn all() -> Vec<Fault> {
+    use Fault::*;
+    let mut faults = vec![
+        AcceptedAsRefused,
+        RefusedAsAccepted,
+        Number,
+        Line,
+        Column,
+        ShortArea,
+        ShortNeed,
+        Version,
+        FileType,
+        Code,
+        FirstEpoch,
+        LastEpoch,
+        Interval,
+        Maps,
+        Cutoff,
+        Radius,
+        Dimension,
+        StationsFlag,
+        StationsCount,
+        SatellitesFlag,
+        SatellitesCount,
+        ExponentReset,
+        WrittenByte,
+        WrittenPast,
+        WrittenLength,
+        WriteNeed,
+        WriteNumber,
+        WriteTouched,
+        Value,
+        Unit,
+        AskNumber,
+        RoundedTwice,
+        LaterMap,
+        ZeroWeight,
+        AbsentAsValue,
+        MovedValue,
+        MovedRefusal,
+    ];
+    for axis in 0..3 {
+        faults.extend((0..3).map(|number| AxisNumber(axis, number)));
+    }
+    for k in 0..7 {
+        faults.extend([SystemFlag(k), SystemStations(k), SystemSatellites(k)]);
+    }
+    faults.extend((0..5).map(Text));
+    for k in 0..6 {
+        faults.extend([Area(k), Guard(k), Touched(k)]);
+    }
+    faults
+}
+
+/// The seed and job that find the fault, and the difference, within `count` seeds.
+pub fn find(fault: Fault, count: u64, seed: u64) -> Option<(u64, usize, String)> {
+    let faulty = Faulty(fault);
+    for seed in seed..seed.saturating_add(count) {
+        for (k, job) in jobs::jobs(seed).iter().enumerate() {
+            let right = run::run(&Second, job);
+            let wrong = run::run(&faulty, job);
+            if let Some(difference) = run::difference(&right, &wrong) {
+                return Some((seed, k, difference));
+            }
+        }
+    }
+    None
+}
+
+pub struct Faulty(pub Fault);
+
+impl Library for Faulty {
+    fn name(&self) -> String {
+        format!("second with {:?}", self.0)
+    }
+
+    fn read(&self, text: &[u8], areas: &mut Buffers) -> Reading {
+        let before = areas.clone();
+        match Second.read(text, areas) {
+            Reading::Accepted { header, texts } => {
+                self.accepted(text, before, areas, header, texts)
+            }
+            Reading::Refused(refusal) => self.refused(areas, refusal),
+        }
+    }
+
+    fn write(&self, set: &MapSet, out: &mut [u8]) -> Result<usize, Refusal> {
+        let answer = Second.write(set, out);
+        match (self.0, answer) {
+            (Fault::WrittenByte, Ok(length)) => {
+                out[length / 2] ^= 1;
+                Ok(length)
+            }
+            (Fault::WrittenPast, Ok(length)) => {
+                if length < out.len() {
+                    out[length] ^= 1;
+                }
+                Ok(length)
+            }
+            (Fault::WrittenLength, Ok(length)) => Ok(length - 1),
+            (Fault::WriteNeed, Err(Refusal::Output { need })) => {
+                Err(Refusal::Output { need: need + 1 })
+            }
+            (Fault::WriteNumber, Err(Refusal::Bare { .. })) => Err(Refusal::Output { need: 1 }),
+            (Fault::WriteTouched, Err(refusal)) => {
+                if let Some(byte) = out.first_mut() {
+                    *byte ^= 1;
+                }
+                Err(refusal)
+            }
+            _ => answer,
+        }
+    }
+
+    fn ask(&self, set: &MapSet, question: &Question) -> Result<Answer, Refusal> {
+        let answer = Second.ask(set, question);
+        match (self.0, answer) {
+            (Fault::Value, Ok(Answer::ThousandthsOfTecu(value))) => {
+                Ok(Answer::ThousandthsOfTecu(value + 1))
+            }
+            (Fault::Unit, Ok(Answer::ThousandthsOfKilometre(value))) => {
+                Ok(Answer::ThousandthsOfTecu(value))
+            }
+            (Fault::AskNumber, Err(Refusal::Bare { number: 21 })) => {
+                Err(Refusal::Bare { number: 22 })
+            }
+            (Fault::RoundedTwice, Ok(right)) => Ok(rounded_twice(set, question).unwrap_or(right)),
+            (Fault::LaterMap, Ok(right)) if question.method == 0 => {
+                let later = Question {
+                    second: question.second + 1,
+                    ..*question
+                };
+                Ok(Second.ask(set, &later).unwrap_or(right))
+            }
+            (Fault::ZeroWeight, Ok(right)) => {
+                let aside = Question {
+                    longitude: question.longitude + 1,
+                    ..*question
+                };
+                match Second.ask(set, &aside) {
+                    Err(refusal) if refusal.number() == 22 => Err(refusal),
+                    _ => Ok(right),
+                }
+            }
+            (Fault::AbsentAsValue, Err(refusal)) if refusal.number() == 22 => {
+                let mut filled = set.clone();
+                for values in [
+                    &mut filled.areas.tec,
+                    &mut filled.areas.rms,
+                    &mut filled.areas.height,
+                ] {
+                    for value in values.iter_mut().filter(|v| **v == 9999) {
+                        *value = 9998;
+                    }
+                }
+                Second.ask(&filled, question)
+            }
+            _ => answer,
+        }
+    }
+
+    fn moved(&self, epoch: u64, by: i64) -> Result<u64, Refusal> {
+        let answer = Second.moved(epoch, by);
+        match (self.0, answer) {
+            (Fault::MovedValue, Ok(moved)) => Ok(moved + 1),
+            (Fault::MovedRefusal, Err(_)) => Ok(epoch.wrapping_add_signed(by)),
+            _ => answer,
+        }
+    }
+}
+
+impl Faulty {
+    fn accepted(
+        &self,
+        text: &[u8],
+        before: Buffers,
+        areas: &mut Buffers,
+        mut header: Header,
+        mut texts: Texts,
+    ) -> Reading {
+        match self.0 {
+            Fault::AcceptedAsRefused => {
+                *areas = before;
+                return Reading::Refused(Refusal::Place {
+                    number: 10,
+                    line: 1,
+                    column: 0,
+                });
+            }
+            Fault::Version => header.version += 1,
+            Fault::FileType => header.file_type ^= 1,
+            Fault::Code => header.code += 1,
+            Fault::FirstEpoch => header.first_epoch += 1,
+            Fault::LastEpoch => header.last_epoch += 1,
+            Fault::Interval => header.interval += 1,
+            Fault::Maps => header.maps += 1,
+            Fault::Cutoff => header.cutoff += 1,
+            Fault::Radius => header.radius += 1,
+            Fault::Dimension => header.dimension = 5 - header.dimension,
+            Fault::AxisNumber(axis, number) => {
+                let axis = match axis {
+                    0 => &mut header.heights,
+                    1 => &mut header.latitudes,
+                    _ => &mut header.longitudes,
+                };
+                shift(axis, number);
+            }
+            Fault::StationsFlag => header.stations.stands ^= true,
+            Fault::StationsCount => header.stations.count += 1,
+            Fault::SatellitesFlag => header.satellites.stands ^= true,
+            Fault::SatellitesCount => header.satellites.count += 1,
+            Fault::SystemFlag(k) => header.systems[k].stands ^= true,
+            Fault::SystemStations(k) => header.systems[k].stations += 1,
+            Fault::SystemSatellites(k) => header.systems[k].satellites += 1,
+            Fault::Text(k) => {
+                let parts: [&mut [u8]; 5] = [
+                    &mut texts.program,
+                    &mut texts.agency,
+                    &mut texts.date,
+                    &mut texts.mapping,
+                    &mut texts.observables,
+                ];
+                for (at, part) in parts.into_iter().enumerate() {
+                    if at == k {
+                        part[part.len() - 1] ^= 1;
+                    }
+                }
+            }
+            Fault::Area(k) => {
+                let need = Grid::of(&header).needs(&areas.marks)[k];
+                if need > 0 {
+                    flip(areas, k, need - 1);
+                }
+            }
+            Fault::Guard(k) => {
+                let need = Grid::of(&header).needs(&areas.marks)[k];
+                if need < areas.lengths()[k] {
+                    flip(areas, k, need);
+                }
+            }
+            Fault::ExponentReset => {
+                *areas = before;
+                return Second.read(&with_resets(text), areas);
+            }
+            _ => {}
+        }
+        Reading::Accepted { header, texts }
+    }
+
+    fn refused(&self, areas: &mut Buffers, refusal: Refusal) -> Reading {
+        let changed = match (self.0, refusal) {
+            (Fault::RefusedAsAccepted, _) => {
+                return Reading::Accepted {
+                    header: Header::default(),
+                    texts: Texts::default(),
+                }
+            }
+            (
+                Fault::Number,
+                Refusal::Place {
+                    number,
+                    line,
+                    column,
+                },
+            ) => Refusal::Place {
+                number: number % 10 + 1,
+                line,
+                column,
+            },
+            (
+                Fault::Line,
+                Refusal::Place {
+                    number,
+                    line,
+                    column,
+                },
+            ) => Refusal::Place {
+                number,
+                line: line + 1,
+                column,
+            },
+            (
+                Fault::Column,
+                Refusal::Place {
+                    number,
+                    line,
+                    column,
+                },
+            ) => Refusal::Place {
+                number,
+                line,
+                column: column + 1,
+            },
+            (Fault::ShortArea, Refusal::Area { area, need }) => Refusal::Area {
+                area: area % 6 + 1,
+                need,
+            },
+            (Fault::ShortNeed, Refusal::Area { area, need }) => Refusal::Area {
+                area,
+                need: need + 1,
+            },
+            (Fault::Touched(k), refusal) => {
+                if areas.lengths()[k] > 0 {
+                    flip(areas, k, 0);
+                }
+                refusal
+            }
+            (_, refusal) => refusal,
+        };
+        Reading::Refused(changed)
+    }
+}
+
+fn shift(axis: &mut Axis, number: usize) {
+    match number {
+        0 => axis.first += 1,
+        1 => axis.last += 1,
+        _ => axis.step += 1,
+    }
+}
+
+/// Changes one element of an area.
+fn flip(areas: &mut Buffers, area: usize, at: usize) {
+    match area {
+        0 => areas.tec[at] ^= 1,
+        1 => areas.rms[at] ^= 1,
+        2 => areas.height[at] ^= 1,
+        3 => areas.exponents[at] ^= 1,
+        4 => areas.epochs[at] ^= 1,
+        _ => areas.marks[at] ^= 1,
+    }
+}
+
+/// The text with EXPONENT -1 after each START record of a map.
+fn with_resets(text: &[u8]) -> Vec<u8> {
+    let reset = crate::gen::record(b"    -1", "EXPONENT");
+    let mut lines: Vec<&[u8]> = Vec::new();
+    for line in text.split(|&b| b == b'\n') {
+        lines.push(line);
+        let label = line.get(60..).unwrap_or(b"").trim_ascii_end();
+        if label.starts_with(b"START OF") && label.ends_with(b" MAP") {
+            lines.push(&reset);
+        }
+    }
+    lines.join(&b'\n')
+}
+
+fn rounded_twice(set: &MapSet, question: &Question) -> Option<Answer> {
+    if question.method != 1 {
+        return None;
+    }
+    let epochs = &set.areas.epochs[..set.grid().maps];
+    let after = epochs.iter().position(|&t| t > question.second)?;
+    let (from, to) = (epochs[after - 1], epochs[after]);
+    let at = |second| {
+        let alone = Question {
+            second,
+            ..*question
+        };
+        match Second.ask(set, &alone) {
+            Ok(Answer::ThousandthsOfTecu(value)) => Some(value),
+            _ => None,
+        }
+    };
+    let sum = at(from)? * (to - question.second) as i64 + at(to)? * (question.second - from) as i64;
+    let all = (to - from) as i64;
+    let size = (2 * sum.abs() + all) / (2 * all);
+    Some(Answer::ThousandthsOfTecu(size * sum.signum()))
+}

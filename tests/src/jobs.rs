@@ -1,0 +1,221 @@
+//! The jobs of a seed: what is handed to a library, and what is known of it.
+
+use crate::damage;
+use crate::gen;
+use crate::rng::Rng;
+use crate::set::{Buffers, MapSet};
+use second::Question;
+
+/// What is known beforehand of a reading.
+#[derive(Clone, Debug)]
+pub enum Truth {
+    /// The text has this map set as its meaning, and the areas are long enough.
+    Set(Box<MapSet>),
+    /// The same, but this area is the first that is too short.
+    Short { area: u8, need: u64 },
+    /// A damaged text.
+    Open,
+}
+
+/// Whether a map set for writing or asking is one.
+#[derive(Clone, Copy, Debug, PartialEq, Eq)]
+pub enum Known {
+    Valid,
+    Invalid,
+    Open,
+}
+
+#[derive(Clone, Debug)]
+pub enum Job {
+    Read {
+        text: Vec<u8>,
+        /// The areas as they are lent.
+        lent: Buffers,
+        truth: Truth,
+    },
+    Write {
+        set: Box<MapSet>,
+        /// The output as it is lent.
+        out: Vec<u8>,
+        known: Known,
+    },
+    Ask {
+        set: Box<MapSet>,
+        question: Question,
+        known: Known,
+    },
+    Move {
+        epoch: u64,
+        by: i64,
+    },
+}
+
+impl Job {
+    pub fn name(&self) -> &'static str {
+        match self {
+            Job::Read { .. } => "read",
+            Job::Write { .. } => "write",
+            Job::Ask { .. } => "ask",
+            Job::Move { .. } => "move",
+        }
+    }
+}
+
+/// All jobs of a seed.
+pub fn jobs(seed: u64) -> Vec<Job> {
+    let mut rng = Rng::new(seed);
+    let rng = &mut rng;
+    let set = gen::map_set(rng);
+    let text = gen::text(rng, &set);
+    let mut jobs = vec![
+        read_job(rng, &text, &set, false),
+        read_job(rng, &text, &set, true),
+    ];
+    for _ in 0..6 {
+        jobs.push(damaged_read_job(rng, &text, &set));
+    }
+    for _ in 0..2 {
+        jobs.push(write_job(rng, &set, false));
+        jobs.push(write_job(rng, &set, true));
+    }
+    for _ in 0..5 {
+        jobs.push(ask_job(rng, &set, false));
+    }
+    jobs.push(ask_job(rng, &set, true));
+    for _ in 0..2 {
+        jobs.push(move_job(rng));
+    }
+    jobs
+}
+
+/// Guard elements behind each need, and rubbish areas for kinds with no map.
+fn roomy(rng: &mut Rng, needs: [usize; 6]) -> [usize; 6] {
+    needs.map(|need| need + rng.pick(&[0, 1, 2, 5, 17]))
+}
+
+fn read_job(rng: &mut Rng, text: &[u8], set: &MapSet, short: bool) -> Job {
+    let needs = set.needs();
+    let mut lengths = roomy(rng, needs);
+    if short {
+        for _ in 0..rng.pick(&[1, 1, 2, 6]) {
+            let area = rng.below(6);
+            lengths[area] = match rng.below(3) {
+                0 => 0,
+                1 => needs[area] / 2,
+                _ => needs[area].saturating_sub(1),
+            };
+        }
+    }
+    let truth = match (0..6).find(|&k| lengths[k] < needs[k]) {
+        Some(area) => Truth::Short {
+            area: area as u8 + 1,
+            need: needs[area] as u64,
+        },
+        None => Truth::Set(Box::new(set.clone())),
+    };
+    Job::Read {
+        text: text.to_vec(),
+        lent: Buffers::filled(lengths, rng.word()),
+        truth,
+    }
+}
+
+fn damaged_read_job(rng: &mut Rng, text: &[u8], set: &MapSet) -> Job {
+    let needs = set.needs();
+    // A kind with no map may get one by the damage.
+    let full = [needs[0], needs[0], needs[0], needs[3], needs[4], needs[5]];
+    let lengths = if rng.once_in(10) {
+        roomy(rng, needs).map(|length| rng.below(length + 1))
+    } else {
+        roomy(rng, full)
+    };
+    let text = if rng.once_in(10) {
+        let mut changed = set.clone();
+        damage::epochs(rng, &mut changed);
+        gen::text(rng, &changed)
+    } else {
+        damage::text(rng, text)
+    };
+    Job::Read {
+        text,
+        lent: Buffers::filled(lengths, rng.word()),
+        truth: Truth::Open,
+    }
+}
+
+/// The set with more behind the needs, which is to be ignored.
+fn with_tails(rng: &mut Rng, set: &MapSet) -> MapSet {
+    let lengths = roomy(rng, set.needs());
+    let back = Buffers::filled(lengths, rng.word());
+    MapSet {
+        areas: back.overlaid(&set.areas),
+        ..set.clone()
+    }
+}
+
+fn write_job(rng: &mut Rng, set: &MapSet, damaged: bool) -> Job {
+    let mut set = if rng.once_in(2) {
+        with_tails(rng, set)
+    } else {
+        set.clone()
+    };
+    let known = match damaged {
+        false => Known::Valid,
+        true if damage::map_set(rng, &mut set) => Known::Invalid,
+        true => Known::Open,
+    };
+    let need = second::write::canonical(&set.header, &set.texts, &set.areas.view()).len();
+    let length = match rng.below(8) {
+        0 => rng.below(need + 1),
+        1 => need.saturating_sub(1),
+        2 => 0,
+        3 => need,
+        _ => need + rng.below(100),
+    };
+    let filler = rng.word() as u8;
+    Job::Write {
+        set: Box::new(set),
+        out: vec![filler; length],
+        known,
+    }
+}
+
+fn ask_job(rng: &mut Rng, set: &MapSet, damaged: bool) -> Job {
+    let question = damage::question(rng, set);
+    let mut set = if rng.once_in(4) {
+        with_tails(rng, set)
+    } else {
+        set.clone()
+    };
+    damage::holes(rng, &mut set);
+    let known = if damaged {
+        // Asking looks at less than writing, so nothing is certain.
+        damage::map_set(rng, &mut set);
+        Known::Open
+    } else {
+        Known::Valid
+    };
+    Job::Ask {
+        set: Box::new(set),
+        question,
+        known,
+    }
+}
+
+fn move_job(rng: &mut Rng) -> Job {
+    let end = second::calendar::END;
+    let epoch = match rng.below(6) {
+        0 => rng.pick(&[0, end - 1, end, u64::MAX, i64::MAX as u64]),
+        1 => end + rng.below(100) as u64,
+        _ => rng.range(0, end as i64 - 1) as u64,
+    };
+    let by = match rng.below(6) {
+        0 => rng.pick(&[0, 1, -1, i64::MIN, i64::MAX]),
+        1 => (epoch as i64)
+            .wrapping_neg()
+            .wrapping_add(rng.pick(&[0, -1, 1])),
+        2 => (end as i64).wrapping_sub(epoch as i64) - rng.pick(&[0, 1, 2]),
+        _ => rng.range(-(end as i64), end as i64),
+    };
+    Job::Move { epoch, by }
+}

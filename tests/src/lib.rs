@@ -1,0 +1,12 @@
+//! Seeded texts, map sets and questions, run against one library or two.
+
+pub mod check;
+pub mod damage;
+pub mod faults;
+pub mod gen;
+pub mod jobs;
+pub mod library;
+pub mod oracle;
+pub mod rng;
+pub mod run;
+pub mod set;

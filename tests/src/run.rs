@@ -1,0 +1,134 @@
+//! A job given to a library, and everything that comes back.
+
+use crate::jobs::Job;
+use crate::library::Library;
+use crate::set::Buffers;
+use second::{Answer, Reading, Refusal};
+use std::panic::{catch_unwind, AssertUnwindSafe};
+
+#[derive(Clone, Debug, PartialEq, Eq)]
+#[allow(clippy::large_enum_variant)]
+pub enum Outcome {
+    Read {
+        answer: Reading,
+        /// All six areas afterwards, with their guard elements.
+        areas: Buffers,
+    },
+    Write {
+        answer: Result<usize, Refusal>,
+        /// The whole output afterwards.
+        out: Vec<u8>,
+    },
+    Ask(Result<Answer, Refusal>),
+    Move(Result<u64, Refusal>),
+    Panic,
+}
+
+impl Outcome {
+    /// The refusal, if it is one.
+    pub fn refusal(&self) -> Option<Refusal> {
+        match self {
+            Outcome::Read {
+                answer: Reading::Refused(refusal),
+                ..
+            } => Some(*refusal),
+            Outcome::Write { answer, .. } => answer.err(),
+            Outcome::Ask(answer) => answer.err(),
+            Outcome::Move(answer) => answer.err(),
+            _ => None,
+        }
+    }
+}
+
+pub fn run(library: &dyn Library, job: &Job) -> Outcome {
+    catch_unwind(AssertUnwindSafe(|| attempt(library, job))).unwrap_or(Outcome::Panic)
+}
+
+fn attempt(library: &dyn Library, job: &Job) -> Outcome {
+    match job {
+        Job::Read { text, lent, .. } => {
+            let mut areas = lent.clone();
+            let answer = library.read(text, &mut areas);
+            Outcome::Read { answer, areas }
+        }
+        Job::Write { set, out, .. } => {
+            let mut out = out.clone();
+            let answer = library.write(set, &mut out);
+            Outcome::Write { answer, out }
+        }
+        Job::Ask { set, question, .. } => Outcome::Ask(library.ask(set, question)),
+        Job::Move { epoch, by } => Outcome::Move(library.moved(*epoch, *by)),
+    }
+}
+
+/// The first thing in which two outcomes differ.
+pub fn difference(a: &Outcome, b: &Outcome) -> Option<String> {
+    match (a, b) {
+        (
+            Outcome::Read {
+                answer: first,
+                areas: left,
+            },
+            Outcome::Read {
+                answer: second,
+                areas: right,
+            },
+        ) => reading(first, second).or_else(|| areas(left, right)),
+        (
+            Outcome::Write {
+                answer: first,
+                out: left,
+            },
+            Outcome::Write {
+                answer: second,
+                out: right,
+            },
+        ) => unequal("answer of writing", first, second)
+            .or_else(|| (left != right).then(|| place("output", left, right))),
+        (Outcome::Ask(first), Outcome::Ask(second)) => unequal("value asked", first, second),
+        (Outcome::Move(first), Outcome::Move(second)) => unequal("moved epoch", first, second),
+        _ => Some(format!("one of the two failed: {a:?} {b:?}")),
+    }
+}
+
+fn unequal<T: PartialEq + std::fmt::Debug>(what: &str, a: &T, b: &T) -> Option<String> {
+    (a != b).then(|| format!("{what}: {a:?} and {b:?}"))
+}
+
+fn reading(a: &Reading, b: &Reading) -> Option<String> {
+    match (a, b) {
+        (
+            Reading::Accepted { header, texts },
+            Reading::Accepted {
+                header: other_header,
+                texts: other_texts,
+            },
+        ) => {
+            unequal("header", header, other_header).or_else(|| unequal("texts", texts, other_texts))
+        }
+        _ => unequal("answer of reading", a, b),
+    }
+}
+
+fn areas(a: &Buffers, b: &Buffers) -> Option<String> {
+    let found = [
+        (a.tec != b.tec).then(|| place("tec", &a.tec, &b.tec)),
+        (a.rms != b.rms).then(|| place("rms", &a.rms, &b.rms)),
+        (a.height != b.height).then(|| place("height", &a.height, &b.height)),
+        (a.exponents != b.exponents).then(|| place("exponents", &a.exponents, &b.exponents)),
+        (a.epochs != b.epochs).then(|| place("epochs", &a.epochs, &b.epochs)),
+        (a.marks != b.marks).then(|| place("marks", &a.marks, &b.marks)),
+    ];
+    found.into_iter().flatten().next()
+}
+
+/// The first place where two areas differ.
+fn place<T: PartialEq + std::fmt::Debug>(what: &str, a: &[T], b: &[T]) -> String {
+    if a.len() != b.len() {
+        return format!("{what}: lengths {} and {}", a.len(), b.len());
+    }
+    match (0..a.len()).find(|&k| a[k] != b[k]) {
+        Some(k) => format!("{what} at {k}: {:?} and {:?}", a[k], b[k]),
+        None => format!("{what}: no difference"),
+    }
+}

@@ -1,0 +1,135 @@
+//! The example files: each text gives the answer written beside it.
+
+use compare::set::Buffers;
+use second::program::canon;
+use second::{read, Axis, Header, Reading};
+use std::fs;
+use std::path::PathBuf;
+
+fn folder() -> PathBuf {
+    PathBuf::from(env!("CARGO_MANIFEST_DIR")).join("examples")
+}
+
+fn bytes(name: &str) -> Vec<u8> {
+    fs::read(folder().join(name)).unwrap()
+}
+
+#[test]
+fn answers_beside_the_texts() {
+    let mut names = Vec::new();
+    for entry in fs::read_dir(folder()).unwrap() {
+        let path = entry.unwrap().path();
+        if path.extension().is_some_and(|e| e == "expected") {
+            names.push(path.file_stem().unwrap().to_string_lossy().into_owned());
+        }
+    }
+    names.sort();
+    assert_eq!(names.len(), 14);
+    for name in names {
+        let text = bytes(&format!("{name}.inx"));
+        assert!(text.len() <= 32_768, "{name}");
+        let expected = bytes(&format!("{name}.expected"));
+        let found = canon(&text);
+        assert_eq!(
+            String::from_utf8_lossy(&found),
+            String::from_utf8_lossy(&expected),
+            "{name}"
+        );
+        if name.starts_with("accepted") {
+            assert_eq!(canon(&expected), expected, "{name}");
+        }
+    }
+}
+
+/// Reads an example of document 001 with areas of exactly the lengths needed.
+fn example(name: &str, lengths: [usize; 6]) -> (Header, Buffers) {
+    let mut areas = Buffers::filled(lengths, 1);
+    match read(&bytes(name), &mut areas.lent()) {
+        Reading::Accepted { header, texts } => {
+            assert_eq!(&texts.program, b"ionpgm v1.0         ");
+            assert_eq!(&texts.agency, b"aiub                ");
+            assert_eq!(&texts.date, b"29-jan-96 17:29     ");
+            assert_eq!(&texts.mapping, b"COSZ");
+            let observables = b"double-difference carrier phase";
+            assert_eq!(&texts.observables[..31], observables);
+            (header, areas)
+        }
+        Reading::Refused(refusal) => panic!("{name}: {refusal}"),
+    }
+}
+
+fn common(header: &Header, areas: &Buffers) {
+    let axis = |first, last, step| Axis { first, last, step };
+    assert_eq!(
+        (header.version, header.file_type, header.code),
+        (11, b'I', 4)
+    );
+    // 1995-10-15 00:00:00 is 3,022,704,000 s.
+    assert_eq!(header.first_epoch, 3_022_704_000);
+    assert_eq!(header.last_epoch, 3_022_704_000 + 86_400);
+    assert_eq!((header.interval, header.maps), (21_600, 5));
+    assert_eq!((header.cutoff, header.radius), (200, 63_710));
+    assert_eq!(header.latitudes, axis(850, -850, -50));
+    assert_eq!(header.longitudes, axis(0, 3550, 50));
+    assert_eq!((header.stations.stands, header.stations.count), (true, 80));
+    assert_eq!(
+        (header.satellites.stands, header.satellites.count),
+        (true, 24)
+    );
+    let epochs: Vec<u64> = (0..5).map(|k| 3_022_704_000 + 21_600 * k).collect();
+    assert_eq!(areas.epochs, epochs);
+}
+
+#[test]
+fn table_3() {
+    let values = 5 * 35 * 72;
+    let lengths = [values, values, values, 3 * 5 * 35, 5, 5];
+    let (header, areas) = example("001-table-3.inx", lengths);
+    common(&header, &areas);
+    assert_eq!(header.dimension, 2);
+    let heights = header.heights;
+    assert_eq!((heights.first, heights.last, heights.step), (4000, 4000, 0));
+    assert!(header.systems.iter().all(|s| !s.stands));
+    assert!(areas.tec.iter().all(|&v| v == 1000));
+    assert!(areas.rms.iter().all(|&v| v == 1000));
+    assert!(areas.height.iter().all(|&v| v == 0));
+    assert!(areas.exponents.iter().all(|&k| k == -1));
+    assert_eq!(areas.marks, [3; 5]);
+}
+
+#[test]
+fn table_4() {
+    let values = 5 * 13 * 35 * 72;
+    let lengths = [values, values, 0, 3 * 5 * 13 * 35, 5, 5];
+    let (header, areas) = example("001-table-4.inx", lengths);
+    common(&header, &areas);
+    assert_eq!(header.dimension, 3);
+    let heights = header.heights;
+    assert_eq!(
+        (heights.first, heights.last, heights.step),
+        (2000, 8000, 500)
+    );
+    for (k, system) in header.systems.iter().enumerate() {
+        let expected = if k == 0 {
+            (true, 80, 24)
+        } else {
+            (false, 0, 0)
+        };
+        let found = (system.stands, system.stations, system.satellites);
+        assert_eq!(found, expected);
+    }
+    assert!(areas.tec.iter().all(|&v| v == 1000));
+    assert!(areas.rms.iter().all(|&v| v == 1000));
+    // TEC and RMS: layer 200.0 under -3, the others under -2; no height maps.
+    for (k, &exponent) in areas.exponents.iter().enumerate() {
+        let kind = k / (5 * 13 * 35);
+        let layer = k / 35 % 13;
+        let expected = match (kind, layer) {
+            (2, _) => -1,
+            (_, 0) => -3,
+            _ => -2,
+        };
+        assert_eq!(exponent, expected);
+    }
+    assert_eq!(areas.marks, [1; 5]);
+}
