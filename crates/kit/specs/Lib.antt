@@ -4,3 +4,4 @@ pub mod Answer
 pub mod Range
 pub mod Integer
 pub mod Truth
+pub mod Lists

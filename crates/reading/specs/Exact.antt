@@ -9,6 +9,7 @@ use mathlib.Core.List.{List, [], _∷_, _++_}
 use lib.ListN.{length, getD, drop, replicate}
 use lib.IntN.{ℤ, pos, negsuc}
 use Rattle.kit.specs.Answer.{Answer, ok, refused, need, bind, get, pick, same, sames, All, need-yes, Yields, y-ok, y-no, yields, need-yields, get-yields, bind-yields, yields-map}
+use Rattle.kit.specs.Lists.{below}
 use Rattle.mapset.specs.Header.{VersionRules, Said, says}
 use Rattle.mapset.specs.MapSet.{MapSet}
 use Rattle.layout.specs.Records.{Vals}
@@ -20,7 +21,7 @@ use Rattle.reading.specs.Maps.{short}
 use Rattle.reading.specs.Head.{place, heading}
 use Rattle.reading.specs.Read.{nothing-yet, code-of, begin, read}
 use Rattle.reading.specs.LineLaws.{Carries, c-over, c-row, carries, clean, laid, ended, split-of, Sized, sized}
-use Rattle.reading.specs.RecordLaws.{below, rec-name, rec-fields, named-rec}
+use Rattle.reading.specs.RecordLaws.{rec-name, rec-fields, named-rec}
 use Rattle.reading.specs.MapLaws.{on-line-yields}
 use Rattle.reading.specs.SlotLaws.{unjoined, empty, fit-none}
 use Rattle.reading.specs.HeadLaws.{place-ok, heads, Headed, headed}

@@ -8,6 +8,7 @@ use native.Mathlib.Decide.{ℕ-discrete}
 use lib.ListN.{length, getD, set, drop, replicate, length-set}
 use lib.IntN.{ℤ, pos, negsuc, natAbs}
 use Rattle.kit.specs.Answer.{Answer, ok, refused, need, bind, amap, get, pick, same, sames, All, need-yes, pick-yes, pick-no, pick-elim, pick-yields, Yields, y-ok, y-no, yields, need-yields, get-yields, bind-yields, amap-yields, yields-map}
+use Rattle.kit.specs.Lists.{below}
 use Rattle.kit.specs.Range.{Natural}
 use Rattle.calendar.specs.DateLaws.{dated-below}
 use Rattle.mapset.specs.declared.Axis.{Axis}
@@ -25,7 +26,7 @@ use Rattle.reading.specs.Fields.{label, fields}
 use Rattle.reading.specs.Maps.{date, on-date, short, run}
 use Rattle.reading.specs.Head.{axis-of, meant, next, place, none?, Complete, made, made-texts, Turn, more, done, once, on-system, on-end, at-head, head-step, heading}
 use Rattle.reading.specs.LineLaws.{Carries, c-over, c-row, Sized}
-use Rattle.reading.specs.RecordLaws.{Known, known-head, known-heads, known-maps, below, rec-label, rec-name, rec-fields, named-rec, row-rec, label-head, AllWritten, rec-written}
+use Rattle.reading.specs.RecordLaws.{Known, known-head, known-heads, known-maps, rec-label, rec-name, rec-fields, named-rec, row-rec, label-head, AllWritten, rec-written}
 use Rattle.reading.specs.MapLaws.{on-date-of, on-date-yields, on-line-yields, not-negative, runs, Wrote, wrote-rows, written}
 use Rattle.reading.specs.SlotLaws.{Joined, taken, full, untaken, rest-none, FitAll, fit-set, made-says, texts-says, complete-says, says-made, made-filled, system-content}
 use Rattle.reading.specs.declared.Place.the-variants.{Between}
@@ -203,7 +204,7 @@ is-system mapping = 0
 is-system observables = 0
 is-system a-system = 1
 
-no-system : (i : ℕ) → i < 15 → ¬ (content i ≡ a-system)
+pub no-system : (i : ℕ) → i < 15 → ¬ (content i ≡ a-system)
 no-system i h q =
     let e : is-system (content i) ≡ 0 = below (λ i. is-system (content i) ≡ 0) 15 (refl, (refl, (refl, (refl, (refl, (refl, (refl, (refl, (refl, (refl, (refl, (refl, (refl, (refl, (refl, tt))))))))))))))) i h in
     omega (arith, ap is-system q)

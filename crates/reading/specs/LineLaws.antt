@@ -6,6 +6,7 @@ use mathlib.Core.List.{List, [], _∷_, _++_}
 use native.Mathlib.Decide.{ℕ-discrete, decLe}
 use lib.ListN.{length, replicate, length-append, length-replicate}
 use Rattle.kit.specs.Answer.{×-dec, pick, pick-yes, pick-no, pick-elim, All, all-dec}
+use Rattle.kit.specs.Lists.{all-append}
 use Rattle.kit.specs.Range.{Within, within?}
 use Rattle.fields.specs.Columns.{Blank}
 use Rattle.layout.specs.Text.{Ended, none, last, lf, crlf, Printable, Clean, pad, Laid, blank, line}
@@ -117,11 +118,7 @@ Sized (over n) = Unit {0}
 Sized (bad w) = Unit {0}
 Sized (row n r f) = ((length r ≡ 80) × Printable r) × Sized f
 
-all-append : {A : Type 0} (P : A → Type 0) (a b : List A) → All P a → All P b → All P (a ++ b)
-all-append P [] b p q = q
-all-append P (x ∷ a) b p q = (p .0, all-append P a b (p .1) q)
-
-spaces : (n : ℕ) → Printable (replicate n 32)
+pub spaces : (n : ℕ) → Printable (replicate n 32)
 spaces zero = tt
 spaces (suc n) = ((omega arith, omega arith), spaces n)
 

@@ -9,7 +9,8 @@ use lib.ListN.{length, replicate, take, drop, getD, length-append, length-replic
 use lib.Seq.{take-at, drop-at, length-take-le}
 use lib.IntN.{ℤ}
 use Rattle.kit.specs.Answer.{Answer, ok, refused, need, amap, pick, same, sames, all-dec, ×-dec, All, need-yes, pick-elim, Yields, y-ok, y-no, yields, need-yields, amap-yields, yields-map}
-use Rattle.kit.specs.Range.{Within}
+use Rattle.kit.specs.Lists.{below, all-front, all-behind}
+use Rattle.kit.specs.Truth.{decided}
 use Rattle.fields.specs.Form as form
 use Rattle.fields.specs.Form.{Form, Spells}
 use Rattle.fields.specs.Read.{readField}
@@ -28,11 +29,11 @@ use Rattle.reading.specs.Fields.{lookup, label, number, blank, scan, fie
 
 -- ---- blanks
 
-blank-spaces : (n : ℕ) → All Blank (replicate n 32)
+pub blank-spaces : (n : ℕ) → All Blank (replicate n 32)
 blank-spaces zero = tt
 blank-spaces (suc n) = (refl, blank-spaces n)
 
-spaces-blank : (l : List ℕ) → All Blank l → l ≡ replicate (length l) 32
+pub spaces-blank : (l : List ℕ) → All Blank l → l ≡ replicate (length l) 32
 spaces-blank [] a = refl
 spaces-blank (b ∷ l) a = λ i. a .0 i ∷ spaces-blank l (a .1) i
 
@@ -74,7 +75,7 @@ size (X w ∷ is) = w + size is
 size (A w ∷ is) = w + size is
 size (U w ∷ is) = w + size is
 
-length-fields : {is : List Item} {vs : Vals is} {bs : List ℕ} → Fields is vs bs → length bs ≡ size is
+pub length-fields : {is : List Item} {vs : Vals is} {bs : List ℕ} → Fields is vs bs → length bs ≡ size is
 unfolding size
 length-fields f-end = refl
 length-fields (f-int bs {rest = rest} s h) = let i = length-fields h in let e = spells-width s in simp length-append (omega arith)
@@ -135,7 +136,7 @@ size-items mapping = refl
 size-items observables = refl
 size-items a-system = refl
 
-size-layout : (l : Label) → size (layout l) ≡ 60
+pub size-layout : (l : Label) → size (layout l) ≡ 60
 unfolding size
 size-layout version = refl
 size-layout description = refl
@@ -157,19 +158,6 @@ size-layout file-end = refl
 -- the label is found by its name
 abbrev pub Known : Label → Type 0
 Known l = lookup (name l) labels ≡ some l
-
--- of each number below n
-abbrev pub Upto : (ℕ → Type 0) → ℕ → Type 0
-Upto P zero = Unit {0}
-Upto P (suc n) = P n × Upto P n
-
-pub below : (P : ℕ → Type 0) (n : ℕ) → Upto P n → (i : ℕ) → i < n → P i
-below P zero u i h = absurd (omega arith)
-below P (suc n) u i h = by (ℕ-discrete i n) (below P n (u .1) i)
-  where
-    by : Dec (i ≡ n) → (i < n → P i) → P i
-    by (yes e) f = rw e (u .0)
-    by (no k) f = f (omega arith)
 
 pub known-head : (i : ℕ) → i < 15 → Known (head i)
 unfolding lookup name pick same sames ℕ-discrete
@@ -195,7 +183,7 @@ pub known-heads : Known description × Known system × Known aux-start × Known 
 unfolding lookup name pick same sames ℕ-discrete
 known-heads = (refl, refl, refl, refl)
 
-lookup-all : (P : Label → Type 0) (s : List ℕ) (ls : List Label) (l : Label) → All P ls → lookup s ls ≡ some l → P l
+pub lookup-all : (P : Label → Type 0) (s : List ℕ) (ls : List Label) (l : Label) → All P ls → lookup s ls ≡ some l → P l
 unfolding lookup
 lookup-all P s [] l a e = let z : _≡_ {A = ℕ} 0 1 = cc in absurd (omega arith)
 lookup-all P s (x ∷ ls) l a e =
@@ -234,17 +222,9 @@ few? epoch = yes tt
 few? block = yes tt
 few? file-end = yes tt
 
-abbrev From : {P : Type 0} → Dec P → Type 0
-From {P} (yes p) = P
-From {P} (no n) = Unit {0}
-
-from : {P : Type 0} (d : Dec P) → From d
-from (yes p) = p
-from (no n) = tt
-
 pub label-head : (r : List ℕ) (i : ℕ) → label r ≡ some (head i) → i < 15
 unfolding label few? all-dec decLt ×-dec
-label-head r i e = lookup-all Few (drop 60 r) labels (head i) (from (all-dec few? labels)) e
+label-head r i e = lookup-all Few (drop 60 r) labels (head i) (decided (all-dec few? labels)) e
 
 lookup-ok : (s : List ℕ) (ls : List Label) (l : Label) → lookup s ls ≡ some l → s ≡ name l
 unfolding lookup
@@ -287,14 +267,6 @@ AllWritten (F w ∷ is) vs = AllWritten is (vs .1)
 AllWritten (X w ∷ is) vs = AllWritten is vs
 AllWritten (A w ∷ is) vs = Written w (vs .0) × AllWritten is (vs .1)
 AllWritten (U w ∷ is) vs = AllWritten is vs
-
-all-front : {A : Type 0} (P : A → Type 0) (a b : List A) → All P (a ++ b) → All P a
-all-front P [] b p = tt
-all-front P (x ∷ a) b p = (p .0, all-front P a b (p .1))
-
-all-behind : {A : Type 0} (P : A → Type 0) (a b : List A) → All P (a ++ b) → All P b
-all-behind P [] b p = p
-all-behind P (x ∷ a) b p = all-behind P a b (p .1)
 
 fields-written : {is : List Item} {vs : Vals is} {bs : List ℕ} → Fields is vs bs → Printable bs → AllWritten is vs
 fields-written f-end p = tt

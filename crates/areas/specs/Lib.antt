@@ -1,0 +1,14 @@
+-- The lent areas of a map set.
+pub mod Lists
+-- what comes back
+pub mod Flat
+pub mod Exact
+pub mod Formed
+-- the second scan
+pub mod Events
+pub mod Stores
+pub mod Scan
+-- what may be written
+pub mod Nest
+pub mod Valid
+pub mod ValidDecided

@@ -1,0 +1,9 @@
+-- Canonical text.
+pub mod Canon
+pub mod RowLaws
+pub mod TextLaws
+pub mod RoomLaws
+pub mod HeadRows
+pub mod MapRows
+pub mod Made
+pub mod Exact
