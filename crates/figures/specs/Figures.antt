@@ -2,7 +2,8 @@
 use mathlib.Core.Path.{_≡_, refl, ap}
 use mathlib.Core.Bool.{Bool, true, false, _&&_}
 use mathlib.Core.List.{List, [], _∷_}
-use Prim.Native.Nat.{ℕ, _≤_}
+use mathlib.Core.Option.{some}
+use Prim.Native.Nat.{ℕ, _*_, _≤_}
 use native.Mathlib.Omega.{arith}
 use native.Mathlib.Decide.{ℕ-discrete, decLe}
 use lib.Dec.{T, eqb, leb, eqb→eq, leb→le}
@@ -33,6 +34,9 @@ use Rattle.reading.specs.Maps.{short}
 use Rattle.reading.specs.Read.{begin, read}
 use Rattle.reading.specs.RecordLaws.{cells-yields}
 use Rattle.reading.specs.Exact.{refused-unmade}
+use Rattle.asker.specs.Round.{rounded}
+use Rattle.asker.specs.RoundLaws.{round-nearest}
+use Rattle.asker.specs.Value.{thousandths, Term, weighted, weight, Mean}
 
 -- a row of the table
 pub data Figure : Type 0 where
@@ -45,6 +49,15 @@ pub data Figure : Type 0 where
   -- the text rules make the line from these values of a row of nodes; make the text from no map set
   is-line : List ℕ → List ℤ → Figure
   no-text : List ℕ → Figure
+  -- nodes with their weights, numbers and exponents have the mean, in thousandths, rounded once
+  is-mean : List (ℕ × (ℤ × ℤ)) → ℤ → Figure
+
+-- p = q = 1/2 in a cell of 1 by 1 degree, and halfway between two nodes
+abbrev pub quarter : ℤ → ℤ → ℕ × (ℤ × ℤ)
+quarter v k = (50 * 50, (v, k))
+
+abbrev pub half : ℤ → ℤ → ℕ × (ℤ × ℤ)
+half v k = (50 * 100, (v, k))
 
 pub table : List Figure
 table =
@@ -59,11 +72,18 @@ table =
     ∷ no-number (bytes "   5 ")
     ∷ is-line (bytes "  100 9999   -5") (pos 100 ∷ pos 9999 ∷ negsuc 4 ∷ [])
     ∷ no-text []
+    ∷ is-mean (quarter (pos 100) (negsuc 0) ∷ quarter (pos 200) (negsuc 0) ∷ quarter (pos 300) (negsuc 0) ∷ quarter (pos 400) (negsuc 0) ∷ []) (pos 25000)
+    ∷ is-mean (half (pos 0) (negsuc 2) ∷ half (pos 1) (negsuc 2) ∷ []) (pos 1)
+    ∷ is-mean (half (pos 0) (negsuc 2) ∷ half (negsuc 0) (negsuc 2) ∷ []) (negsuc 0)
     ∷ []
 
 -- what a row says
 abbrev pub Midnight : ℕ → ℕ → ℕ → ℕ → Type 0
 Midnight y m d t = Dated (pos y) (pos m) (pos d) (pos 0) (pos 0) (pos 0) t
+
+abbrev pub nodes : List (ℕ × (ℤ × ℤ)) → List Term
+nodes [] = []
+nodes (n ∷ ns) = (n .0, some (thousandths (n .1 .0) (n .1 .1))) ∷ nodes ns
 
 abbrev pub Right : Figure → Type 0
 Right (is-second y m d t) = Midnight y m d t
@@ -73,6 +93,7 @@ Right (is-number f z) = Spells I 5 z f
 Right (no-number f) = (z : ℤ) → ¬ Spells I 5 z f
 Right (is-line l zs) = ValueRows zs (pad l ∷ [])
 Right (no-text t) = (m : MapSet) → ¬ Makes m t
+Right (is-mean ns v) = Mean (nodes ns) v
 
 -- ---- the proof: each row by a test that is computed
 
@@ -115,6 +136,7 @@ test (is-number f z) = eqb (length f) 5 && is-field z (readField I f)
 test (no-number f) = is-bad (readField I f)
 test (is-line l zs) = leb 1 (length zs) && (leb (length zs) 16 && (eqb (length (pad l)) 80 && is-row zs (cells 1 (length zs) (pad l))))
 test (no-text t) = is-refused (read t)
+test (is-mean ns v) = leb 1 (weight (nodes ns)) && truth (int? (rounded (weighted (nodes ns)) (weight (nodes ns))) v)
 
 both : (a b : Bool) → T (a && b) → T a × T b
 both true b t = (tt, t)
@@ -163,6 +185,10 @@ sound (no-text t) h = by (read t) refl h
     by : (x : Answer Why MapSet) → read t ≡ x → T (is-refused x) → (m : MapSet) → ¬ Makes m t
     by (ok m) e h = absurd h
     by (refused w) e h = refused-unmade t e
+sound (is-mean ns v) h =
+    let b = both (leb 1 (weight (nodes ns))) _ h in
+    rw (truth-ok (int? (rounded (weighted (nodes ns)) (weight (nodes ns))) v) (b .1)) at
+    (round-nearest (weighted (nodes ns)) (weight (nodes ns)) (leb→le 1 (weight (nodes ns)) (b .0)))
 
 abbrev every : List Figure → Bool
 every [] = true
@@ -173,5 +199,5 @@ all-right [] h = tt
 all-right (f ∷ fs) h = let b = both (test f) (every fs) h in (sound f (b .0), all-right fs (b .1))
 
 pub figures : All Right table
-unfolding table truth dated second sum yearDays monthDays isLeap natural? within? readField numberOf formed? pick ×-dec all-dec same sames decLe ℕ-discrete int? cells number blank pad need amap read begin feed split short
+unfolding table truth dated second sum yearDays monthDays isLeap natural? within? readField numberOf formed? pick ×-dec all-dec same sames decLe ℕ-discrete int? cells number blank pad need amap read begin feed split short weight weighted rounded
 figures = all-right table tt

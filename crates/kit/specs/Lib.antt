@@ -1,5 +1,6 @@
 -- The root of the definitions.
 pub mod Parts
+pub mod Order
 pub mod Answer
 pub mod Range
 pub mod Integer

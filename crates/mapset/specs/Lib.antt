@@ -3,3 +3,7 @@ pub mod Header
 pub mod MapSet
 pub mod Areas
 pub mod Decisions
+pub mod Judged
+pub mod JudgedLaws
+pub mod Sound
+pub mod SoundLaws

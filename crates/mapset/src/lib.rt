@@ -1,6 +1,9 @@
 // The map set's header record, as document 01 lists it: each field looked at, and which starred records stand.
 // The field of a starred record that does not stand holds 0.
 
+pub mod axes;
+pub mod soundness;
+
 // The version record: version in tenths, type, and the code's place in 01's list.
 pub struct Version {
     pub tenths: u32,

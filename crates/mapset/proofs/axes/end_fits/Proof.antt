@@ -1,0 +1,53 @@
+use borrow.Author.Needs.{needs}
+use mathlib.Core.Path.{_≡_, refl, _∙_}
+use mir.Facts.{toZ-ofZ}
+use Rattle.mapset.specs.Decisions.{end?}
+use Rattle.mapset.proofs.axes.end_fits.Statement.{statement}
+use Rattle.mapset.proofs.axes.end_fits.Tie as tie
+use Rattle.mapset.proofs.axes.end_fits.Reads as reads
+use Rattle.mapset.proofs.axes.end_fits.Lts as lts
+use Rattle.mapset.proofs.axes.between.Reads as between-reads
+
+enum-told : tie.Need-enum-told
+enum-told c = search needs
+
+between-requires : tie.Need-between-requires
+between-requires c κs = search needs
+
+enum-told-2 : tie.Need-enum-told-2
+enum-told-2 c = search needs
+
+between-requires-2 : tie.Need-between-requires-2
+between-requires-2 c κs = search needs
+
+enum-told-3 : tie.Need-enum-told-3
+enum-told-3 c = search needs
+
+between-requires-3 : tie.Need-between-requires-3
+between-requires-3 c κs = search needs
+
+returns : tie.Need-returns
+unfolding end?
+returns c = rw (c .before .enum-told .given .1, c .between .ensures, toZ-ofZ (c .before .before .before .fits .x)) refl
+
+returns-2 : tie.Need-returns-2
+unfolding end?
+returns-2 c = rw (c .before .enum-told2 .given .1, c .between2 .ensures, toZ-ofZ (c .before .before .before .fits .x)) refl
+
+returns-3 : tie.Need-returns-3
+unfolding end?
+returns-3 c = rw (c .before .enum-told3 .given .1, c .between3 .ensures, toZ-ofZ (c .before .before .before .fits .x)) refl
+
+pub end-fits-spec : {M : Type 1} → statement M
+end-fits-spec =
+    tie.close
+    (tie.spec
+    enum-told
+    between-requires
+    enum-told-2
+    between-requires-2
+    enum-told-3
+    between-requires-3
+    returns
+    returns-2
+    returns-3)

@@ -1,0 +1,181 @@
+-- Header, area lengths, epochs and marks judged: the rules of Header and Areas in the groups in which code looks at them, as decisions.
+use mathlib.Core.Path.{_≡_}
+use mathlib.Core.Bool.{Bool, true, false}
+use mathlib.Core.Logic.{_⊎_}
+use mathlib.Core.List.{List, [], _∷_}
+use Prim.Native.Nat.{ℕ, _+_, _*_, _≤_, _<_}
+use native.Mathlib.Decide.{ℕ-discrete, decLe, decLt}
+use lib.ListN.{length, take}
+use lib.IntN.{ℤ}
+use Rattle.kit.specs.Answer.{All, all-dec, ×-dec, ⊎-dec, ¬-dec}
+use Rattle.kit.specs.Range.{Within, within?}
+use Rattle.kit.specs.Truth.{dec-by}
+use Rattle.calendar.specs.Calendar.{end}
+use Rattle.mapset.specs.Grid.{Line, heights, latitudes, longitudes, AxisRules, Limits}
+use Rattle.mapset.specs.Header.{Written, Dimension}
+use Rattle.mapset.specs.Areas.{Areas, blocks, values, value-need, Follows, Run}
+use Rattle.mapset.specs.declared.Kind.the-variants as K
+use Rattle.mapset.specs.Decisions.{end?, step?, together?, dimension?, limits?, follows?}
+use Rattle.mapset.specs.declared.Axis.{Axis}
+use Rattle.mapset.specs.declared.Grid.{Grid}
+use Rattle.mapset.specs.declared.Version.{Version}
+use Rattle.mapset.specs.declared.Times.{Times}
+use Rattle.mapset.specs.declared.Model.{Model}
+use Rattle.mapset.specs.declared.System.{System}
+use Rattle.mapset.specs.declared.Systems.{Systems}
+use Rattle.mapset.specs.declared.Header.{Header}
+use Rattle.mapset.specs.declared.Texts.{Texts}
+use Rattle.mapset.specs.declared.soundness.Lengths.{Lengths}
+
+-- ---- the groups of a header
+
+abbrev pub VersionSays : Version → Type 0
+VersionSays v = (v .tenths ≡ 11) × ((v .kind ≡ 73) × (v .code < 9))
+
+-- the bytes of a text field
+abbrev pub Printable : List ℕ → Type 0
+Printable t = All (Within 32 126) t
+
+abbrev pub TextsSay : Texts → Type 0
+TextsSay t = Written 20 (t .program) × (Written 20 (t .agency) × (Written 20 (t .date) × (Written 4 (t .mapping) × Written 60 (t .observables))))
+
+abbrev pub TimesSay : Times → Type 0
+TimesSay t = (t .first < end) × ((t .last < end) × (Within 0 21600 (t .interval) × Within 1 300 (t .maps)))
+
+abbrev pub ModelSays : Model → Type 0
+ModelSays m = Within 0 900 (m .cutoff) × (Within 10000 999999 (m .radius) × Within 2 3 (m .dimension))
+
+abbrev pub GridSays : Grid → Type 0
+GridSays g = AxisRules heights (g .heights) × (AxisRules latitudes (g .latitudes) × AxisRules longitudes (g .longitudes))
+
+-- a count of a starred record: in its range where the record stands, 0 where it does not
+abbrev pub Count : Bool → ℕ → Type 0
+Count true n = Within 0 999999 n
+Count false n = n ≡ 0
+
+abbrev pub SystemSays : System → Type 0
+SystemSays s = Count (s .stands) (s .stations) × Count (s .stands) (s .satellites)
+
+abbrev pub SystemsSay : Systems → Type 0
+SystemsSay s = SystemSays (s .g) × (SystemSays (s .r) × (SystemSays (s .e) × (SystemSays (s .c) × (SystemSays (s .j) × (SystemSays (s .i) × SystemSays (s .s))))))
+
+abbrev pub HeaderSays : Header → Texts → Type 0
+HeaderSays h t =
+    VersionSays (h .version) × (TextsSay t × (TimesSay (h .times) × (ModelSays (h .model) × (GridSays (h .grid)
+    × (Count (h .stations .stands) (h .stations .count) × (Count (h .satellites .stands) (h .satellites .count)
+    × (SystemsSay (h .systems) × (Dimension (h .model .dimension) (h .grid .heights) × Limits (h .times .maps) (h .grid)))))))))
+
+-- ---- the same as decisions
+unfoldable pub version? : (v : Version) → Dec (VersionSays v)
+version? v = ×-dec (ℕ-discrete (v .tenths) 11) (×-dec (ℕ-discrete (v .kind) 73) (decLt (v .code) 9))
+
+unfoldable pub printable? : (t : List ℕ) → Dec (Printable t)
+printable? t = all-dec (within? 32 126) t
+
+unfoldable pub written? : (w : ℕ) (t : List ℕ) → Dec (Written w t)
+written? w t = ×-dec (ℕ-discrete (length t) w) (printable? t)
+
+unfoldable pub texts? : (t : Texts) → Dec (TextsSay t)
+texts? t =
+    ×-dec (written? 20 (t .program)) (×-dec (written? 20 (t .agency)) (×-dec (written? 20 (t .date)) (×-dec (written? 4 (t .mapping)) (written? 60 (t .observables)))))
+
+unfoldable pub times? : (t : Times) → Dec (TimesSay t)
+times? t = ×-dec (decLt (t .first) end) (×-dec (decLt (t .last) end) (×-dec (within? 0 21600 (t .interval)) (within? 1 300 (t .maps))))
+
+unfoldable pub model? : (m : Model) → Dec (ModelSays m)
+model? m = ×-dec (within? 0 900 (m .cutoff)) (×-dec (within? 10000 999999 (m .radius)) (within? 2 3 (m .dimension)))
+
+unfoldable pub axis? : (l : Line) (a : Axis) → Dec (AxisRules l a)
+unfolding dec-by ×-dec
+axis? l a =
+    dec-by (λ h. record { first = h .0; last = h .1 .0; step = h .1 .1 .0; together = h .1 .1 .1 }) (λ r. (r .first, (r .last, (r .step, r .together))))
+    (×-dec (end? l (a .first)) (×-dec (end? l (a .last)) (×-dec (step? l (a .step)) (together? l a))))
+
+unfoldable pub grid? : (g : Grid) → Dec (GridSays g)
+grid? g = ×-dec (axis? heights (g .heights)) (×-dec (axis? latitudes (g .latitudes)) (axis? longitudes (g .longitudes)))
+
+unfoldable pub count? : (b : Bool) (n : ℕ) → Dec (Count b n)
+count? true n = within? 0 999999 n
+count? false n = ℕ-discrete n 0
+
+unfoldable pub system? : (s : System) → Dec (SystemSays s)
+system? s = ×-dec (count? (s .stands) (s .stations)) (count? (s .stands) (s .satellites))
+
+unfoldable pub systems? : (s : Systems) → Dec (SystemsSay s)
+systems? s =
+    ×-dec (system? (s .g)) (×-dec (system? (s .r)) (×-dec (system? (s .e)) (×-dec (system? (s .c)) (×-dec (system? (s .j)) (×-dec (system? (s .i)) (system? (s .s)))))))
+
+unfoldable pub header? : (h : Header) (t : Texts) → Dec (HeaderSays h t)
+header? h t =
+    ×-dec (version? (h .version)) (×-dec (texts? t) (×-dec (times? (h .times)) (×-dec (model? (h .model)) (×-dec (grid? (h .grid))
+    (×-dec (count? (h .stations .stands) (h .stations .count)) (×-dec (count? (h .satellites .stands) (h .satellites .count))
+    (×-dec (systems? (h .systems)) (×-dec (dimension? (h .model .dimension) (h .grid .heights)) (limits? (h .times .maps) (h .grid))))))))))
+
+-- ---- epochs
+
+-- the epochs of a header's maps; its own times are all that is looked at
+abbrev pub Runs : ℕ → ℕ → List ℕ → Type 0
+Runs interval last [] = ⊥
+Runs interval last (e ∷ es) = Run interval last e es
+
+abbrev pub StartsAt : ℕ → List ℕ → Type 0
+StartsAt first [] = ⊥
+StartsAt first (e ∷ es) = e ≡ first
+
+abbrev pub EpochsSay : Times → List ℕ → Type 0
+EpochsSay t es = StartsAt (t .first) es × Runs (t .interval) (t .last) es
+
+unfoldable pub run? : (interval last e : ℕ) (es : List ℕ) → Dec (Run interval last e es)
+run? interval last e [] = ℕ-discrete e last
+run? interval last e (f ∷ es) = ×-dec (follows? interval e f) (run? interval last f es)
+
+unfoldable pub runs? : (interval last : ℕ) (es : List ℕ) → Dec (Runs interval last es)
+runs? interval last [] = no (λ e. e)
+runs? interval last (e ∷ es) = run? interval last e es
+
+unfoldable pub starts? : (first : ℕ) (es : List ℕ) → Dec (StartsAt first es)
+starts? first [] = no (λ e. e)
+starts? first (e ∷ es) = ℕ-discrete e first
+
+unfoldable pub epochs? : (t : Times) (es : List ℕ) → Dec (EpochsSay t es)
+epochs? t es = ×-dec (starts? (t .first) es) (runs? (t .interval) (t .last) es)
+
+-- ---- marks
+unfoldable pub marks? : (ms : List ℕ) → Dec (All (Within 0 3) ms)
+marks? ms = all-dec (within? 0 3) ms
+
+-- no mark is m or 3
+abbrev pub Without : ℕ → List ℕ → Type 0
+Without m ms = All (λ k. ¬ ((k ≡ m) ⊎ (k ≡ 3))) ms
+
+unfoldable pub without? : (m : ℕ) (ms : List ℕ) → Dec (Without m ms)
+without? m ms = all-dec (λ k. ¬-dec (⊎-dec (ℕ-discrete k m) (ℕ-discrete k 3))) ms
+
+-- ---- lengths
+abbrev pub LengthsSay : Header → List ℕ → Lengths → Type 0
+LengthsSay h ms l =
+    (values h ≤ l .tec) × ((value-need K.Rms h ms ≤ l .rms) × ((value-need K.Height h ms ≤ l .height) × (3 * blocks h ≤ l .exponents)))
+
+unfoldable pub lengths? : (h : Header) (ms : List ℕ) (l : Lengths) → Dec (LengthsSay h ms l)
+lengths? h ms l =
+    ×-dec (decLe (values h) (l .tec)) (×-dec (decLe (value-need K.Rms h ms) (l .rms)) (×-dec (decLe (value-need K.Height h ms) (l .height)) (decLe (3 * blocks h) (l .exponents))))
+
+-- ---- all of it
+abbrev pub areas : List ℤ → List ℤ → List ℤ → List ℤ → List ℕ → List ℕ → Areas
+areas tec rms height exponents epochs marks =
+    record { tec = tec; rms = rms; height = height; exponents = exponents; epochs = epochs; marks = marks }
+
+abbrev pub lengths : Areas → Lengths
+lengths a = record { tec = length (a .tec); rms = length (a .rms); height = length (a .height); exponents = length (a .exponents) }
+
+abbrev pub SoundSays : Header → Texts → Areas → Type 0
+SoundSays h t a =
+    HeaderSays h t × ((h .times .maps ≤ length (a .epochs)) × ((h .times .maps ≤ length (a .marks))
+    × (EpochsSay (h .times) (take (h .times .maps) (a .epochs)) × (All (Within 0 3) (take (h .times .maps) (a .marks))
+    × LengthsSay h (take (h .times .maps) (a .marks)) (lengths a)))))
+
+unfoldable pub sound-says? : (h : Header) (t : Texts) (a : Areas) → Dec (SoundSays h t a)
+sound-says? h t a =
+    ×-dec (header? h t) (×-dec (decLe (h .times .maps) (length (a .epochs))) (×-dec (decLe (h .times .maps) (length (a .marks)))
+    (×-dec (epochs? (h .times) (take (h .times .maps) (a .epochs))) (×-dec (marks? (take (h .times .maps) (a .marks)))
+    (lengths? h (take (h .times .maps) (a .marks)) (lengths a))))))

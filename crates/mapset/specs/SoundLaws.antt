@@ -1,0 +1,275 @@
+-- The groups of Sound hold exactly when `Sound` of Areas holds.
+use mathlib.Core.Path.{_≡_, refl, sym, _∙_}
+use mathlib.Core.Bool.{Bool, true, false}
+use mathlib.Core.List.{List, [], _∷_}
+use mathlib.Core.Option.{Option, some}
+use Prim.Native.Nat.{ℕ, suc, _+_, _*_, _≤_, _<_}
+use native.Mathlib.Nat.{mul-assoc, mul-le-mul-left}
+use native.Mathlib.Omega.{arith}
+use native.Mathlib.Numerals.{add-one}
+use borrow.Author.Tests.{eqb-true, eqb-false}
+use lib.Dec.{eqb}
+use lib.ListN.{length, take, drop, getD, drop-of-length-le}
+use lib.Seq.{drop-cons}
+use Rattle.kit.specs.Answer.{All, all-dec, pick}
+use Rattle.kit.specs.Range.{Within, within?}
+use Rattle.kit.specs.Truth.{truth, holds, fails, tells, truth-same, eq-tells, dec-by}
+use Rattle.calendar.specs.Calendar.{end}
+use Rattle.mapset.specs.Grid.{Line, AxisRules, Limits, nodes, layers, rows, columns}
+use Rattle.mapset.specs.Header.{Content, count, tenths, epoch, axis, program, mapping, observables, system, Said, number, along, words, counts, Written, Accepts, a-count, a-tenths, a-epoch, a-axis, a-program, a-mapping, a-observables, a-system, if-stands, Filled, Stand, stand-end, stand-some, stand-none, HeaderRules}
+use Rattle.mapset.specs.declared.Kind.the-variants as K
+use Rattle.mapset.specs.Areas.{Areas, present?, nowhere?, values, value-need, Follows, EpochRules, Sound}
+use Rattle.mapset.specs.Judged.{judged}
+use Rattle.mapset.specs.JudgedLaws.{fine, rules}
+use Rattle.mapset.specs.Sound.{Count, HeaderSays, StartsAt, EpochsSay, SoundSays, printable?, written?, axis?, runs?, starts?, without?, sound-says?}
+use Rattle.mapset.specs.declared.Axis.{Axis}
+use Rattle.mapset.specs.declared.Grid.{Grid}
+use Rattle.mapset.specs.declared.Header.{Header}
+use Rattle.mapset.specs.declared.Texts.{Texts}
+use Rattle.mapset.specs.declared.axes.Judged.{Judged}
+use Rattle.mapset.specs.declared.axes.Judged.the-variants as J
+
+-- ---- what a record's content accepts, one law for each content
+took-count : {low high n : ℕ} → Accepts (count low high) (number n) → Within low high n
+took-count (a-count w) = w
+
+took-tenths : {low high n : ℕ} → Accepts (tenths low high) (number n) → Within low high n
+took-tenths (a-tenths w) = w
+
+took-epoch : {n : ℕ} → Accepts epoch (number n) → n < end
+took-epoch (a-epoch h) = h
+
+took-axis : {l : Line} {a : Axis} → Accepts (axis l) (along a) → AxisRules l a
+took-axis (a-axis r) = r
+
+took-program : {a b c : List ℕ} → Accepts program (words (a ∷ b ∷ c ∷ [])) → Written 20 a × (Written 20 b × Written 20 c)
+took-program (a-program p q r) = (p, (q, r))
+
+took-mapping : {a : List ℕ} → Accepts mapping (words (a ∷ [])) → Written 4 a
+took-mapping (a-mapping p) = p
+
+took-observables : {a : List ℕ} → Accepts observables (words (a ∷ [])) → Written 60 a
+took-observables (a-observables p) = p
+
+took-system : {a b : ℕ} → Accepts system (counts a b) → Within 0 999999 a × Within 0 999999 b
+took-system (a-system p q) = (p, q)
+
+-- ---- a record taken off the list, and put on it
+here : {k : Content} {ks : List Content} {s : Said} {ss : List (Option Said)} → Stand (k ∷ ks) (some s ∷ ss) → Accepts k s × Stand ks ss
+here (stand-some a r) = (a, r)
+
+filled : (b : Bool) (n : ℕ) → Count b n → Filled b n
+filled true n c = tt
+filled false n c = c
+
+module _ {ks : List Content} {ss : List (Option Said)} where
+  count-off : (b : Bool) (n : ℕ) → Stand (count 0 999999 ∷ ks) (if-stands b (number n) ∷ ss) → Filled b n → Count b n × Stand ks ss
+  count-off true n (stand-some a r) f = (took-count a, r)
+  count-off false n (stand-none r) f = (f, r)
+
+  count-on : (b : Bool) (n : ℕ) → Count b n → Stand ks ss → Stand (count 0 999999 ∷ ks) (if-stands b (number n) ∷ ss)
+  count-on true n c r = stand-some (a-count c) r
+  count-on false n c r = stand-none r
+
+  system-off : (b : Bool) (m n : ℕ) → Stand (system ∷ ks) (if-stands b (counts m n) ∷ ss) → Filled b m × Filled b n → (Count b m × Count b n) × Stand ks ss
+  system-off true m n (stand-some a r) f = (took-system a, r)
+  system-off false m n (stand-none r) f = (f, r)
+
+  system-on : (b : Bool) (m n : ℕ) → Count b m × Count b n → Stand ks ss → Stand (system ∷ ks) (if-stands b (counts m n) ∷ ss)
+  system-on true m n c r = stand-some (a-system (c .0) (c .1)) r
+  system-on false m n c r = stand-none r
+
+system-filled : (b : Bool) (m n : ℕ) → Count b m × Count b n → Filled b m × Filled b n
+system-filled b m n c = (filled b m (c .0), filled b n (c .1))
+
+-- ---- the header
+pub header-groups : (h : Header) (t : Texts) → HeaderRules h t → HeaderSays h t
+header-groups h t r =
+    let f = r .fillers in
+    let pgm = here (r .records) in
+    let first = here (pgm .1) in
+    let last = here (first .1) in
+    let interval = here (last .1) in
+    let maps = here (interval .1) in
+    let map = here (maps .1) in
+    let cutoff = here (map .1) in
+    let obs = here (cutoff .1) in
+    let sta = count-off (h .stations .stands) (h .stations .count) (obs .1) (f .stations) in
+    let sat = count-off (h .satellites .stands) (h .satellites .count) (sta .1) (f .satellites) in
+    let radius = here (sat .1) in
+    let dim = here (radius .1) in
+    let hgt = here (dim .1) in
+    let lat = here (hgt .1) in
+    let lon = here (lat .1) in
+    let y = h .systems in
+    let g = system-off (y .g .stands) (y .g .stations) (y .g .satellites) (lon .1) (f .g) in
+    let r′ = system-off (y .r .stands) (y .r .stations) (y .r .satellites) (g .1) (f .r) in
+    let e = system-off (y .e .stands) (y .e .stations) (y .e .satellites) (r′ .1) (f .e) in
+    let c = system-off (y .c .stands) (y .c .stations) (y .c .satellites) (e .1) (f .c) in
+    let j = system-off (y .j .stands) (y .j .stations) (y .j .satellites) (c .1) (f .j) in
+    let i = system-off (y .i .stands) (y .i .stations) (y .i .satellites) (j .1) (f .i) in
+    let s = system-off (y .s .stands) (y .s .stations) (y .s .satellites) (i .1) (f .s) in
+    let p = took-program (pgm .0) in (
+      (r .version .tenths, (r .version .kind, r .version .code)),
+      (
+        (p .0, (p .1 .0, (p .1 .1, (took-mapping (map .0), took-observables (obs .0))))),
+        (
+          (took-epoch (first .0), (took-epoch (last .0), (took-count (interval .0), took-count (maps .0)))),
+          (
+            (took-tenths (cutoff .0), (took-tenths (radius .0), took-count (dim .0))),
+            (
+              (took-axis (hgt .0), (took-axis (lat .0), took-axis (lon .0))),
+              (
+                sta .0,
+                (
+                  sat .0,
+                  (
+                    (g .0, (r′ .0, (e .0, (c .0, (j .0, (i .0, s .0)))))),
+                    (r .dimension, r .limits),
+                  ),
+                ),
+              ),
+            ),
+          ),
+        ),
+      ),
+    )
+
+pub groups-header : (h : Header) (t : Texts) → HeaderSays h t → HeaderRules h t
+groups-header h t (v, (x, (m, (o, (a, (sta, (sat, ((g, (r, (e, (c, (j, (i, s)))))), (d, l))))))))) =
+    let y = h .systems in
+    record {
+      version = record { tenths = v .0; kind = v .1 .0; code = v .1 .1 };
+      records =
+          stand-some (a-program (x .0) (x .1 .0) (x .1 .1 .0))
+          (stand-some (a-epoch (m .0))
+          (stand-some (a-epoch (m .1 .0))
+          (stand-some (a-count (m .1 .1 .0))
+          (stand-some (a-count (m .1 .1 .1))
+          (stand-some (a-mapping (x .1 .1 .1 .0))
+          (stand-some (a-tenths (o .0))
+          (stand-some (a-observables (x .1 .1 .1 .1))
+          (count-on (h .stations .stands) (h .stations .count) sta
+          (count-on (h .satellites .stands) (h .satellites .count) sat
+          (stand-some (a-tenths (o .1 .0))
+          (stand-some (a-count (o .1 .1))
+          (stand-some (a-axis (a .0))
+          (stand-some (a-axis (a .1 .0))
+          (stand-some (a-axis (a .1 .1))
+          (system-on (y .g .stands) (y .g .stations) (y .g .satellites) g
+          (system-on (y .r .stands) (y .r .stations) (y .r .satellites) r
+          (system-on (y .e .stands) (y .e .stations) (y .e .satellites) e
+          (system-on (y .c .stands) (y .c .stations) (y .c .satellites) c
+          (system-on (y .j .stands) (y .j .stations) (y .j .satellites) j
+          (system-on (y .i .stands) (y .i .stations) (y .i .satellites) i
+          (system-on (y .s .stands) (y .s .stations) (y .s .satellites) s
+          stand-end)))))))))))))))))))));
+      fillers = record {
+        stations = filled (h .stations .stands) (h .stations .count) sta;
+        satellites = filled (h .satellites .stands) (h .satellites .count) sat;
+        g = system-filled (y .g .stands) (y .g .stations) (y .g .satellites) g;
+        r = system-filled (y .r .stands) (y .r .stations) (y .r .satellites) r;
+        e = system-filled (y .e .stands) (y .e .stations) (y .e .satellites) e;
+        c = system-filled (y .c .stands) (y .c .stations) (y .c .satellites) c;
+        j = system-filled (y .j .stands) (y .j .stations) (y .j .satellites) j;
+        i = system-filled (y .i .stands) (y .i .stations) (y .i .satellites) i;
+        s = system-filled (y .s .stands) (y .s .stations) (y .s .satellites) s;
+      };
+      dimension = d;
+      limits = l;
+    }
+
+-- ---- epochs and marks
+epochs-say : (h : Header) (es : List ℕ) → EpochRules h es → EpochsSay (h .times) es
+epochs-say h [] r = absurd r
+epochs-say h (e ∷ es) r = (r .0, r .1)
+
+say-epochs : (h : Header) (es : List ℕ) → EpochsSay (h .times) es → EpochRules h es
+say-epochs h [] r = absurd (r .0)
+say-epochs h (e ∷ es) r = (r .0, r .1)
+
+from-zero : (ms : List ℕ) → All (λ m. m ≤ 3) ms → All (Within 0 3) ms
+from-zero [] a = tt
+from-zero (m ∷ ms) a = ((omega arith, a .0), from-zero ms (a .1))
+
+to-three : (ms : List ℕ) → All (Within 0 3) ms → All (λ m. m ≤ 3) ms
+to-three [] a = tt
+to-three (m ∷ ms) a = (a .0 .1, to-three ms (a .1))
+
+-- ---- all of it
+pub sound-groups : (h : Header) (t : Texts) (a : Areas) → Sound h t a → SoundSays h t a
+sound-groups h t a s =
+    (header-groups h t (s .header), (s .room .epochs, (s .room .marks, (epochs-say h (take (h .times .maps) (a .epochs)) (s .epochs), (from-zero (take (h .times .maps) (a .marks)) (s .marks), (s .room .tec, (s .room .rms, (s .room .height, s .room .exponents))))))))
+
+pub groups-sound : (h : Header) (t : Texts) (a : Areas) → SoundSays h t a → Sound h t a
+groups-sound h t a (r, (e, (m, (es, (ms, (p, (q, (u, x)))))))) =
+    record {
+      header = groups-header h t r;
+      room = record { tec = p; rms = q; height = u; exponents = x; epochs = e; marks = m };
+      epochs = say-epochs h (take (h .times .maps) (a .epochs)) es;
+      marks = to-three (take (h .times .maps) (a .marks)) ms;
+    }
+
+unfoldable pub sound? : (h : Header) (t : Texts) (a : Areas) → Dec (Sound h t a)
+unfolding dec-by
+sound? h t a = dec-by (groups-sound h t a) (sound-groups h t a) (sound-says? h t a)
+
+-- ---- the epochs from an index on
+module _ (interval last : ℕ) (es : List ℕ) (i : ℕ) where
+  two : i + 1 < length es → drop i es ≡ getD es i 0 ∷ (getD es (i + 1) 0 ∷ drop (suc (suc i)) es)
+  two h = rw (add-one, drop-cons es i 0 (omega arith), drop-cons es (suc i) 0 (omega arith)) refl
+
+  pub runs-next : i + 1 < length es → Follows interval (getD es i 0) (getD es (i + 1) 0) → truth (runs? interval last (drop i es)) ≡ truth (runs? interval last (drop (i + 1) es))
+  runs-next h f =
+      let e : drop (i + 1) es ≡ getD es (i + 1) 0 ∷ drop (suc (suc i)) es = rw (add-one, drop-cons es (suc i) 0 (omega arith)) refl in
+      rw (two h, e) (truth-same (runs? interval last (getD es i 0 ∷ (getD es (i + 1) 0 ∷ drop (suc (suc i)) es))) (runs? interval last (getD es (i + 1) 0 ∷ drop (suc (suc i)) es)) (λ r. r .1) (λ r. (f, r)))
+
+  pub runs-stop : i + 1 < length es → ¬ Follows interval (getD es i 0) (getD es (i + 1) 0) → truth (runs? interval last (drop i es)) ≡ false
+  runs-stop h n = rw (two h) (sym (fails (runs? interval last (getD es i 0 ∷ (getD es (i + 1) 0 ∷ drop (suc (suc i)) es))) (λ r. n (r .0))))
+
+  pub runs-end : i + 1 ≡ length es → truth (runs? interval last (drop i es)) ≡ eqb (getD es i 0) last
+  runs-end h =
+      let n : length es ≤ suc i = omega arith in
+      rw (drop-cons es i 0 (omega arith), drop-of-length-le es n) (sym (tells (eqb (getD es i 0) last) (runs? interval last (getD es i 0 ∷ [])) (eqb-true _ last) (eqb-false _ last)))
+
+-- ---- an axis that fits
+pub unfit : (l : Line) (a : Axis) (j : Judged) → judged l a ≡ j → ¬ (j ≡ J.Fine) → false ≡ truth (axis? l a)
+unfit l a j e n = fails (axis? l a) (λ r. n (sym e ∙ fine l a r))
+
+pub fit : (l : Line) (a : Axis) → judged l a ≡ J.Fine → true ≡ truth (axis? l a)
+fit l a e = holds (axis? l a) (rules l a e)
+
+-- ---- the first epoch
+pub first-epoch : (first : ℕ) (es : List ℕ) → 1 ≤ length es → eqb (getD es 0 0) first ≡ truth (starts? first es)
+unfolding starts?
+first-epoch first [] h = absurd (omega arith)
+first-epoch first (e ∷ es) h = eq-tells e first
+
+pub some-epoch : (first : ℕ) (es : List ℕ) → length es ≡ 0 → ¬ StartsAt first es
+some-epoch first [] e h = h
+some-epoch first (x ∷ es) e h = omega arith
+
+-- ---- room: the blocks and values of a header within its limits are few
+pub some-nodes : (a : Axis) → 1 ≤ nodes a
+some-nodes a = omega arith
+
+module _ (n : ℕ) (g : Grid) (l : Limits n g) where
+  pub few-values : n * (layers g * rows g) * columns g ≤ 2000000
+  few-values = rw (← mul-assoc n (layers g) (rows g)) (l .3)
+
+  pub few-blocks : n * (layers g * rows g) ≤ 2000000
+  few-blocks = omega (arith, few-values, mul-le-mul-left (n * (layers g * rows g)) (some-nodes (g .longitudes)))
+
+-- a mark stands for the kind RMS at 1 or 3, for the kind height at 2 or 3
+pub rms-need : (h : Header) (ms : List ℕ) → pick (without? 1 ms) 0 (values h) ≡ value-need K.Rms h ms
+unfolding without? nowhere? present?
+rms-need h ms = refl
+
+pub height-need : (h : Header) (ms : List ℕ) → pick (without? 2 ms) 0 (values h) ≡ value-need K.Height h ms
+unfolding without? nowhere? present?
+height-need h ms = refl
+
+-- ---- a text whose length is its field's
+pub written : (w : ℕ) (t : List ℕ) {b : Bool} → length t ≡ w → b ≡ truth (all-dec (within? 32 126) t) → b ≡ truth (written? w t)
+unfolding written? printable?
+written w t l e = e ∙ truth-same (all-dec (within? 32 126) t) (written? w t) (λ a. (l, a)) (λ h. h .1)
