@@ -6,3 +6,4 @@ pub mod Range
 pub mod Integer
 pub mod Truth
 pub mod Lists
+pub mod AnswerLaws

@@ -15,3 +15,5 @@ pub mod Blame
 pub mod RefusalLaws
 pub mod Refusals
 pub mod Vectors
+pub mod LabelLaws
+pub mod ScanLaws

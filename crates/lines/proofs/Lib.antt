@@ -1,0 +1,5 @@
+pub mod Passing
+pub mod Firsts
+pub mod Parts
+pub mod ValueLaws
+pub mod BlockLaws
