@@ -113,7 +113,7 @@ place-letter j h = below (λ j. place ℕ-discrete (getD letters j 0) letters �
 
 -- ---- what the rules write is read
 
-abbrev Joins : MapSet → Slots → Slots → Type 0
+abbrev pub Joins : MapSet → Slots → Slots → Type 0
 Joins m got left = Joined got left (says (m .header) (m .texts))
 
 once-of : (e : ℤ) (got : Slots) (i : ℕ) (s : Said) → getD got i none ≡ none → once e got i (ok s) ≡ ok (more plain e (set got i (some s)))
@@ -178,7 +178,7 @@ pub record Got (got : Slots) : Type 0 where
   pub fit : FitAll got
 
 -- what is left before a row, by what is left after it
-abbrev Earlier : Mode → ℤ → Slots → List ℕ → Mode → ℤ → Slots → Type 0
+abbrev pub Earlier : Mode → ℤ → Slots → List ℕ → Mode → ℤ → Slots → Type 0
 Earlier a e got r a′ e′ got′ =
     (m : MapSet) (left′ : Slots) (rs : List (List ℕ)) → Joins m got′ left′ → Heads m a′ e′ left′ rs
     → (left : Slots) × Joins m got left × Heads m a e left (r ∷ rs)
@@ -190,7 +190,7 @@ pub record Ends (c : ℕ) (got : Slots) (r : List ℕ) : Type 0 where
   pub dimension : Dimension (made c got .model .dimension) (made c got .grid .heights)
   pub limits : Limits (made c got .times .maps) (made c got .grid)
 
-abbrev Fine : (c : ℕ) → Mode → ℤ → Slots → List ℕ → Turn → Type 0
+abbrev pub Fine : (c : ℕ) → Mode → ℤ → Slots → List ℕ → Turn → Type 0
 Fine c a e got r (more a′ e′ got′) = Got got′ × Earlier a e got r a′ e′ got′
 Fine c a e got r done = (a ≡ plain) × Ends c got r
 
@@ -298,7 +298,7 @@ module _ (c : ℕ) (e : ℤ) (got : Slots) (g : Got got) (r : List ℕ) (z : len
   fine block q = y-no
   fine file-end q = y-no
 
-  fine-step : (a : Mode) → Yields (Fine c a e got r) (head-step c a e got r)
+  pub fine-step : (a : Mode) → Yields (Fine c a e got r) (head-step c a e got r)
   unfolding head-step
   fine-step plain = get-yields _ _ fine
   fine-step aux =

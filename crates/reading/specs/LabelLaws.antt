@@ -1,13 +1,13 @@
 -- A label by the number that the code finds for it.
 use mathlib.Core.Path.{_≡_, refl, sym, ap, _∙_}
 use mathlib.Core.Bool.{Bool, true, false, _&&_}
-use mathlib.Core.Option.{Option, none, some}
+use mathlib.Core.Option.{none, some}
 use mathlib.Core.List.{List, [], _∷_, map}
-use Prim.Native.Nat.{ℕ, zero, suc, _+_, _-_, _≤_, _<_}
+use Prim.Native.Nat.{ℕ, suc, _≤_, _<_}
 use native.Mathlib.Decide.{ℕ-discrete}
 use native.Mathlib.Omega.{arith}
 use lib.Dec.{T, eqb, eqb→eq}
-use lib.ListN.{length, getD, take, drop, replicate, length-append, length-drop, length-replicate}
+use lib.ListN.{length, getD, drop, length-append, length-drop, length-replicate}
 use lib.Seq.{take-all}
 use borrow.Author.Tests.{eq-eqb, eqb-true}
 use Rattle.kit.specs.Answer.{pick, pick-yes, pick-no, same, sames}

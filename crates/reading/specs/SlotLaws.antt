@@ -155,7 +155,7 @@ listed [] d = refl
 listed (x ∷ l) d = ap (λ m. x ∷ m) (later 0 (length l) x l d ∙ listed l d)
 
 -- a record that is not starred stands
-complete-at : (bs : List Bool) (ss : Slots) (i : ℕ) → Complete bs ss → getD bs i true ≡ false → ¬ (getD ss i none ≡ none)
+pub complete-at : (bs : List Bool) (ss : Slots) (i : ℕ) → Complete bs ss → getD bs i true ≡ false → ¬ (getD ss i none ≡ none)
 complete-at [] ss i c e = λ _. let z : _≡_ {A = ℕ} 0 1 = cc in omega arith
 complete-at (b ∷ bs) [] i c e = absurd c
 complete-at (true ∷ bs) (s ∷ ss) zero c e = λ _. let z : _≡_ {A = ℕ} 0 1 = cc in omega arith

@@ -1,0 +1,137 @@
+use mathlib.Core.Path.{sym, ap, _∙_}
+use native.Mathlib.Omega.{arith}
+use Prim.Native.Nat.{_+_}
+use mathlib.Core.Path.{subst}
+use lib.ListN.{length-take, length-drop}
+use Rattle.head.specs.Records.{toldCoded}
+use Rattle.head.specs.Opened.{Leads, LeadsRow, blank-texts}
+use Rattle.head.specs.declared.Headed.the-variants.{Refused}
+use Rattle.head.specs.OpenedLaws.{hands, first-over, first-bad, first-no, first-coded, continues}
+use borrow.Author.Needs.{needs}
+use Rattle.head.proofs.opening.read_header.Statement.{statement}
+use Rattle.head.proofs.opening.read_header.Tie as tie
+use Rattle.head.proofs.opening.read_header.Reads as reads
+use Rattle.head.proofs.opening.read_header.Lts as lts
+use Rattle.head.proofs.opening.header_from.Reads as header-from-reads
+use Rattle.head.proofs.opening.line_after.Reads as line-after-reads
+use Rattle.head.proofs.opening.refusal.Reads as refusal-reads
+use Rattle.head.proofs.opening.row_from.Reads as row-from-reads
+use Rattle.head.proofs.version.version_code.Reads as version-code-reads
+
+-- the row that was found
+led : (c : tie.After-known-told3) → let a = c .before .before .before .before .before .args in LeadsRow (a .text .now) 0 0 (c .before .start .given .0 .0) (c .before .start .given .0 .1 .0) (c .before .start .given .0 .1 .1 .0) (c .before .start .given .0 .1 .1 .1 .0)
+led c =
+    let r = c .before .before .before in
+    subst (Leads (r .before .before .args .text .now) 0 0) (c .before .start .given .1) (r .row-from .ensures)
+
+row-from-requires : tie.Need-row-from-requires
+row-from-requires c κs = search needs
+
+enum-known-n : tie.Need-enum-known-n
+enum-known-n c = search needs
+
+line-after-requires : tie.Need-line-after-requires
+line-after-requires c κs = search needs
+
+refusal-requires : tie.Need-refusal-requires
+refusal-requires c κs = search needs
+
+enum-known-number : tie.Need-enum-known-number
+enum-known-number c = search needs
+
+refusal-requires-2 : tie.Need-refusal-requires-2
+refusal-requires-2 c κs = search needs
+
+enum-known-start : tie.Need-enum-known-start
+enum-known-start c = search needs
+
+sub-version-code : tie.Need-sub-version-code
+sub-version-code c = omega (arith, led c .inside)
+
+part-version-code-start : tie.Need-part-version-code-start
+part-version-code-start c = omega (arith, led c .inside, led c .whole)
+
+part-version-code-end : tie.Need-part-version-code-end
+part-version-code-end c = omega (arith, led c .inside, led c .whole)
+
+version-code-requires : tie.Need-version-code-requires
+version-code-requires c κs = let f = led (c .before) .fits in simp (length-take, length-drop) (omega arith)
+
+enum-known-number-2 : tie.Need-enum-known-number-2
+enum-known-number-2 c = search needs
+
+add-refusal : tie.Need-add-refusal
+add-refusal c = omega (arith, led (c .before .before .before .before .before) .passed, led (c .before .before .before .before .before) .ahead, led (c .before .before .before .before .before) .within)
+
+refusal-requires-3 : tie.Need-refusal-requires-3
+refusal-requires-3 c κs = search needs
+
+enum-known-code : tie.Need-enum-known-code
+enum-known-code c = search needs
+
+add-header-from : tie.Need-add-header-from
+add-header-from c = omega (arith, led (c .before .before .before .before .before) .passed, led (c .before .before .before .before .before) .ahead, led (c .before .before .before .before .before) .within)
+
+header-from-requires : tie.Need-header-from-requires
+header-from-requires c κs = let k = led (c .before .before .before .before .before) in let p = k .passed in let d = k .ahead in (k .within, omega arith)
+
+returns : tie.Need-returns
+returns c =
+    let n = c .before .before .before in
+    let r = n .before .before in
+    let t = r .before .before .args .text .now in
+    hands _ t (Refused 10 (c .before .line-after .result) 0) blank-texts (c .refusal .result) (c .refusal .ensures .0) (c .refusal .ensures .1)
+    (first-over t (n .n .given .0 .0) _ (subst (Leads t 0 0) (n .n .given .1) (r .row-from .ensures)) (c .before .line-after .ensures) blank-texts) tt
+
+returns-2 : tie.Need-returns-2
+returns-2 c =
+    let n = c .before .before in
+    let r = n .before .before in
+    let t = r .before .before .args .text .now in
+    let e = n .number .given in
+    hands _ t (Refused (e .0 .0) (e .0 .1 .0) (e .0 .1 .1 .0)) blank-texts (c .refusal2 .result) (c .refusal2 .ensures .0) (c .refusal2 .ensures .1)
+    (first-bad t (e .0 .0) (e .0 .1 .0) (e .0 .1 .1 .0) (subst (Leads t 0 0) (e .1) (r .row-from .ensures)) blank-texts) tt
+
+returns-3 : tie.Need-returns-3
+returns-3 c =
+    let n = c .before .before in
+    let v = n .before .before in
+    let k = v .before .before in
+    let t = k .before .before .before .before .before .args .text .now in
+    let m = k .before .start .given .0 .1 .1 .1 .0 in
+    hands _ t (Refused (n .number2 .given .0 .0) (m + 1) (n .number2 .given .0 .1 .0)) blank-texts (c .refusal3 .result) (c .refusal3 .ensures .0) (c .refusal3 .ensures .1)
+    (first-no t _ _ _ m (led k) (n .number2 .given .0 .0) (n .number2 .given .0 .1 .0) (ap toldCoded (sym (n .number2 .given .1)) ∙ v .version-code .ensures) blank-texts) tt
+
+returns-4 : tie.Need-returns-4
+returns-4 c =
+    let n = c .before .before in
+    let v = n .before .before in
+    let k = v .before .before in
+    let t = k .before .before .before .before .before .args .text .now in
+    continues _ _ t (c .header-from .result) (first-coded t _ _ _ _ (led k) (n .code .given .0 .0) (ap toldCoded (sym (n .code .given .1)) ∙ v .version-code .ensures)) (c .header-from .ensures)
+
+pub read-header-spec : {M : Type 1} → statement M
+read-header-spec =
+    tie.close
+    (tie.spec
+    row-from-requires
+    enum-known-n
+    line-after-requires
+    refusal-requires
+    enum-known-number
+    refusal-requires-2
+    enum-known-start
+    sub-version-code
+    part-version-code-start
+    part-version-code-end
+    version-code-requires
+    enum-known-number-2
+    add-refusal
+    refusal-requires-3
+    enum-known-code
+    add-header-from
+    header-from-requires
+    returns
+    returns-2
+    returns-3
+    returns-4)

@@ -1,0 +1,109 @@
+-- The reading of a text from its start, by what the code hands back of the header.
+use mathlib.Core.Path.{_≡_}
+use mathlib.Core.List.{List, []}
+use Prim.Native.Nat.{ℕ, suc, _-_, _≤_, _<_}
+use lib.ListN.{length, take, drop, replicate}
+use Rattle.kit.specs.Answer.{Answer, refused, amap}
+use Rattle.kit.specs.Range.{Within}
+use Rattle.mapset.specs.declared.Header.{Header}
+use Rattle.mapset.specs.declared.Texts.{Texts}
+use Rattle.mapset.specs.Grid.{heights, latitudes, longitudes, AxisRules, Limits}
+use Rattle.mapset.specs.Header.{Dimension}
+use Rattle.mapset.specs.MapSet.{MapSet}
+use Rattle.layout.specs.Text.{pad}
+use Rattle.reading.specs.Feed.{Why, why, over, bad, row, split, feed}
+use Rattle.reading.specs.Maps.{run}
+use Rattle.reading.specs.Head.{heading}
+use Rattle.reading.specs.HeadLaws.{Got}
+use Rattle.reading.specs.declared.Place.the-variants.{Between}
+use Rattle.head.specs.Got.{slots-of, texts-of, mode}
+use Rattle.head.specs.declared.State.{State}
+use Rattle.head.specs.declared.Ahead.{Ahead}
+use Rattle.head.specs.declared.Ahead.the-variants as Ahead
+use Rattle.head.specs.declared.Headed.{Headed}
+use Rattle.head.specs.declared.Headed.the-variants.{Refused, Accepted}
+use Rattle.head.specs.declared.Onward.{Onward}
+use Rattle.head.specs.declared.Onward.the-variants as Onward
+use Rattle.head.specs.declared.HeaderRead.{HeaderRead}
+
+-- ---- the next row of a text, after n lines, from a line's start on
+
+-- it stands from start to end, after m lines; the next line starts at next
+pub record LeadsRow (t : List ℕ) (at n start end next m : ℕ) : Type 0 where
+  pub after : at ≤ start
+  pub inside : start ≤ end
+  pub fits : end - start ≤ 80
+  pub whole : end ≤ length t
+  pub ahead : start < next
+  pub within : next ≤ length t
+  pub passed : m ≤ start
+  pub on : feed (suc n) (split (drop at t)) ≡ row (suc m) (pad (take (end - start) (drop start t))) (feed (suc (suc m)) (split (drop next t)))
+
+abbrev pub Leads : List ℕ → ℕ → ℕ → Ahead → Type 0
+Leads t at n (Ahead.Over m) = feed (suc n) (split (drop at t)) ≡ over (suc m)
+Leads t at n (Ahead.Bad k l c) = feed (suc n) (split (drop at t)) ≡ bad (why k l c)
+Leads t at n (Ahead.Line start end next m) = LeadsRow t at n start end next m
+
+-- ---- an accepted header
+
+pub record HeaderFits (h : Header) : Type 0 where
+  pub heights : AxisRules heights (h .grid .heights)
+  pub latitudes : AxisRules latitudes (h .grid .latitudes)
+  pub longitudes : AxisRules longitudes (h .grid .longitudes)
+  pub maps : Within 1 300 (h .times .maps)
+  pub dimension : Dimension (h .model .dimension) (h .grid .heights)
+  pub limits : Limits (h .times .maps) (h .grid)
+
+-- where the maps start: the place is in the text, and no more lines were passed than bytes
+pub record MapsStart (t : List ℕ) (h : Header) (at n : ℕ) : Type 0 where
+  pub header : HeaderFits h
+  pub within : at ≤ length t
+  pub passed : n ≤ at
+
+abbrev pub Sound : List ℕ → Headed → Type 0
+Sound t (Refused k l c) = Unit {0}
+Sound t (Accepted h e at n) = MapsStart t h at n
+
+-- what is read of the text t: the refusal; or the header, and what the maps after n lines make
+unfoldable pub opened : Headed → Texts → List ℕ → Answer Why MapSet
+opened (Refused k l c) x t = refused (why k l c)
+opened (Accepted h e at n) x t =
+    amap (λ w. record { header = h; texts = x; maps = w .1 })
+    (run h Between (record { exponent = e; epochs = []; rms = 0; height = 0 }) 0 (feed (suc n) (split (drop at t))))
+
+-- ---- a row of the header
+
+-- what is read from a state of the header on, under a version record with the code c
+abbrev pub from-state : ℕ → State → List ℕ → ℕ → ℕ → Answer Why MapSet
+from-state c s t at n = heading c (mode (s .aux)) (s .exponent) (slots-of s) (feed (suc n) (split (drop at t)))
+
+pub record Goes (t : List ℕ) (c : ℕ) (s : State) (at n : ℕ) (s′ : State) (at′ n′ : ℕ) : Type 0 where
+  pub same : from-state c s t at n ≡ from-state c s′ t at′ n′
+  pub ahead : at < at′
+  pub within : at′ ≤ length t
+  pub passed : n′ ≤ at′
+  pub got : Got (slots-of s′)
+
+pub record Stops (t : List ℕ) (c : ℕ) (s : State) (at n : ℕ) (s′ : State) (a : Headed) : Type 0 where
+  pub same : from-state c s t at n ≡ opened a (texts-of s′) t
+  pub sound : Sound t a
+
+abbrev pub Passes : List ℕ → ℕ → State → ℕ → ℕ → Onward → State → Type 0
+Passes t c s at n (Onward.On at′ n′) s′ = Goes t c s at n s′ at′ n′
+Passes t c s at n (Onward.Stop a) s′ = Stops t c s at n s′ a
+
+-- ---- what is handed back
+
+abbrev pub blank-texts : Texts
+blank-texts = record { program = replicate 20 32; agency = replicate 20 32; date = replicate 20 32; mapping = replicate 4 32; observables = replicate 60 32 }
+
+-- blanks beside a refusal
+abbrev pub beside : Headed → Texts → Texts
+beside (Refused k l c) x = blank-texts
+beside (Accepted h e at n) x = x
+
+-- `Opens f t r`: what f stands for is what is read of the text t, by r
+pub record Opens (f : Answer Why MapSet) (t : List ℕ) (r : HeaderRead) : Type 0 where
+  pub same : f ≡ opened (r .answer) (r .texts) t
+  pub sound : Sound t (r .answer)
+  pub blanks : r .texts ≡ beside (r .answer) (r .texts)

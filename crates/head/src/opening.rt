@@ -1,0 +1,192 @@
+// The header of a text, from its start to END OF HEADER.
+ghost use mathlib.Core.Path.{_≡_};
+ghost use Prim.Native.Nat.{ℕ, suc, _≤_};
+ghost use native.Mathlib.Decide.{decLe};
+ghost use lib.ListN.{length, drop};
+ghost use lib.IntN.{negsuc};
+ghost use Rattle.kit.specs.Answer.{pick};
+ghost use Rattle.layout.specs.Layout.{plain};
+ghost use Rattle.reading.specs.Feed.{split, feed};
+ghost use Rattle.reading.specs.Head.{heading};
+ghost use Rattle.reading.specs.HeadLaws.{Got};
+ghost use Rattle.reading.specs.Read.{nothing-yet, read};
+ghost use Rattle.head.specs.Got.{slots-of, texts-of};
+ghost use Rattle.head.specs.Opened.{Leads, Passes, blank-texts, beside, Opens};
+use super::Ahead;
+use super::Coded;
+use super::Headed;
+use super::HeaderRead;
+use super::Next;
+use super::Onward;
+use super::Passed;
+use super::State;
+use super::got;
+use super::step;
+use super::version;
+use lines::Line;
+use mapset::Texts;
+
+// The next line that is not blank.
+fn row_from(text: &[u8], from: usize, passed: u64) -> Ahead
+    requires { ⌜ (from ≤ length (now text)) × (passed ≤ from) ⌝ }
+    ensures { λ r. ⌜ Leads (now (text .entry)) from passed r ⌝ }
+{
+    let mut at = from;
+    let mut n = passed;
+    while at < text.len() {
+        match lines::line_in(&text[at..]) {
+            Line::Over => {
+                return Ahead::Over(n);
+            }
+            Line::Bad(number, column) => {
+                return Ahead::Bad(number, n + 1, column);
+            }
+            Line::Row(width, next) => {
+                return Ahead::Line(at, at + width, at + next, n);
+            }
+            Line::Skip(next) => {
+                at += next;
+                n += 1;
+            }
+        }
+    }
+    Ahead::Over(n)
+}
+
+// The number of the line after n lines; a line number is at most 18,446,744,073,709,551,615.
+fn line_after(n: u64) -> u64
+    ensures { λ r. ⌜ r ≡ pick (decLe (suc n) 18446744073709551615) (suc n) 18446744073709551615 ⌝ }
+{
+    if n < 18446744073709551615 {
+        return n + 1;
+    }
+    18446744073709551615
+}
+
+// One row of the header, and what it leads to.
+fn pass(s: State, code: u32, text: &[u8], from: usize, passed: u64) -> Passed
+    requires { ⌜ (from ≤ length (now text)) × (passed ≤ from) × Got (slots-of s) ⌝ }
+    ensures { λ r. ⌜ Passes (now (text .entry)) code s from passed (r .onward) (r .state) ⌝ }
+{
+    match row_from(text, from, passed) {
+        Ahead::Over(n) => Passed {
+            onward: Onward::Stop(Headed::Refused(10, line_after(n), 0)),
+            state: s,
+        },
+        Ahead::Bad(number, line, column) => Passed {
+            onward: Onward::Stop(Headed::Refused(number, line, column)),
+            state: s,
+        },
+        Ahead::Line(start, end, next, n) => {
+            let r = step::step(s, code, &text[start..end]);
+            let turn = r.next;
+            let t = r.state;
+            match turn {
+                Next::More => Passed {
+                    onward: Onward::On(next, n + 1),
+                    state: t,
+                },
+                Next::Done(header) => Passed {
+                    onward: Onward::Stop(Headed::Accepted(header, s.exponent, next, n + 1)),
+                    state: t,
+                },
+                Next::Refused(number, column) => Passed {
+                    onward: Onward::Stop(Headed::Refused(number, n + 1, column)),
+                    state: t,
+                },
+            }
+        }
+    }
+}
+
+fn texts_of(s: State) -> Texts
+    ensures { λ r. ⌜ r ≡ texts-of s ⌝ }
+{
+    let program = s.program;
+    let agency = s.agency;
+    let date = s.date;
+    let mapping = s.mapping;
+    let observables = s.observables;
+    Texts {
+        program: program,
+        agency: agency,
+        date: date,
+        mapping: mapping,
+        observables: observables,
+    }
+}
+
+fn blanks() -> Texts
+    ensures { λ r. ⌜ r ≡ blank-texts ⌝ }
+{
+    Texts {
+        program: [b' '; 20],
+        agency: [b' '; 20],
+        date: [b' '; 20],
+        mapping: [b' '; 4],
+        observables: [b' '; 60],
+    }
+}
+
+fn handed(answer: Headed, s: State) -> HeaderRead
+    ensures { λ r. ⌜ (r .answer ≡ answer) × (r .texts ≡ beside answer (texts-of s)) ⌝ }
+{
+    match answer {
+        Headed::Refused(_, _, _) => HeaderRead {
+            answer: answer,
+            texts: blanks(),
+        },
+        Headed::Accepted(_, _, _, _) => HeaderRead {
+            answer: answer,
+            texts: texts_of(s),
+        },
+    }
+}
+
+// The header after its version record.
+fn header_from(text: &[u8], from: usize, passed: u64, code: u32) -> HeaderRead
+    requires { ⌜ (from ≤ length (now text)) × (passed ≤ from) ⌝ }
+    ensures { λ r. ⌜ Opens (heading code plain (negsuc 0) nothing-yet (feed (suc passed) (split (drop from (now (text .entry)))))) (now (text .entry)) r ⌝ }
+{
+    let mut s = got::nothing();
+    let mut at = from;
+    let mut n = passed;
+    loop {
+        let r = pass(s, code, text, at, n);
+        let onward = r.onward;
+        let t = r.state;
+        match onward {
+            Onward::Stop(answer) => {
+                return handed(answer, t);
+            }
+            Onward::On(next, m) => {
+                s = t;
+                at = next;
+                n = m;
+            }
+        }
+    }
+}
+
+fn refusal(number: u64, line: u64, column: u64) -> HeaderRead
+    ensures { λ r. ⌜ (r .answer ≡ Headed.Refused number line column) × (r .texts ≡ blank-texts) ⌝ }
+{
+    HeaderRead {
+        answer: Headed::Refused(number, line, column),
+        texts: blanks(),
+    }
+}
+
+// A text from its start to END OF HEADER.
+pub fn read_header(text: &[u8]) -> HeaderRead
+    ensures { λ r. ⌜ Opens (read (now (text .entry))) (now (text .entry)) r ⌝ }
+{
+    match row_from(text, 0, 0) {
+        Ahead::Over(n) => refusal(10, line_after(n), 0),
+        Ahead::Bad(number, line, column) => refusal(number, line, column),
+        Ahead::Line(start, end, next, n) => match version::version_code(&text[start..end]) {
+            Coded::Refused(number, column) => refusal(number, n + 1, column),
+            Coded::Code(code) => header_from(text, next, n + 1, code),
+        },
+    }
+}
