@@ -1,14 +1,14 @@
 -- A block's values in its part of an area.
-use mathlib.Core.Path.{_≡_, refl, sym, ap, subst, _∙_}
-use mathlib.Core.List.{List, [], _∷_, _++_, append-assoc}
-use Prim.Native.Nat.{ℕ, zero, suc, _+_, _-_, _*_, _≤_, _<_}
+use mathlib.Core.Path.{_≡_, sym, ap, subst, _∙_}
+use mathlib.Core.List.{List, append-assoc}
+use Prim.Native.Nat.{ℕ, suc, _+_, _-_, _≤_}
 use native.Mathlib.Omega.{arith}
 use lib.ListN.{length, take, drop, length-drop}
 use lib.Seq.{sets, sets-eq, drop-drop, length-take-le}
 use lib.IntN.{ℤ}
 use borrow.Rule.Slice.PartMut.{putMid}
 use Rattle.kit.specs.Answer.{yields}
-use Rattle.reading.specs.Feed.{Feed, split, feed}
+use Rattle.reading.specs.Feed.{split, feed}
 use Rattle.lines.specs.Blocks.{values, Okay, Filled}
 use Rattle.areas.specs.Scan.{values-ahead, brought}
 use Rattle.fill.specs.Rows.{rows-of, rows-from, Valued}

@@ -1,7 +1,7 @@
 -- What one event stores, and where the scan goes on.
-use mathlib.Core.Path.{_≡_, refl, sym, ap, subst, _∙_}
-use mathlib.Core.List.{List, [], _∷_, _++_}
-use Prim.Native.Nat.{ℕ, zero, suc, _+_, _-_, _*_, _≤_, _<_}
+use mathlib.Core.Path.{_≡_, refl, ap, subst, _∙_}
+use mathlib.Core.List.{List}
+use Prim.Native.Nat.{ℕ, _+_, _-_, _*_, _≤_, _<_}
 use native.Mathlib.Omega.{arith}
 use lib.ListN.{length, set, getD}
 use lib.Seq.{sets}
@@ -11,7 +11,7 @@ use Rattle.mapset.specs.Areas.{Areas}
 use Rattle.mapset.specs.declared.Kind.{Kind}
 use Rattle.mapset.specs.declared.Kind.the-variants.{Tec, Rms, Height}
 use Rattle.areas.specs.Stores.{first-of, before, with-mark, Inside, lengths, scanned}
-use Rattle.fill.specs.Rows.{rows-from, Valued}
+use Rattle.fill.specs.Rows.{Valued}
 use Rattle.fill.specs.Scan.{tells, due, Resumes, Resumed, six}
 use Rattle.fill.specs.declared.Event.{Event}
 use Rattle.fill.specs.declared.Event.the-variants.{Nothing, Epoch, Marked, Block}

@@ -1,11 +1,11 @@
 -- What a row holds, by the columns of its line.
 use mathlib.Core.Path.{_≡_, refl, sym, ap, _∙_}
-use mathlib.Core.List.{List, [], _∷_}
+use mathlib.Core.List.{List}
 use Prim.Native.Nat.{ℕ, _≤_}
 use native.Mathlib.Omega.{arith}
 use lib.ListN.{length}
 use lib.IntN.{ℤ, pos}
-use Rattle.kit.specs.Answer.{Answer, ok, refused, amap, pick-no}
+use Rattle.kit.specs.Answer.{Answer, ok, amap, pick-no}
 use Rattle.kit.specs.Range.{natural?}
 use Rattle.calendar.specs.Calendar.{dated}
 use Rattle.fields.specs.Form as form
@@ -19,7 +19,7 @@ use Rattle.fields.specs.declared.Found.the-variants.{At, Nowhere}
 use Rattle.fields.specs.declared.Row.{Row}
 use Rattle.fields.specs.declared.Row.the-variants.{Six, Wrong}
 use Rattle.layout.specs.Text.{pad}
-use Rattle.layout.specs.Records.{Vals, I, X}
+use Rattle.layout.specs.Records.{Vals, I}
 use Rattle.layout.specs.Labels.{exponent, epoch, layout}
 use Rattle.layout.specs.Layout.{Date}
 use Rattle.reading.specs.Feed.{Fault}

@@ -3,12 +3,12 @@ use mathlib.Core.Path.{_≡_, refl, sym, ap, subst, _∙_}
 use mathlib.Core.Bool.{Bool, true, false, cond}
 use mathlib.Core.Option.{Option, none, some}
 use mathlib.Core.List.{List, [], _∷_, _++_}
-use Prim.Native.Nat.{ℕ, zero, suc, _+_, _-_, _*_, _≤_, _<_}
+use Prim.Native.Nat.{ℕ, suc, _+_, _-_, _*_, _≤_, _<_}
 use native.Mathlib.Nat.{suc-mul, mul-le-mul-right}
 use native.Mathlib.Omega.{arith}
-use lib.ListN.{length, set, getD, length-set}
+use lib.ListN.{length, length-set}
 use lib.Seq.{sets, length-sets}
-use lib.IntN.{ℤ, pos}
+use lib.IntN.{ℤ}
 use Rattle.kit.specs.Answer.{All}
 use Rattle.mapset.specs.declared.Kind.{Kind}
 use Rattle.mapset.specs.declared.Kind.the-variants.{Tec, Rms, Height}
@@ -17,9 +17,9 @@ use Rattle.layout.specs.Labels.{Label, version, description, comment, system, e
 use Rattle.reading.specs.Fields.{label}
 use Rattle.areas.specs.Events as event
 use Rattle.areas.specs.Stores.{is, place, put-values, put-exponent, put-epoch, put-mark, Inside, lengths, scan, scanned}
-use Rattle.areas.specs.Scan.{Now, now, Turn, at-first, values-ahead, on-epoch, turn, brought}
+use Rattle.areas.specs.Scan.{Now, Turn, at-first, values-ahead, on-epoch, turn, brought}
 use Rattle.areas.proofs.Scanned.{scanned-append}
-use Rattle.fill.specs.Rows.{rows-of, rows-from, due-behind, Valued}
+use Rattle.fill.specs.Rows.{rows-from, due-behind, Valued}
 use Rattle.fill.specs.Scan.{told, tells, due, turned, Takes, Turned, passed, taken, Resumed, first-state}
 use Rattle.fill.specs.declared.State.{State}
 use Rattle.fill.specs.declared.Step.{Step}

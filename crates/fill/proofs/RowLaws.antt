@@ -1,7 +1,7 @@
 -- What a row brings, by its label's number.
 use mathlib.Core.Path.{_≡_, refl, sym, ap, _∙_}
 use mathlib.Core.Bool.{Bool, true, false, _&&_, _||_}
-use mathlib.Core.Option.{Option, none, some}
+use mathlib.Core.Option.{Option, some}
 use mathlib.Core.List.{List, [], _∷_}
 use Prim.Native.Nat.{ℕ, zero, suc, _+_, _≤_, _<_}
 use native.Mathlib.Decide.{ℕ-discrete}
@@ -20,7 +20,7 @@ use Rattle.layout.specs.Labels.{Label, version, description, comment, system, e
 use Rattle.layout.specs.Names.{number-of}
 use Rattle.reading.specs.Fields.{label, fields}
 use Rattle.reading.specs.LabelLaws.{label-known, label-unknown}
-use Rattle.areas.specs.Scan.{Now, now, Turn, goes, exponent-in, epoch-in, values-ahead, on-start, on-epoch, turn}
+use Rattle.areas.specs.Scan.{Now, now, goes, exponent-in, epoch-in, values-ahead, on-start, on-epoch, turn}
 use Rattle.fill.specs.Scan.{told, turned, Takes, Goes, Opened}
 use Rattle.fill.specs.declared.State.{State}
 use Rattle.fill.specs.declared.Event.{Event}

@@ -1,14 +1,13 @@
 -- Laws of the stores.
-use mathlib.Core.Path.{_≡_, refl, sym, ap, _∙_}
+use mathlib.Core.Path.{_≡_, sym, ap}
 use mathlib.Core.Logic.{inl, inr, ⊎-elim}
 use mathlib.Core.Bool.{true, false}
-use Prim.Native.Nat.{ℕ, zero, suc, _+_, _-_, _*_, _≤_, _<_}
-use native.Mathlib.Omega.{arith}
-use mathlib.Core.List.{List, [], _∷_, _++_}
-use lib.ListN.{length, set, getD}
+use Prim.Native.Nat.{ℕ, _-_}
+use mathlib.Core.List.{List}
+use lib.ListN.{set}
 use Rattle.kit.specs.Answer.{pick-yes, pick-no}
-use Rattle.mapset.specs.Areas.{Present, present?}
-use Rattle.mapset.specs.declared.Kind.the-variants.{Tec, Rms, Height}
+use Rattle.mapset.specs.Areas.{present?}
+use Rattle.mapset.specs.declared.Kind.the-variants.{Rms, Height}
 use Rattle.areas.specs.Flat.{mark}
 use Rattle.areas.specs.Stores.{with-mark}
 

@@ -1,7 +1,7 @@
 -- The scan over an accepted text: it stays inside its areas, and it leaves them as `areas` says.
 use mathlib.Core.Path.{_≡_, refl, sym, ap, subst, _∙_}
-use mathlib.Core.List.{List, [], _∷_, _++_}
-use Prim.Native.Nat.{ℕ, zero, suc, _+_, _-_, _*_, _≤_, _<_}
+use mathlib.Core.List.{List, _∷_, _++_}
+use Prim.Native.Nat.{ℕ, zero, suc, _+_, _-_, _*_, _≤_}
 use native.Mathlib.Omega.{arith}
 use lib.ListN.{length, replicate, drop, length-append, length-replicate, length-drop}
 use lib.IntN.{ℤ, pos, negsuc}
@@ -10,14 +10,14 @@ use Rattle.mapset.specs.declared.Kind.the-variants.{Tec, Rms, Height}
 use Rattle.mapset.specs.declared.Header.{Header}
 use Rattle.mapset.specs.Grid.{columns}
 use Rattle.mapset.specs.MapSet.{MapSet}
-use Rattle.mapset.specs.Areas.{Areas, value-need, Room}
+use Rattle.mapset.specs.Areas.{Areas, Room}
 use Rattle.mapset.specs.declared.Kind.{Kind}
 use mathlib.Core.Option.{some}
 use Rattle.layout.specs.Labels.{Label}
 use Rattle.layout.specs.Records.{Cells, ValueRows, v-last, v-full}
 use Rattle.layout.specs.Layout.{Force, Left, maps, per-map, Writes, w-end, w-comment, w-exponent, w-tec, w-epoch, w-other, w-again, w-block, w-close, w-file}
 use Rattle.reading.specs.Feed.{Feed, split, feed}
-use Rattle.reading.specs.Fields.{label, cells}
+use Rattle.reading.specs.Fields.{label}
 use Rattle.reading.specs.Maps.{on-row}
 use Rattle.reading.specs.LineLaws.{Carries, c-over, c-row, sized}
 use Rattle.reading.specs.MapLaws.{written, wrote-rows}

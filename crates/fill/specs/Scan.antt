@@ -1,16 +1,15 @@
 -- What the code's states and events mean, and what its functions promise.
 use mathlib.Core.Path.{_≡_}
 use mathlib.Core.List.{List, [], _∷_}
-use Prim.Native.Nat.{ℕ, zero, suc, _+_, _-_, _*_, _≤_, _<_}
+use Prim.Native.Nat.{ℕ, _-_, _≤_, _<_}
 use lib.ListN.{length}
-use lib.IntN.{ℤ, pos}
-use Rattle.mapset.specs.declared.Kind.{Kind}
-use Rattle.mapset.specs.declared.Kind.the-variants.{Tec, Rms, Height}
+use lib.IntN.{ℤ}
+use Rattle.mapset.specs.declared.Kind.the-variants.{Tec}
 use Rattle.mapset.specs.Areas.{Areas}
 use Rattle.layout.specs.Labels.{exponent}
-use Rattle.reading.specs.Fields.{label, fields}
+use Rattle.reading.specs.Fields.{label}
 use Rattle.areas.specs.Events as event
-use Rattle.areas.specs.Scan.{Now, now, Turn, or-else, values-ahead, on-block, turn, brought}
+use Rattle.areas.specs.Scan.{Now, now, Turn, values-ahead, on-block, turn, brought}
 use Rattle.fill.specs.Rows.{rows-from, Valued}
 use Rattle.fill.specs.declared.State.{State}
 use Rattle.fill.specs.declared.Step.{Step}

@@ -1,5 +1,4 @@
 use native.Mathlib.Omega.{arith}
-use mathlib.Core.Path.{_≡_, refl, sym, ap, _∙_}
 use Rattle.fill.proofs.RowLaws.{takes-at, takes-none}
 use borrow.Author.Needs.{needs}
 use Rattle.fill.proofs.brought_by.Statement.{statement}

@@ -1,4 +1,4 @@
-use mathlib.Core.Path.{_≡_, sym, ap, _∙_}
+use mathlib.Core.Path.{_≡_, sym, _∙_}
 use mir.Syntax.{w32}
 use mir.Val.{toZ, ofZ}
 use Rattle.reading.specs.ScanLaws.{blank-to}

@@ -1,6 +1,6 @@
 use native.Mathlib.Omega.{arith}
-use mathlib.Core.Path.{_≡_, refl, sym, ap, _∙_}
-use Prim.Native.Nat.{ℕ, _*_}
+use mathlib.Core.Path.{ap, _∙_}
+use Prim.Native.Nat.{_*_}
 use lib.ListN.{length, drop}
 use lib.IntN.{negsuc}
 use mir.Facts.{toZ-ofZ}

@@ -1,4 +1,4 @@
-use mathlib.Core.Path.{_≡_, refl, sym, ap, _∙_}
+use mathlib.Core.Path.{ap, _∙_}
 use lib.ListN.{getD}
 use Rattle.areas.specs.Stores.{with-mark}
 use Rattle.fill.proofs.StoreLaws.{set-both}

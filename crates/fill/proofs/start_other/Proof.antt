@@ -1,7 +1,6 @@
-use mathlib.Core.Path.{_≡_, refl, sym, ap, _∙_}
+use mathlib.Core.Path.{_≡_}
 use mir.Syntax.{w32}
 use mir.Val.{toZ, ofZ}
-use mir.Facts.{toZ-ofZ}
 use Rattle.fill.proofs.RowLaws.{started}
 use borrow.Author.Needs.{needs}
 use Rattle.fill.proofs.start_other.Statement.{statement}

@@ -1,7 +1,6 @@
-use mathlib.Core.Path.{_≡_, refl, sym, ap, _∙_}
+use mathlib.Core.Path.{_≡_, sym}
 use mir.Syntax.{w32}
 use mir.Val.{toZ, ofZ}
-use mir.Facts.{toZ-ofZ}
 use mathlib.Core.List.{[]}
 use Prim.Native.Nat.{suc, _+_}
 use native.Mathlib.Numerals.{add-one}

@@ -1,4 +1,3 @@
-use mathlib.Core.Path.{_≡_, refl, sym, ap, _∙_}
 use native.Mathlib.Omega.{arith}
 use Rattle.lines.proofs.Parts.{stands, skip-in, row-in, row-end, row-fits}
 use Rattle.fill.proofs.FeedLaws.{rows-over, rows-bad}
