@@ -12,13 +12,13 @@ use Rattle.mapset.specs.declared.Kind.{Kind}
 use Rattle.mapset.specs.declared.Kind.the-variants.{Tec as tec, Rms as rms, Height as height}
 use Rattle.mapset.specs.declared.Header.{Header}
 use Rattle.mapset.specs.declared.Texts.{Texts}
-use Rattle.asker.specs.Place.{InCell100}
-use Rattle.asker.specs.Time.{Uses}
-use Rattle.asker.specs.Value.{Term, Valued, Mean, kind-of, spread, terms}
-use Rattle.asker.specs.declared.place.Cell.{Cell}
-use Rattle.asker.specs.declared.time.Shares.{Shares}
-use Rattle.asker.specs.declared.value.Weighed.{Weighed}
-use Rattle.asker.specs.declared.value.Shape.{Shape}
+use Rattle.cells.specs.Place.{InCell100}
+use Rattle.spans.specs.Time.{Uses}
+use Rattle.nodes.specs.Value.{Term, Valued, Mean, kind-of, spread, terms}
+use Rattle.cells.specs.declared.Cell.{Cell}
+use Rattle.spans.specs.declared.Shares.{Shares}
+use Rattle.nodes.specs.declared.Weighed.{Weighed}
+use Rattle.nodes.specs.declared.Shape.{Shape}
 use Rattle.asker.specs.declared.Why.{Why}
 use Rattle.asker.specs.declared.Why.the-variants as W
 use Rattle.asker.specs.declared.Asked.{Asked}

@@ -10,17 +10,17 @@ use Rattle.mapset.specs.Grid.{layers}
 use Rattle.mapset.specs.Areas.{Sound}
 use Rattle.mapset.specs.Sound.{StartsAt, EpochsSay}
 use Rattle.mapset.specs.SoundLaws.{sound-groups}
-use Rattle.asker.specs.Place.{InCell100}
-use Rattle.asker.specs.Time.{Uses}
-use Rattle.asker.specs.Found.{Regular, Spanned}
-use Rattle.asker.specs.TimeLaws.{regular, last-epoch, shares-small}
-use Rattle.asker.specs.Value.{kind-of, Valued, spread, weight, mean}
+use Rattle.cells.specs.Place.{InCell100}
+use Rattle.spans.specs.Time.{Uses}
+use Rattle.spans.specs.Spans.{Regular, Spanned}
+use Rattle.spans.specs.TimeLaws.{regular, last-epoch, shares-small}
+use Rattle.nodes.specs.Value.{kind-of, Valued, spread, weight, mean}
 use Rattle.asker.specs.Ask.{Question, Told, in-told, Guard, go, Known, InTime, area, shape, asked, Rounded, Answers}
-use Rattle.asker.specs.Sums.{Summable}
-use Rattle.asker.specs.SumLaws.{mean-is}
+use Rattle.nodes.specs.Sums.{Summable}
+use Rattle.asker.specs.MeanLaws.{mean-is}
 use Rattle.asker.specs.ReachLaws.{some-weight, summable}
-use Rattle.asker.specs.declared.place.Cell.{Cell}
-use Rattle.asker.specs.declared.time.Shares.{Shares}
+use Rattle.cells.specs.declared.Cell.{Cell}
+use Rattle.spans.specs.declared.Shares.{Shares}
 
 starts : (first : ℕ) (es : List ℕ) → StartsAt first es → (1 ≤ length es) × (getD es 0 0 ≡ first)
 starts first [] h = absurd h

@@ -13,18 +13,18 @@ use Rattle.kit.specs.Answer.{All}
 use Rattle.kit.specs.Parts.{add-parts, sub-parts2, scale-up, scale-dn, eq-parts, abs-scale}
 use Rattle.mapset.specs.Areas.{Sound}
 use Rattle.mapset.specs.declared.Kind.{Kind}
-use Rattle.asker.specs.Round.{apart, Nearest, rounded}
-use Rattle.asker.specs.RoundLaws.{round-nearest, nearest-unique}
-use Rattle.asker.specs.Time.{epoch, NearestMap, shared, Uses, nearest, between, last}
-use Rattle.asker.specs.Found.{Regular}
-use Rattle.asker.specs.TimeLaws.{uses-once, nearest-last, nearest-early}
-use Rattle.asker.specs.Value.{kind-of, corner, corners, spread, Term, terms, value, Valued, or-zero, weighted, weight}
+use Rattle.rounding.specs.Round.{apart, Nearest, rounded}
+use Rattle.rounding.specs.RoundLaws.{round-nearest, nearest-unique}
+use Rattle.spans.specs.Time.{epoch, NearestMap, shared, Uses, nearest, between, last}
+use Rattle.spans.specs.Spans.{Regular}
+use Rattle.spans.specs.TimeLaws.{uses-once, nearest-last, nearest-early}
+use Rattle.nodes.specs.Value.{kind-of, corner, corners, spread, Term, terms, value, Valued, or-zero, weighted, weight}
 use Rattle.asker.specs.Ask.{Question, Told, in-unit, in-told, Guard, stop, go, Known, InTime, Inside, area, shape, asked, Rounded, Blended, Answers}
 use Rattle.asker.specs.AskLaws.{epochs, steady, has-weight}
 use Rattle.asker.specs.Once.{mean-once, weighs-is}
-use Rattle.asker.specs.declared.place.Cell.{Cell}
-use Rattle.asker.specs.declared.time.Shares.{Shares}
-use Rattle.asker.specs.declared.value.Weighed.{Weighed}
+use Rattle.cells.specs.declared.Cell.{Cell}
+use Rattle.spans.specs.declared.Shares.{Shares}
+use Rattle.nodes.specs.declared.Weighed.{Weighed}
 
 -- ---- a map's epoch is the second: its share is all
 uses-at : (es : List ℕ) → Regular es → (t method i : ℕ) → method < 2 → i < length es → epoch es i ≡ t → (g : ℕ) × ((1 ≤ g) × Uses es t method (shared i g 0))

@@ -12,13 +12,13 @@ use Rattle.kit.specs.Parts.{up, dn, add-parts, scale-up, scale-dn, parts-le, le
 use Rattle.kit.specs.Integer.{Between}
 use Rattle.mapset.specs.declared.Kind.{Kind}
 use Rattle.mapset.specs.declared.Kind.the-variants.{Tec as tec, Rms as rms, Height as height}
-use Rattle.asker.specs.Round.{rounded}
-use Rattle.asker.specs.RoundLaws.{round-above, round-below, round-nearest, nearest-unique}
-use Rattle.asker.specs.Value.{kind-of, Term, IsSome, Valued, Mean, or-zero, weighted, weight}
+use Rattle.rounding.specs.Round.{rounded}
+use Rattle.rounding.specs.RoundLaws.{round-above, round-below, round-nearest, nearest-unique}
+use Rattle.nodes.specs.Value.{kind-of, Term, IsSome, Valued, Mean, or-zero, weighted, weight}
 use Rattle.asker.specs.Ask.{Question, Told, tecu, km, refused, in-unit, stop, go, Weighs, asked, Answers}
 use Rattle.asker.specs.AskLaws.{has-weight}
 use Rattle.asker.specs.Once.{weighs-is, weighs-once}
-use Rattle.asker.specs.declared.value.Weighed.{Weighed}
+use Rattle.nodes.specs.declared.Weighed.{Weighed}
 
 -- a needed node's value lies from lo to hi
 abbrev pub Bounds : ℤ → ℤ → Term → Type 0

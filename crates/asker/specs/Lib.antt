@@ -1,15 +1,6 @@
--- The root of the definitions.
-pub mod Round
-pub mod Place
-pub mod Time
-pub mod Value
+-- The question and its answer.
 pub mod Ask
-pub mod Found
-pub mod Sums
-pub mod RoundLaws
-pub mod PlaceLaws
-pub mod TimeLaws
-pub mod SumLaws
+pub mod MeanLaws
 pub mod ReachLaws
 pub mod AskLaws
 pub mod Once

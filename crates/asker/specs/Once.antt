@@ -6,16 +6,16 @@ use native.Mathlib.Decide.{ℕ-discrete}
 use Rattle.kit.specs.Answer.{pick}
 use Rattle.mapset.specs.Areas.{Sound}
 use Rattle.mapset.specs.declared.Kind.{Kind}
-use Rattle.asker.specs.RoundLaws.{nearest-unique}
-use Rattle.asker.specs.Place.{InCell100}
-use Rattle.asker.specs.PlaceLaws.{cell-once}
-use Rattle.asker.specs.TimeLaws.{uses-once}
-use Rattle.asker.specs.Value.{kind-of, Term, Valued, spread, weight, weighted}
+use Rattle.rounding.specs.RoundLaws.{nearest-unique}
+use Rattle.cells.specs.Place.{InCell100}
+use Rattle.cells.specs.PlaceLaws.{cell-once}
+use Rattle.spans.specs.TimeLaws.{uses-once}
+use Rattle.nodes.specs.Value.{kind-of, Term, Valued, spread, weight, weighted}
 use Rattle.asker.specs.Ask.{Question, Told, tecu, km, refused, in-unit, Guard, stop, go, Known, Inside, Weighs, asked, Rounded, Blended, Answers, number, told}
 use Rattle.asker.specs.AskLaws.{epochs, steady, has-weight}
-use Rattle.asker.specs.declared.place.Cell.{Cell}
-use Rattle.asker.specs.declared.time.Shares.{Shares}
-use Rattle.asker.specs.declared.value.Weighed.{Weighed}
+use Rattle.cells.specs.declared.Cell.{Cell}
+use Rattle.spans.specs.declared.Shares.{Shares}
+use Rattle.nodes.specs.declared.Weighed.{Weighed}
 use Rattle.asker.specs.declared.Why.{Why}
 use Rattle.asker.specs.declared.Why.the-variants as W
 use Rattle.asker.specs.declared.Asked.{Asked}

@@ -16,14 +16,14 @@ use Rattle.mapset.specs.Areas.{Present, Nowhere, nowhere?, blocks, values, Soun
 use Rattle.mapset.specs.declared.Kind.{Kind}
 use Rattle.mapset.specs.declared.Kind.the-variants.{Tec as tec, Rms as rms, Height as height}
 use Rattle.mapset.specs.SoundLaws.{header-groups, few-blocks, some-nodes}
-use Rattle.asker.specs.Place.{InCell100}
-use Rattle.asker.specs.Value.{kind-of, block, corners, spread, terms, weight}
+use Rattle.cells.specs.Place.{InCell100}
+use Rattle.nodes.specs.Value.{kind-of, block, corners, spread, terms, weight}
 use Rattle.asker.specs.Ask.{Question, area, shape}
-use Rattle.asker.specs.Sums.{Reached, Reaches, Shared, Summable}
-use Rattle.asker.specs.declared.place.Cell.{Cell}
-use Rattle.asker.specs.declared.time.Shares.{Shares}
-use Rattle.asker.specs.declared.value.Shape.{Shape}
-use Rattle.asker.specs.declared.value.Weighed.{Weighed}
+use Rattle.nodes.specs.Sums.{Reached, Reaches, Shared, Summable}
+use Rattle.cells.specs.declared.Cell.{Cell}
+use Rattle.spans.specs.declared.Shares.{Shares}
+use Rattle.nodes.specs.declared.Shape.{Shape}
+use Rattle.nodes.specs.declared.Weighed.{Weighed}
 
 -- ---- the steps of the axes
 pub latitude-step : (q : Question) → Sound (q .header) (q .texts) (q .areas) → (0 < natAbs (q .header .grid .latitudes .step)) × (natAbs (q .header .grid .latitudes .step) ≤ 150)

@@ -23,14 +23,14 @@ use Rattle.mapset.specs.declared.Axis.{Axis}
 use Rattle.mapset.specs.declared.System.{System}
 use Rattle.mapset.specs.declared.Header.{Header}
 use Rattle.mapset.specs.declared.Texts.{Texts}
-use Rattle.asker.specs.Round.{rounded}
-use Rattle.asker.specs.Place.{InCell100}
-use Rattle.asker.specs.Time.{alone, Uses, nearest}
-use Rattle.asker.specs.Value.{is-value?, worth, value, corners, spread, terms, weighted, weight, valued?, mean}
+use Rattle.rounding.specs.Round.{rounded}
+use Rattle.cells.specs.Place.{InCell100}
+use Rattle.spans.specs.Time.{alone, Uses, nearest}
+use Rattle.nodes.specs.Value.{is-value?, worth, value, corners, spread, terms, weighted, weight, valued?, mean}
 use Rattle.asker.specs.Ask.{Question, question, tecu, refused, Answers}
 use Rattle.asker.specs.AskLaws.{epochs, answered}
 use Rattle.asker.specs.Once.{answers-once}
-use Rattle.asker.specs.declared.place.Cell.{Cell}
+use Rattle.cells.specs.declared.Cell.{Cell}
 
 unfoldable pub axis : ℤ → ℤ → ℤ → Axis
 axis first last step = record { first = first; last = last; step = step }

@@ -4,24 +4,17 @@ ghost use Rattle.kit.specs.Range.{within?};
 ghost use Rattle.kit.specs.Truth.{truth};
 ghost use Rattle.mapset.specs.Sound.{areas};
 ghost use Rattle.asker.specs.Ask.{layout, question, Answers, told};
+use cells::Found;
 use mapset::Header;
 use mapset::Texts;
 use mapset::Times;
 use mapset::axes;
 use mapset::soundness;
-use place::Found;
-use value::Shape;
+pub use nodes::MilliKm;
+pub use nodes::MilliTecu;
+use nodes::Shape;
 
-mod place;
-mod round;
-mod time;
 mod value;
-
-// Thousandths of a TECU.
-pub struct MilliTecu(pub i32);
-
-// Thousandths of a kilometre.
-pub struct MilliKm(pub i32);
 
 // Why there is no value: 23, 31, 20, 21 and 22 of document 01.
 pub enum Why {
@@ -91,11 +84,11 @@ pub fn ask(
     if s.layers <= layer {
         return Asked::Refused(Why::OutOfPlace);
     }
-    match place::cell_of(header.grid, lat, lon) {
+    match cells::cell_of(header.grid, lat, lon) {
         Found::Outside => Asked::Refused(Why::OutOfPlace),
         Found::In(cell) => {
             let maps = header.times.maps as usize;
-            let shares = time::shares_of(&epochs[..maps], second, method);
+            let shares = spans::shares_of(&epochs[..maps], second, method);
             value::kind_value(shares, cell, cell, s, tec, rms, height, exponents, marks)
         }
     }

@@ -34,9 +34,9 @@ use Rattle.reading.specs.Maps.{short}
 use Rattle.reading.specs.Read.{begin, read}
 use Rattle.reading.specs.RecordLaws.{cells-yields}
 use Rattle.reading.specs.Exact.{refused-unmade}
-use Rattle.asker.specs.Round.{rounded}
-use Rattle.asker.specs.RoundLaws.{round-nearest}
-use Rattle.asker.specs.Value.{thousandths, Term, weighted, weight, Mean}
+use Rattle.rounding.specs.Round.{rounded}
+use Rattle.rounding.specs.RoundLaws.{round-nearest}
+use Rattle.nodes.specs.Value.{thousandths, Term, weighted, weight, Mean}
 
 -- a row of the table
 pub data Figure : Type 0 where

@@ -12,9 +12,10 @@ use Rattle.mapset.specs.declared.Kind.{Kind}
 use Rattle.mapset.specs.declared.Kind.the-variants.{Tec, Rms, Height}
 use Rattle.areas.specs.Stores.{first-of, before, with-mark, Inside, lengths, scanned}
 use Rattle.fill.specs.Rows.{Valued}
-use Rattle.fill.specs.Scan.{tells, due, Resumes, Resumed, six}
-use Rattle.fill.specs.declared.Event.{Event}
-use Rattle.fill.specs.declared.Event.the-variants.{Nothing, Epoch, Marked, Block}
+use Rattle.events.specs.Brings.{tells, due}
+use Rattle.fill.specs.Scan.{Resumes, Resumed, six}
+use Rattle.events.specs.declared.Event.{Event}
+use Rattle.events.specs.declared.Event.the-variants.{Nothing, Epoch, Marked, Block}
 
 -- ---- what an event asks of the areas
 

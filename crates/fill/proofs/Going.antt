@@ -20,11 +20,12 @@ use Rattle.areas.specs.Stores.{is, place, put-values, put-exponent, put-epoch, 
 use Rattle.areas.specs.Scan.{Now, Turn, at-first, values-ahead, on-epoch, turn, brought}
 use Rattle.areas.proofs.Scanned.{scanned-append}
 use Rattle.fill.specs.Rows.{rows-from, due-behind, Valued}
-use Rattle.fill.specs.Scan.{told, tells, due, turned, Takes, Turned, passed, taken, Resumed, first-state}
-use Rattle.fill.specs.declared.State.{State}
+use Rattle.events.specs.Brings.{told, tells, due, turned, Takes, first-state}
+use Rattle.fill.specs.Scan.{Turned, passed, taken, Resumed}
+use Rattle.events.specs.declared.State.{State}
 use Rattle.fill.specs.declared.Step.{Step}
-use Rattle.fill.specs.declared.Event.{Event}
-use Rattle.fill.specs.declared.Event.the-variants.{Nothing}
+use Rattle.events.specs.declared.Event.{Event}
+use Rattle.events.specs.declared.Event.the-variants.{Nothing}
 use Rattle.fill.proofs.StepLaws.{rows-end}
 
 -- ---- no store changes a length

@@ -1,10 +1,6 @@
-pub mod FieldLaws
-pub mod RowLaws
-pub mod StoreLaws
 pub mod FeedLaws
 pub mod StepLaws
 pub mod BlockLaws
 pub mod EventLaws
 pub mod Going
-pub mod ClearLaws
 pub mod Whole

@@ -9,10 +9,11 @@ use Rattle.reading.specs.Feed.{split, feed}
 use Rattle.lines.specs.Lines.{Skips, Rows}
 use Rattle.lines.proofs.Parts.{skip-in, row-in}
 use Rattle.fill.specs.Rows.{rows-of, rows-from}
-use Rattle.fill.specs.Scan.{Takes, Turned, passed, taken}
-use Rattle.fill.specs.declared.State.{State}
-use Rattle.fill.specs.declared.Event.{Event}
-use Rattle.fill.specs.declared.Event.the-variants.{Nothing}
+use Rattle.events.specs.Brings.{Takes}
+use Rattle.fill.specs.Scan.{Turned, passed, taken}
+use Rattle.events.specs.declared.State.{State}
+use Rattle.events.specs.declared.Event.{Event}
+use Rattle.events.specs.declared.Event.the-variants.{Nothing}
 use Rattle.fill.proofs.FeedLaws.{rows-skip, rows-row}
 
 -- behind the text there are no rows

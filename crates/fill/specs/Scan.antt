@@ -1,53 +1,17 @@
--- What the code's states and events mean, and what its functions promise.
+-- What the functions that go through a text promise.
 use mathlib.Core.Path.{_≡_}
-use mathlib.Core.List.{List, [], _∷_}
-use Prim.Native.Nat.{ℕ, _-_, _≤_, _<_}
+use mathlib.Core.List.{List, _∷_}
+use Prim.Native.Nat.{ℕ, _≤_, _<_}
 use lib.ListN.{length}
 use lib.IntN.{ℤ}
-use Rattle.mapset.specs.declared.Kind.the-variants.{Tec}
 use Rattle.mapset.specs.Areas.{Areas}
-use Rattle.layout.specs.Labels.{exponent}
-use Rattle.reading.specs.Fields.{label}
-use Rattle.areas.specs.Events as event
-use Rattle.areas.specs.Scan.{Now, now, Turn, values-ahead, on-block, turn, brought}
+use Rattle.areas.specs.Scan.{Now, brought}
 use Rattle.fill.specs.Rows.{rows-from, Valued}
-use Rattle.fill.specs.declared.State.{State}
+use Rattle.events.specs.Brings.{due, Takes}
+use Rattle.events.specs.declared.State.{State}
 use Rattle.fill.specs.declared.Step.{Step}
-use Rattle.fill.specs.declared.Brought.{Brought}
-use Rattle.fill.specs.declared.Event.{Event}
-use Rattle.fill.specs.declared.Event.the-variants.{Nothing, Epoch, Marked, Block}
-
-abbrev pub told : State → Now
-told s = now (s .kind) (s .number) (s .done) (s .exponent) (s .tecs)
-
--- what an event stores, where zs are the values behind its row
-abbrev pub tells : Event → List ℤ → List event.Event
-tells Nothing zs = []
-tells (Epoch i e) zs = event.epoch i e ∷ []
-tells (Marked k i) zs = event.marked k i ∷ []
-tells (Block k i b e) zs = event.block k i b (record { exponent = e; values = zs }) ∷ []
-
--- how many values come behind its row
-abbrev pub due : ℕ → Event → ℕ
-due C Nothing = 0
-due C (Epoch i e) = 0
-due C (Marked k i) = 0
-due C (Block k i b e) = C
-
--- what is brought, with rs behind the row, as a turn of the scan
-abbrev pub turned : ℕ → List (List ℕ) → Event → State → Turn
-turned C rs ev s = record { events = tells ev (values-ahead C rs); next = told s; due = due C ev }
-
--- `Takes s x ev s′`: the row x, met in the state s, brings ev and leads to s′
-abbrev pub Takes : State → List ℕ → Event → State → Type 0
-Takes s x ev s′ = (C : ℕ) (rs : List (List ℕ)) → turn C (told s) (label x) x rs ≡ turned C rs ev s′
-
--- a turn that no values follow
-abbrev pub Goes : Turn → Brought → Type 0
-Goes u r = (C : ℕ) (rs : List (List ℕ)) → u ≡ turned C rs (r .event) (r .state)
-
-abbrev pub Opened : State → Brought → Type 0
-Opened s r = (C : ℕ) (rs : List (List ℕ)) → on-block C (told s) rs ≡ turned C rs (r .event) (r .state)
+use Rattle.events.specs.declared.Event.{Event}
+use Rattle.events.specs.declared.Event.the-variants.{Nothing}
 
 -- ---- from one line to the next
 
@@ -71,7 +35,3 @@ pub record Resumed (t : List ℕ) (at C : ℕ) (ev : Event) (r : ℕ) : Type 0 w
 
 abbrev pub six : (a b c d : List ℤ) (e f : List ℕ) → Areas
 six a b c d e f = record { tec = a; rms = b; height = c; exponents = d; epochs = e; marks = f }
-
--- after END OF HEADER
-abbrev pub first-state : ℤ → State
-first-state e = record { kind = Tec; number = 0; done = 0; exponent = e; tecs = 0 }

@@ -16,8 +16,8 @@ use Rattle.reading.specs.Maps.{run}
 use Rattle.reading.specs.Head.{heading}
 use Rattle.reading.specs.HeadLaws.{Got}
 use Rattle.reading.specs.declared.Place.the-variants.{Between}
-use Rattle.head.specs.Got.{slots-of, texts-of, mode}
-use Rattle.head.specs.declared.State.{State}
+use Rattle.gathered.specs.Got.{slots-of, texts-of, mode}
+use Rattle.gathered.specs.declared.State.{State}
 use Rattle.head.specs.declared.Ahead.{Ahead}
 use Rattle.head.specs.declared.Ahead.the-variants as Ahead
 use Rattle.head.specs.declared.Headed.{Headed}

@@ -28,9 +28,9 @@ use Rattle.reading.specs.Head.{Turn, more, done, number-in, axis-in, made, made
 use Rattle.reading.specs.SlotLaws.{Fit, fit-no, fit, fit-none, complete-at}
 use Rattle.reading.specs.Read.{nothing-yet, code-of, begin, read}
 use Rattle.reading.specs.HeadLaws.{Got, Ends, fine-step}
-use Rattle.head.specs.Got.{slots-of, texts-of, mode, Went, went, ended, gone, stepped}
+use Rattle.gathered.specs.Got.{slots-of, texts-of, mode, Went, went, ended, gone, stepped}
 use Rattle.head.specs.Opened.{LeadsRow, HeaderFits, Sound, opened, Goes, Stops, beside, Opens}
-use Rattle.head.specs.declared.State.{State}
+use Rattle.gathered.specs.declared.State.{State}
 use Rattle.head.specs.declared.HeaderRead.{HeaderRead}
 use Rattle.head.specs.declared.Headed.{Headed}
 use Rattle.head.specs.declared.Headed.the-variants.{Refused, Accepted}

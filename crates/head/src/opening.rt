@@ -10,21 +10,18 @@ ghost use Rattle.reading.specs.Feed.{split, feed};
 ghost use Rattle.reading.specs.Head.{heading};
 ghost use Rattle.reading.specs.HeadLaws.{Got};
 ghost use Rattle.reading.specs.Read.{nothing-yet, read};
-ghost use Rattle.head.specs.Got.{slots-of, texts-of};
+ghost use Rattle.gathered.specs.Got.{slots-of, texts-of};
 ghost use Rattle.head.specs.Opened.{Leads, Passes, blank-texts, beside, Opens};
 use super::Ahead;
-use super::Coded;
 use super::Headed;
 use super::HeaderRead;
-use super::Next;
 use super::Onward;
 use super::Passed;
-use super::State;
-use super::got;
-use super::step;
-use super::version;
+use gathered::Next;
+use gathered::State;
 use lines::Line;
 use mapset::Texts;
+use records::Coded;
 
 // The next line that is not blank.
 fn row_from(text: &[u8], from: usize, passed: u64) -> Ahead
@@ -78,7 +75,7 @@ fn pass(s: State, code: u32, text: &[u8], from: usize, passed: u64) -> Passed
             state: s,
         },
         Ahead::Line(start, end, next, n) => {
-            let r = step::step(s, code, &text[start..end]);
+            let r = headlines::step(s, code, &text[start..end]);
             let turn = r.next;
             let t = r.state;
             match turn {
@@ -148,7 +145,7 @@ fn header_from(text: &[u8], from: usize, passed: u64, code: u32) -> HeaderRead
     requires { ⌜ (from ≤ length (now text)) × (passed ≤ from) ⌝ }
     ensures { λ r. ⌜ Opens (heading code plain (negsuc 0) nothing-yet (feed (suc passed) (split (drop from (now (text .entry)))))) (now (text .entry)) r ⌝ }
 {
-    let mut s = got::nothing();
+    let mut s = gathered::nothing();
     let mut at = from;
     let mut n = passed;
     loop {
@@ -184,7 +181,9 @@ pub fn read_header(text: &[u8]) -> HeaderRead
     match row_from(text, 0, 0) {
         Ahead::Over(n) => refusal(10, line_after(n), 0),
         Ahead::Bad(number, line, column) => refusal(number, line, column),
-        Ahead::Line(start, end, next, n) => match version::version_code(&text[start..end]) {
+        Ahead::Line(start, end, next, n) => match records::version::version_code(
+            &text[start..end],
+        ) {
             Coded::Refused(number, column) => refusal(number, n + 1, column),
             Coded::Code(code) => header_from(text, next, n + 1, code),
         },

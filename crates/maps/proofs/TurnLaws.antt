@@ -25,14 +25,14 @@ use Rattle.lines.specs.RunLaws.{in-front, resumed, run-values}
 use Rattle.lines.specs.declared.Block.{Block}
 use Rattle.lines.specs.declared.Line.the-variants.{Over, Bad}
 use Rattle.lines.proofs.BlockLaws.{short-at}
-use Rattle.maps.specs.Steps.{force-of, past-of, first-of, moved}
+use Rattle.mapsteps.specs.Steps.{force-of, past-of, first-of, moved}
 use Rattle.maps.specs.Turns.{told, told-after, from, ended-with, grow, Room, Fits, After, Goes, Turned, Keeps, Running}
-use Rattle.maps.specs.declared.Past.{Past}
-use Rattle.maps.specs.declared.Next.{Next}
-use Rattle.maps.specs.declared.Push.{Push}
-use Rattle.maps.specs.declared.Push.the-variants.{Keep, New}
-use Rattle.maps.specs.declared.Move.{Move}
-use Rattle.maps.specs.declared.Move.the-variants.{Go, Stop}
+use Rattle.mapsteps.specs.declared.Past.{Past}
+use Rattle.mapsteps.specs.declared.Next.{Next}
+use Rattle.mapsteps.specs.declared.Push.{Push}
+use Rattle.mapsteps.specs.declared.Push.the-variants.{Keep, New}
+use Rattle.mapsteps.specs.declared.Move.{Move}
+use Rattle.mapsteps.specs.declared.Move.the-variants.{Go, Stop}
 use Rattle.maps.specs.declared.Turn.{Turn}
 use Rattle.maps.specs.declared.Turn.the-variants.{On, Halt, Out}
 use Rattle.maps.specs.declared.Verdict.the-variants.{Fine, Wrong}

@@ -15,11 +15,11 @@ use Rattle.reading.specs.Maps.{Todo, finish, run}
 use Rattle.reading.specs.declared.Place.{Place}
 use Rattle.reading.specs.declared.Place.the-variants.{Ended, Between, Early, Inside}
 use Rattle.lines.specs.Blocks.{values, Done}
-use Rattle.maps.specs.Steps.{force-of}
-use Rattle.maps.specs.declared.Past.{Past}
-use Rattle.maps.specs.declared.Next.{Next}
-use Rattle.maps.specs.declared.Push.{Push}
-use Rattle.maps.specs.declared.Push.the-variants.{Keep, New}
+use Rattle.mapsteps.specs.Steps.{force-of}
+use Rattle.mapsteps.specs.declared.Past.{Past}
+use Rattle.mapsteps.specs.declared.Next.{Next}
+use Rattle.mapsteps.specs.declared.Push.{Push}
+use Rattle.mapsteps.specs.declared.Push.the-variants.{Keep, New}
 use Rattle.maps.specs.declared.Turn.{Turn}
 use Rattle.maps.specs.declared.Turn.the-variants.{On, Halt, Out}
 use Rattle.maps.specs.declared.Verdict.{Verdict}

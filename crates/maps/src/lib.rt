@@ -1,8 +1,4 @@
 // The maps of a text, judged: the first time over, which stores nothing that is lent.
-pub mod grid;
-pub mod records;
-pub mod steps;
-
 ghost use mathlib.Core.Path.{_≡_};
 ghost use mathlib.Core.List.{[]};
 ghost use Prim.Native.Nat.{suc, _+_, _<_, _≤_, _^_};
@@ -10,53 +6,16 @@ ghost use lib.ListN.{length, drop};
 ghost use Rattle.mapset.specs.Grid.{Limits};
 ghost use Rattle.reading.specs.Feed.{split, feed};
 ghost use Rattle.reading.specs.Maps.{run};
-ghost use Rattle.maps.specs.Steps.{force-of};
+ghost use Rattle.mapsteps.specs.Steps.{force-of};
 ghost use Rattle.maps.specs.Turns.{told, from, ended-with, After, Turned, Fits, Keeps};
 use lines::Block;
 use lines::Line;
 use mapset::Header;
-use mapset::Kind;
+use mapsteps::Move;
+use mapsteps::Next;
+use mapsteps::Past;
+use mapsteps::Push;
 use reading::Place;
-
-// What is in force besides the epochs: the exponent, and the numbers of the last RMS and height map, 0 before the first.
-pub struct Past {
-    pub exponent: i32,
-    pub rms: u64,
-    pub height: u64,
-}
-
-// An epoch to be remembered, or none.
-pub enum Push {
-    Keep,
-    New(u64),
-}
-
-// Where a record leads: the next place, what is then in force, and how many values come first.
-pub struct Next {
-    pub to: Place,
-    pub past: Past,
-    pub due: usize,
-    pub push: Push,
-}
-
-// What a record does: on, or a refusal's number and column.
-pub enum Move {
-    Go(Next),
-    Stop(u64, u64),
-}
-
-// What a label stands for among the maps.
-pub enum Role {
-    Comment,
-    Exponent,
-    Start(Kind),
-    End(Kind),
-    Epoch,
-    Block,
-    File,
-    Misplaced,
-    Unknown,
-}
 
 // The maps as they are judged: accepted, and whether some RMS and some height map stands; or a refusal's number, line and column.
 pub enum Verdict {
@@ -109,7 +68,7 @@ fn turn_at(
         ),
         Line::Row(width, next) => {
             let e = at + width;
-            match steps::step(header, place, past, epochs, &text[at..e]) {
+            match mapsteps::step(header, place, past, epochs, &text[at..e]) {
                 Move::Stop(number, column) => Turn::Halt(number, lines + 1, column),
                 Move::Go(x) => values_after(text, at + next, lines + 1, x),
             }

@@ -10,10 +10,10 @@ use Rattle.kit.specs.Truth.{truth-true, truth-false}
 use Rattle.mapset.specs.Grid.{layers}
 use Rattle.mapset.specs.Areas.{Sound}
 use Rattle.mapset.specs.Sound.{areas}
-use Rattle.asker.specs.Place.{InCell100}
-use Rattle.asker.specs.Found.{CellFound}
-use Rattle.asker.specs.declared.place.Cell.{Cell}
-use Rattle.asker.specs.declared.value.Shape.{Shape}
+use Rattle.cells.specs.Place.{InCell100}
+use Rattle.cells.specs.Found.{CellFound}
+use Rattle.cells.specs.declared.Cell.{Cell}
+use Rattle.nodes.specs.declared.Shape.{Shape}
 use Rattle.asker.specs.Ask.{Question, question, stop, go, Known, InTime}
 use Rattle.asker.specs.ReachLaws.{latitude-step, longitude-step}
 use Rattle.asker.specs.AskLaws.{steady, spanned, few-epochs, can-sum, has-weight, answered}

@@ -11,7 +11,7 @@ use Rattle.fill.proofs.fill_maps.Statement.{statement}
 use Rattle.fill.proofs.fill_maps.Tie as tie
 use Rattle.fill.proofs.fill_maps.Reads as reads
 use Rattle.fill.proofs.fill_maps.Lts as lts
-use Rattle.fill.proofs.prefill.Reads as prefill-reads
+use Rattle.stores.proofs.prefill.Reads as prefill-reads
 use Rattle.fill.proofs.scan.Reads as scan-reads
 
 prefill-requires : tie.Need-prefill-requires

@@ -7,7 +7,7 @@ use Rattle.fill.proofs.step_at.Statement.{statement}
 use Rattle.fill.proofs.step_at.Tie as tie
 use Rattle.fill.proofs.step_at.Reads as reads
 use Rattle.fill.proofs.step_at.Lts as lts
-use Rattle.fill.proofs.brought_by.Reads as brought-by-reads
+use Rattle.events.proofs.brought_by.Reads as brought-by-reads
 use Rattle.lines.proofs.line_in.Reads as line-in-reads
 
 sub-line-in : tie.Need-sub-line-in

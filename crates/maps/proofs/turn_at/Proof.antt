@@ -9,7 +9,7 @@ use Rattle.maps.proofs.turn_at.Tie as tie
 use Rattle.maps.proofs.turn_at.Reads as reads
 use Rattle.maps.proofs.turn_at.Lts as lts
 use Rattle.lines.proofs.line_in.Reads as line-in-reads
-use Rattle.maps.proofs.steps.step.Reads as step-reads
+use Rattle.mapsteps.proofs.step.Reads as step-reads
 use Rattle.maps.proofs.values_after.Reads as values-after-reads
 
 skips : (c : tie.After-next) → Skips (drop (c .before .before .before .before .before .before .args .at) (c .before .before .before .before .before .before .args .text .now)) (c .next .given .0 .0)

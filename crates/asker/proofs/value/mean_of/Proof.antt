@@ -8,11 +8,11 @@ use mir.Syntax.{w32, w64}
 use mir.Val.{toZ, ofZ, SFits}
 use mir.Facts.{toZ-ofZ}
 use Rattle.kit.specs.Parts.{size-fits}
-use Rattle.asker.specs.Round.{rounded}
-use Rattle.asker.specs.RoundLaws.{round-size}
-use Rattle.asker.specs.Sums.{Ready}
-use Rattle.asker.specs.SumLaws.{tecu-unit, km-unit}
-use Rattle.asker.specs.declared.value.Sum.the-variants as S
+use Rattle.rounding.specs.Round.{rounded}
+use Rattle.rounding.specs.RoundLaws.{round-size}
+use Rattle.nodes.specs.Sums.{Ready}
+use Rattle.asker.specs.MeanLaws.{tecu-unit, km-unit}
+use Rattle.nodes.specs.declared.Sum.the-variants as S
 use Rattle.asker.proofs.value.mean_of.Statement.{statement}
 use Rattle.asker.proofs.value.mean_of.Tie as tie
 

@@ -2,10 +2,10 @@
 use borrow.Author.Needs.{needs}
 use mathlib.Core.Path.{ap, _∙_}
 use denote.Ref.{now}
-use Rattle.asker.specs.Value.{kind-of, spread, terms}
+use Rattle.nodes.specs.Value.{kind-of, spread, terms}
 use Rattle.asker.specs.Ask.{in-told}
-use Rattle.asker.specs.Sums.{summed}
-use Rattle.asker.specs.SumLaws.{ready-terms, summed-mean}
+use Rattle.nodes.specs.Sums.{summed}
+use Rattle.nodes.specs.SumLaws.{ready-terms, summed-mean}
 use Rattle.asker.proofs.value.value_of.Statement.{statement}
 use Rattle.asker.proofs.value.value_of.Tie as tie
 

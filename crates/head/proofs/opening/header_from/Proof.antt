@@ -9,7 +9,7 @@ use Rattle.reading.specs.Feed.{split, feed}
 use Rattle.reading.specs.Head.{heading}
 use Rattle.reading.specs.HeadLaws.{Got}
 use Rattle.reading.specs.Read.{nothing-yet}
-use Rattle.head.specs.Got.{slots-of, texts-of}
+use Rattle.gathered.specs.Got.{slots-of, texts-of}
 use Rattle.head.specs.Opened.{from-state, Goes, Stops, Passes}
 use Rattle.head.specs.OpenedLaws.{begins, hands}
 use Rattle.head.specs.declared.Onward.{Onward}
@@ -19,7 +19,7 @@ use Rattle.head.proofs.opening.header_from.Reads as reads
 use Rattle.head.proofs.opening.header_from.Lts as lts
 use Rattle.head.proofs.opening.handed.Reads as handed-reads
 use Rattle.head.proofs.opening.pass.Reads as pass-reads
-use Rattle.head.proofs.got.nothing.Reads as nothing-reads
+use Rattle.gathered.proofs.nothing.Reads as nothing-reads
 
 -- the answer from the start is the answer from here
 abbrev Inv-loop : tie.InvT-loop

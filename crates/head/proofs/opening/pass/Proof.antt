@@ -4,9 +4,9 @@ use mathlib.Core.Path.{_≡_, refl, sym, ap, _∙_}
 use native.Mathlib.Omega.{arith}
 use mathlib.Core.Path.{subst}
 use lib.ListN.{length-take, length-drop}
-use Rattle.head.specs.Got.{toldNext}
+use Rattle.gathered.specs.Got.{toldNext}
 use Rattle.head.specs.Opened.{Leads, LeadsRow}
-use Rattle.head.specs.declared.Next.{Next}
+use Rattle.gathered.specs.declared.Next.{Next}
 use Rattle.head.specs.OpenedLaws.{stops-over, stops-bad, goes, stops-no, stops-done}
 use borrow.Author.Needs.{needs}
 use Rattle.head.proofs.opening.pass.Statement.{statement}
@@ -15,7 +15,7 @@ use Rattle.head.proofs.opening.pass.Reads as reads
 use Rattle.head.proofs.opening.pass.Lts as lts
 use Rattle.head.proofs.opening.line_after.Reads as line-after-reads
 use Rattle.head.proofs.opening.row_from.Reads as row-from-reads
-use Rattle.head.proofs.step.step.Reads as step-reads
+use Rattle.headlines.proofs.step.Reads as step-reads
 
 -- the row that was found
 led : (c : tie.After-known-told3) → let a = c .before .before .before .before .before .args in LeadsRow (a .text .now) (a .from) (a .passed) (c .before .start .given .0 .0) (c .before .start .given .0 .1 .0) (c .before .start .given .0 .1 .1 .0) (c .before .start .given .0 .1 .1 .1 .0)

@@ -1,0 +1,82 @@
+-- Numbers of records and nodes of axes.
+use mathlib.Core.Path.{_≡_, sym, ap, _∙_}
+use mathlib.Core.Logic.{inl, inr, ⊎-elim}
+use mathlib.Core.Bool.{true, false}
+use Prim.Native.Nat.{ℕ, _*_, _≤_, _<_, _^_}
+use native.Mathlib.Nat.{mul-le-mul, le-of-lt}
+use native.Mathlib.Decide.{ℕ-discrete}
+use native.Mathlib.Omega.{arith}
+use lib.Dec.{eqb}
+use lib.IntN.{ℤ, pos, negsuc, natAbs}
+use lib.Signed.{ltZ}
+use borrow.Author.Tests.{eqb-true, eqb-false}
+use mir.Syntax.{Width}
+use mir.Val.{SFits, ofZ}
+use mir.Facts.{toZ-ofZ}
+use Rattle.kit.specs.Answer.{⊎-dec, pick-yes, pick-no}
+use Rattle.kit.specs.Integer.{int?}
+use Rattle.kit.specs.Parts.{up, not-below-zero, below-zero, lt-true, lt-false, from-bits}
+use Rattle.mapset.specs.declared.Axis.{Axis}
+use Rattle.agreement.specs.Agreement.{differing}
+use Rattle.kit.specs.Truth.{truth, holds, fails, tells, truth-same, truth-true, truth-false}
+
+pub eqb-truth : (a b : ℕ) → eqb a b ≡ truth (ℕ-discrete a b)
+eqb-truth a b = tells (eqb a b) (ℕ-discrete a b) (eqb-true a b) (eqb-false a b)
+
+-- ---- a number that is not negative
+
+pub up-none : (x : ℤ) → ltZ x (pos 0) ≡ true → 0 ≡ up x
+up-none x e = sym (below-zero x e .0)
+
+pub up-size : (x : ℤ) → ltZ x (pos 0) ≡ false → natAbs x ≡ up x
+up-size x e = sym (not-below-zero x e .1)
+
+pub count-none : (z : ℤ) (n : ℕ) → ltZ z (pos 0) ≡ true → false ≡ truth (int? z (pos n))
+count-none (pos m) n e = let l = lt-true (pos m) (pos 0) e in absurd (omega arith)
+count-none (negsuc m) n e = fails (int? (negsuc m) (pos n)) (λ q. let z : _≡_ {A = ℕ} 0 1 = cc in omega arith)
+
+pub count-some : (z : ℤ) (n : ℕ) → ltZ z (pos 0) ≡ false → eqb (natAbs z) n ≡ truth (int? z (pos n))
+count-some (pos m) n e = eqb-truth m n ∙ truth-same (ℕ-discrete m n) (int? (pos m) (pos n)) (λ p. ap pos p) (λ p. cc)
+count-some (negsuc m) n e = let l = lt-false (negsuc m) (pos 0) e in absurd (omega arith)
+
+-- ---- the bits of two numbers
+
+pub same-bits : (w : Width) (x y : ℤ) → SFits w x → SFits w y → eqb (ofZ w x) (ofZ w y) ≡ truth (int? x y)
+same-bits w x y f g =
+    eqb-truth (ofZ w x) (ofZ w y)
+    ∙ truth-same (ℕ-discrete (ofZ w x) (ofZ w y)) (int? x y) (λ e. from-bits w x (ofZ w y) f e ∙ toZ-ofZ g) (λ e. ap (ofZ w) e)
+
+-- ---- a node's size
+
+pub scaled-small : (i : ℕ) (v : ℤ) → i < 2 ^ 31 → natAbs v ≤ 2 ^ 31 → i * natAbs v ≤ 2 ^ 62
+scaled-small i v h k = let m : i * natAbs v ≤ 2 ^ 31 * 2 ^ 31 = mul-le-mul (le-of-lt h) k in omega arith
+
+-- ---- H
+
+module _ (d : ℕ) (z w : ℤ) where
+  pub any-height : d ≡ 2 → true ≡ truth (⊎-dec (ℕ-discrete d 2) (int? z w))
+  any-height e = holds (⊎-dec (ℕ-discrete d 2) (int? z w)) (inl e)
+
+  pub this-height : ¬ (d ≡ 2) → truth (int? z w) ≡ truth (⊎-dec (ℕ-discrete d 2) (int? z w))
+  this-height n = truth-same (int? z w) (⊎-dec (ℕ-discrete d 2) (int? z w)) (λ e. inr e) (λ s. ⊎-elim (λ e. absurd (n e)) (λ e. e) s)
+
+-- ---- the three numbers of the longitudes
+
+module _ (a : Axis) (x y z : ℤ) where
+  pub first-differs : truth (int? x (a .first)) ≡ false → 9 ≡ differing a x y z
+  unfolding differing
+  first-differs e = sym (pick-no (int? x (a .first)) _ _ (truth-false _ e))
+
+  module _ (p : truth (int? x (a .first)) ≡ true) where
+    pub last-differs : truth (int? y (a .last)) ≡ false → 15 ≡ differing a x y z
+    unfolding differing
+    last-differs e = sym (pick-yes (int? x (a .first)) _ _ (truth-true _ p) ∙ pick-no (int? y (a .last)) _ _ (truth-false _ e))
+
+    module _ (q : truth (int? y (a .last)) ≡ true) where
+      pub step-differs : truth (int? z (a .step)) ≡ false → 21 ≡ differing a x y z
+      unfolding differing
+      step-differs e = sym (pick-yes (int? x (a .first)) _ _ (truth-true _ p) ∙ pick-yes (int? y (a .last)) _ _ (truth-true _ q) ∙ pick-no (int? z (a .step)) _ _ (truth-false _ e))
+
+      pub none-differs : truth (int? z (a .step)) ≡ true → 0 ≡ differing a x y z
+      unfolding differing
+      none-differs e = sym (pick-yes (int? x (a .first)) _ _ (truth-true _ p) ∙ pick-yes (int? y (a .last)) _ _ (truth-true _ q) ∙ pick-yes (int? z (a .step)) _ _ (truth-true _ e))

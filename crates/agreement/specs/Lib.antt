@@ -1,0 +1,2 @@
+-- What the maps' records must agree with.
+pub mod Agreement

@@ -1,0 +1,4 @@
+-- The cell of a place.
+pub mod Place
+pub mod Found
+pub mod PlaceLaws

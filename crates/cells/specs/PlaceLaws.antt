@@ -1,0 +1,113 @@
+-- A place falls into one cell at most.
+use mathlib.Core.Path.{_≡_, refl, sym, ap, _∙_}
+use mathlib.Core.Bool.{true, false}
+use mathlib.Core.Logic.{⊎-elim}
+use Prim.Native.Nat.{ℕ, _+_, _*_, _≤_, _<_}
+use native.Mathlib.Nat.{mul-le-mul-left, mul-le-mul-right, lt-of-not-le}
+use native.Mathlib.Decide.{decLe}
+use native.Mathlib.Omega.{arith}
+use lib.IntN.{ℤ, pos, negsuc, negℤ, natAbs, _+ℤ_, _-ℤ_, _*ℤ_}
+use lib.Signed.{ltZ}
+use Rattle.kit.specs.Parts.{up, dn, add-parts, sub-parts2, scale-up, scale-dn, eq-parts, abs-parts, one-zero, neg-up, neg-dn, lt-true, not-below-zero}
+use Rattle.mapset.specs.Grid.{nodes}
+use Rattle.mapset.specs.declared.Axis.{Axis}
+use Rattle.mapset.specs.declared.Grid.{Grid}
+use Rattle.cells.specs.Place.{Sits, along, InRow, Turned, InColumn, InCell}
+use Rattle.cells.specs.Found.{Located, RowFound, ColumnFound}
+use Rattle.cells.specs.declared.Cell.{Cell}
+use Rattle.cells.specs.declared.Spot.{Spot}
+use Rattle.cells.specs.declared.Spot.the-variants as S
+
+pub along-up : (d : ℤ) (k : ℕ) → ltZ d (pos 0) ≡ false → along d k ≡ pos k
+along-up (pos a) k e = refl
+along-up (negsuc a) k e = absurd (omega (arith, not-below-zero (negsuc a) e))
+
+pub along-down : (d : ℤ) (k : ℕ) → ltZ d (pos 0) ≡ true → along d k ≡ negℤ (pos k)
+along-down (pos a) k e = absurd (omega (arith, lt-true (pos a) (pos 0) e))
+along-down (negsuc a) k e = refl
+
+pub along-zero : (d : ℤ) → along d 0 ≡ pos 0
+along-zero (pos a) = refl
+along-zero (negsuc a) = refl
+
+along-size : (d : ℤ) (k : ℕ) → natAbs (along d k) ≡ k
+along-size (pos a) k = refl
+along-size (negsuc a) k = omega (arith, abs-parts (negℤ (pos k)), neg-up (pos k), neg-dn (pos k))
+
+along-once : (p d : ℤ) (k l : ℕ) → p ≡ along d k → p ≡ along d l → k ≡ l
+along-once p d k l e f = sym (along-size d k) ∙ ap natAbs (sym e ∙ f) ∙ along-size d l
+
+-- an offset is no larger than its two numbers allow
+pub offset-size : (p o : ℤ) → natAbs (p -ℤ (pos 10 *ℤ o)) ≤ natAbs p + 10 * natAbs o
+offset-size p o =
+    let z : ℤ = p -ℤ (pos 10 *ℤ o) in
+    let a = sub-parts2 p (pos 10 *ℤ o) in
+    let b = scale-up 10 o in
+    let c = scale-dn 10 o in
+    let e = abs-parts z in
+    let f = abs-parts p in
+    let g = abs-parts o in
+    ⊎-elim (λ o. omega arith) (λ o. omega arith) (one-zero z)
+
+-- ---- what is located is found
+pub row-found : (a : Axis) (lat : ℤ) (x : ℕ) (s : Spot) → lat -ℤ (pos 10 *ℤ a .first) ≡ along (a .step) x → Located x (10 * natAbs (a .step)) (nodes a) s → RowFound a lat s
+row-found a lat x (S.At i f) e g = record { far = x; from-first = e; sits = g }
+row-found a lat x S.Outside e g = λ i f r. g i f (rw (along-once _ (a .step) x (r .far) e (r .from-first)) (r .sits))
+
+-- ---- no second answer fits
+module _ (step n x i f j g : ℕ) (a : Sits step n x i f) (b : Sits step n x j g) where
+  not-below : i < j → ⊥
+  not-below h = omega (arith, mul-le-mul-left step h, a .place, b .place, a .less)
+
+sits-once : (step n x i f j g : ℕ) → Sits step n x i f → Sits step n x j g → (i ≡ j) × (f ≡ g)
+sits-once step n x i f j g a b = by (decLe i j) (decLe j i)
+  where
+    by : Dec (i ≤ j) → Dec (j ≤ i) → (i ≡ j) × (f ≡ g)
+    by (yes p) (yes q) = let e : i ≡ j = omega arith in (e, omega (arith, a .place, b .place, ap (λ (k : ℕ). step * k) e))
+    by (yes p) (no q) = absurd (not-below step n x i f j g a b (lt-of-not-le q))
+    by (no p) (yes q) = absurd (not-below step n x j g i f b a (lt-of-not-le p))
+    by (no p) (no q) = absurd (omega arith)
+
+turned-once : (turn : ℕ) (x : ℤ) (r s : ℕ) → Turned turn x r → Turned turn x s → r ≡ s
+turned-once turn x r s a b =
+    let k = a .turns in
+    let l = b .turns in
+    let p : up x + turn * dn k ≡ dn x + (r + turn * up k) = rw (a .whole) (omega (arith, add-parts (pos r) (pos turn *ℤ k), scale-up turn k, scale-dn turn k)) in
+    let q : up x + turn * dn l ≡ dn x + (s + turn * up l) = rw (b .whole) (omega (arith, add-parts (pos s) (pos turn *ℤ l), scale-up turn l, scale-dn turn l)) in
+    by (decLe (up k + dn l) (up l + dn k)) (decLe (up l + dn k) (up k + dn l)) (omega arith)
+  where
+    by : Dec (up (a .turns) + dn (b .turns) ≤ up (b .turns) + dn (a .turns)) → Dec (up (b .turns) + dn (a .turns) ≤ up (a .turns) + dn (b .turns)) →
+        r + (turn * up (a .turns) + turn * dn (b .turns)) ≡ s + (turn * up (b .turns) + turn * dn (a .turns)) → r ≡ s
+    by (yes f) (yes g) e = omega (arith, mul-le-mul-left turn f, mul-le-mul-left turn g)
+    by (yes f) (no g) e = absurd (omega (arith, mul-le-mul-left turn (lt-of-not-le g), a .below))
+    by (no f) (yes g) e = absurd (omega (arith, mul-le-mul-left turn (lt-of-not-le f), b .below))
+    by (no f) (no g) e = absurd (omega arith)
+
+-- a number of turns, in parts
+pub turned-by : (turn : ℕ) (x : ℤ) (r : ℕ) (k : ℤ) → r < turn → up x + turn * dn k ≡ dn x + (r + turn * up k) → Turned turn x r
+turned-by turn x r k h e = record { below = h; turns = k; whole = eq-parts x (pos r +ℤ (pos turn *ℤ k)) (omega (arith, add-parts (pos r) (pos turn *ℤ k), scale-up turn k, scale-dn turn k)) }
+
+pub column-found : (a : Axis) (lon : ℤ) (x : ℕ) (s : Spot) → Turned 36000 (lon -ℤ (pos 10 *ℤ a .first)) x → Located x (10 * natAbs (a .step)) (nodes a) s → ColumnFound a lon s
+column-found a lon x (S.At i f) e g = record { east = x; from-first = e; sits = g }
+column-found a lon x S.Outside e g = λ i f r. g i f (rw (turned-once 36000 _ x (r .east) e (r .from-first)) (r .sits))
+
+row-once : (a : Axis) (lat : ℤ) (i f j g : ℕ) → InRow a lat i f → InRow a lat j g → (i ≡ j) × (f ≡ g)
+row-once a lat i f j g p q =
+    sits-once (10 * natAbs (a .step)) (nodes a) (q .far) i f j g (rw (along-once (lat -ℤ (pos 10 *ℤ a .first)) (a .step) (p .far) (q .far) (p .from-first) (q .from-first)) at (p .sits)) (q .sits)
+
+column-once : (unit turn : ℕ) (a : Axis) (lon : ℤ) (i f j g : ℕ) → InColumn unit turn a lon i f → InColumn unit turn a lon j g → (i ≡ j) × (f ≡ g)
+column-once unit turn a lon i f j g p q =
+    sits-once (unit * natAbs (a .step)) (nodes a) (q .east) i f j g (rw (turned-once turn (lon -ℤ (pos unit *ℤ a .first)) (p .east) (q .east) (p .from-first) (q .from-first)) at (p .sits)) (q .sits)
+
+pub cell-once : (unit turn : ℕ) (g : Grid) (lat lon : ℤ) (c d : Cell) → InCell unit turn g lat lon c → InCell unit turn g lat lon d → c ≡ d
+cell-once unit turn g lat lon c d p q =
+    let r = row-once (g .latitudes) lat (c .row) (c .down) (d .row) (d .down) (p .row) (q .row) in
+    let k = column-once unit turn (g .longitudes) lon (c .column) (c .across) (d .column) (d .across) (p .column) (q .column) in
+    let t : c .tall ≡ d .tall = p .tall ∙ sym (q .tall) in
+    let w : c .wide ≡ d .wide = p .wide ∙ sym (q .wide) in
+    let e : c .right ≡ d .right = p .right ∙ ap (λ (x : ℕ). x + 1) (k .0) ∙ sym (q .right) in
+    λ i. record { row = r .0 i; down = r .1 i; tall = t i; column = k .0 i; right = e i; across = k .1 i; wide = w i }
+
+-- a column's number is below a full turn
+pub column-small : (a : Axis) (lon : ℤ) (i f : ℕ) → 0 < natAbs (a .step) → InColumn 10 36000 a lon i f → i < 36000
+column-small a lon i f h c = omega (arith, c .sits .place, c .from-first .below, mul-le-mul-right {m = 1} {n = 10 * natAbs (a .step)} i (omega arith))

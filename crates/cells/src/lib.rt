@@ -1,0 +1,149 @@
+// Where a place lies among the rows and columns of a grid.
+ghost use mathlib.Core.Path.{_≡_};
+ghost use Prim.Native.Nat.{ℕ, _*_, _<_, _^_};
+ghost use lib.IntN.{ℤ, pos, natAbs, _-ℤ_, _*ℤ_};
+ghost use Rattle.cells.specs.Place.{Turned};
+ghost use Rattle.cells.specs.Found.{IsWay, Located, RowFound, ColumnFound, CellFound};
+use mapset::Axis;
+use mapset::Grid;
+use mapset::axes;
+
+// Between a row and the next, `down` of `tall` hundredths of a degree past the first; between a column and the one to
+// its right, `across` of `wide` past the first.
+pub struct Cell {
+    pub row: u64,
+    pub down: u64,
+    pub tall: u64,
+    pub column: u64,
+    pub right: u64,
+    pub across: u64,
+    pub wide: u64,
+}
+
+// How far something lies in a direction.
+enum Way {
+    Ahead(u64),
+    Behind,
+}
+
+// A node of an axis and how far past it.
+enum Spot {
+    At(u64, u64),
+    Outside,
+}
+
+pub enum Found {
+    In(Cell),
+    Outside,
+}
+
+// p hundredths less o tenths.
+fn offset(p: i32, o: i32) -> i64
+    ensures { λ r. ⌜ r ≡ p -ℤ (pos 10 *ℤ o) ⌝ }
+{
+    (p as i64) - 10 * (o as i64)
+}
+
+// x in the direction of d.
+fn toward(x: i64, d: i64) -> Way
+    requires { ⌜ natAbs x < 2 ^ 63 ⌝ }
+    ensures { λ r. ⌜ IsWay x d r ⌝ }
+{
+    let m = kit::magnitude(x);
+    if m == 0 {
+        return Way::Ahead(0);
+    }
+    if kit::negative(x) {
+        if kit::negative(d) {
+            Way::Ahead(m)
+        } else {
+            Way::Behind
+        }
+    } else {
+        if kit::negative(d) {
+            Way::Behind
+        } else {
+            Way::Ahead(m)
+        }
+    }
+}
+
+// x along n nodes that stand step apart.
+fn locate(x: u64, step: u64, n: u64) -> Spot
+    requires { ⌜ 0 < step ⌝ }
+    ensures { λ r. ⌜ Located x step n r ⌝ }
+{
+    let i = x / step;
+    let part = x % step;
+    if i < n {
+        if part == 0 {
+            return Spot::At(i, part);
+        }
+        if i + 1 < n {
+            return Spot::At(i, part);
+        }
+    }
+    Spot::Outside
+}
+
+// x brought by whole turns into 0 ≤ r < turn.
+fn turned(x: i64, turn: u64) -> u64
+    requires { ⌜ (0 < turn) × (natAbs x < 2 ^ 63) ⌝ }
+    ensures { λ r. ⌜ Turned turn x r ⌝ }
+{
+    let r = kit::magnitude(x) % turn;
+    if kit::negative(x) {
+        if r == 0 { 0 } else { turn - r }
+    } else {
+        r
+    }
+}
+
+// How far two nodes of an axis of degrees are apart.
+fn step_of(a: Axis) -> u64
+    ensures { λ r. ⌜ r ≡ 10 * natAbs (a .step) ⌝ }
+{
+    10 * axes::size(a.step)
+}
+
+fn row_of(a: Axis, lat: i32) -> Spot
+    requires { ⌜ 0 < natAbs (a .step) ⌝ }
+    ensures { λ r. ⌜ RowFound a lat r ⌝ }
+{
+    match toward(offset(lat, a.first), a.step as i64) {
+        Way::Behind => Spot::Outside,
+        Way::Ahead(x) => locate(x, step_of(a), axes::nodes(a)),
+    }
+}
+
+fn column_of(a: Axis, lon: i32) -> Spot
+    requires { ⌜ 0 < natAbs (a .step) ⌝ }
+    ensures { λ r. ⌜ ColumnFound a lon r ⌝ }
+{
+    locate(
+        turned(offset(lon, a.first), 36000),
+        step_of(a),
+        axes::nodes(a),
+    )
+}
+
+pub fn cell_of(g: Grid, lat: i32, lon: i32) -> Found
+    requires { ⌜ (0 < natAbs (g .latitudes .step)) × (0 < natAbs (g .longitudes .step)) ⌝ }
+    ensures { λ r. ⌜ CellFound g lat lon r ⌝ }
+{
+    match row_of(g.latitudes, lat) {
+        Spot::Outside => Found::Outside,
+        Spot::At(row, down) => match column_of(g.longitudes, lon) {
+            Spot::Outside => Found::Outside,
+            Spot::At(column, across) => Found::In(Cell {
+                row: row,
+                down: down,
+                tall: step_of(g.latitudes),
+                column: column,
+                right: column + 1,
+                across: across,
+                wide: step_of(g.longitudes),
+            }),
+        },
+    }
+}

@@ -1,0 +1,2 @@
+-- What a row brings.
+pub mod Brings

@@ -1,0 +1,27 @@
+use mathlib.Core.Path.{ap}
+use Rattle.kit.specs.Answer.{ok, bind}
+use Rattle.layout.specs.Layout.{Slots}
+use Rattle.gathered.specs.Got.{kept, went, mode}
+use Rattle.gathered.specs.GotLaws.{observables-kept}
+use Rattle.records.specs.RecordLaws.{observables-says}
+use borrow.Author.Needs.{needs}
+use Rattle.gathered.proofs.keep_observables.Statement.{statement}
+use Rattle.gathered.proofs.keep_observables.Tie as tie
+use Rattle.gathered.proofs.keep_observables.Reads as reads
+use Rattle.gathered.proofs.keep_observables.Lts as lts
+use Rattle.gathered.proofs.text60.Reads as text60-reads
+
+text60-requires : tie.Need-text60-requires
+text60-requires c κs = search needs
+
+element-write-t : tie.Need-element-write-t
+element-write-t c = search needs
+
+returns : tie.Need-returns
+unfolding kept bind
+returns c =
+    let a = c .before .before .args in
+    rw (observables-says _ (c .before .before .pre), c .text60 .ensures) (ap (λ (z : Slots). ok (went (mode (a .s .aux)) (a .s .exponent) z)) (observables-kept (a .s) (search needs) _))
+
+pub keep-observables-spec : {M : Type 1} → statement M
+keep-observables-spec = tie.close (tie.spec text60-requires element-write-t returns)

@@ -1,0 +1,91 @@
+use Rattle.layout.specs.Text.{pad}
+use mathlib.Core.Path.{_≡_, sym, ap, _∙_}
+use native.Mathlib.Omega.{arith}
+use Prim.Native.Nat.{_+_}
+use mathlib.Core.Path.{subst}
+use borrow.Author.Tests.{le-ltb, lt-ltb}
+use Rattle.mapset.specs.Header.{Content, system}
+use Rattle.layout.specs.Labels.{content}
+use Rattle.reading.specs.SlotLaws.{system-content}
+use Rattle.records.specs.Records.{toldHeard}
+use Rattle.gathered.specs.Got.{kept}
+use Rattle.records.specs.Tables.{Numbers}
+use Rattle.records.specs.Records.{entry}
+use Rattle.headlines.specs.StepLaws.{letter-is, is-fresh, is-repeated}
+use borrow.Author.Needs.{needs}
+use Rattle.headlines.proofs.at_system.Statement.{statement}
+use Rattle.headlines.proofs.at_system.Tie as tie
+use Rattle.headlines.proofs.at_system.Reads as reads
+use Rattle.headlines.proofs.at_system.Lts as lts
+use Rattle.gathered.proofs.keep.Reads as keep-reads
+use Rattle.gathered.proofs.refuse.Reads as refuse-reads
+use Rattle.records.proofs.content.hear_system.Reads as hear-system-reads
+use Rattle.headlines.proofs.letter_place.Reads as letter-place-reads
+use Rattle.headlines.proofs.no_system.Reads as no-system-reads
+use Rattle.fields.proofs.byte_at.Reads as byte-at-reads
+use Rattle.headlines.specs.Step.{if-below, by-letter, system-at}
+
+at-letter : (c : tie.After-letter-place) → let a = c .before .before .before .args in system-at (a .t1) (pad (a .line .now)) (if-below 7 (c .letter-place .result)) ≡ by-letter (a .t1) (pad (a .line .now))
+at-letter c = let a = c .before .before .before .args in letter-is (a .t1) (a .line .now) (c .letter-place .result) (c .before .byte-at .result) (c .before .byte-at .ensures) (c .letter-place .ensures)
+
+byte-at-requires : tie.Need-byte-at-requires
+byte-at-requires c κs = search needs
+
+letter-place-requires : tie.Need-letter-place-requires
+letter-place-requires c κs = search needs
+
+no-system-requires : tie.Need-no-system-requires
+no-system-requires c κs = search needs
+
+returns : tie.Need-returns
+unfolding system-at
+returns c = rw (← (at-letter (c .before .before)), le-ltb _ _ (c .before .if1 .taken)) (c .no-system .ensures)
+
+add-i : tie.Need-add-i
+add-i c = search needs
+
+element-copy-out-if2 : tie.Need-element-copy-out-if2
+element-copy-out-if2 c = search needs
+
+refuse-requires : tie.Need-refuse-requires
+refuse-requires c κs = search needs
+
+returns-2 : tie.Need-returns-2
+unfolding system-at
+returns-2 c =
+    let l = c .before .before .before .before in
+    let s = l .before .before .before .args .t1 in
+    rw (← (at-letter l), lt-ltb _ _ (c .before .before .before .if1 .left)) (c .refuse .ensures ∙ sym (is-repeated s (15 + l .letter-place .result) _ (omega arith) (c .before .if2 .taken)))
+
+hear-system-requires : tie.Need-hear-system-requires
+hear-system-requires c κs = search needs
+
+keep-requires : tie.Need-keep-requires
+keep-requires c κs = (omega arith, subst Numbers (sym (system-content (c .before .before .before .before .letter-place .result))) tt)
+
+returns-3 : tie.Need-returns-3
+unfolding system-at
+returns-3 c =
+    let l = c .before .before .before .before .before in
+    let a = l .before .before .before .args in
+    let h = c .before in
+    let k : toldHeard (content (15 + l .letter-place .result)) (h .hear-system .result) ≡ entry system (pad (a .line .now)) =
+    subst (λ (k : Content). toldHeard k (h .hear-system .result) ≡ entry system (pad (a .line .now))) (sym (system-content (l .letter-place .result))) (h .hear-system .ensures) in
+    rw (← (at-letter l), lt-ltb _ _ (c .before .before .before .before .if1 .left))
+    (c .keep .ensures ∙ ap (kept (a .t1) (15 + l .letter-place .result)) k ∙ sym (is-fresh (a .t1) (15 + l .letter-place .result) _ (omega arith) (c .before .before .if2 .left)))
+
+pub at-system-spec : {M : Type 1} → statement M
+at-system-spec =
+    tie.close
+    (tie.spec
+    byte-at-requires
+    letter-place-requires
+    no-system-requires
+    returns
+    add-i
+    element-copy-out-if2
+    refuse-requires
+    returns-2
+    hear-system-requires
+    keep-requires
+    returns-3)

@@ -1,0 +1,272 @@
+// A line of the header, after its version record.
+ghost use mathlib.Core.Path.{_≡_};
+ghost use mathlib.Core.Bool.{false, cond};
+ghost use mathlib.Core.Option.{none};
+ghost use mathlib.Core.List.{map};
+ghost use Prim.Native.Nat.{ℕ, _≤_, _<_};
+ghost use native.Mathlib.Decide.{ℕ-discrete};
+ghost use lib.Dec.{eqb};
+ghost use lib.ListN.{length, getD};
+ghost use Rattle.kit.specs.Answer.{ok, amap};
+ghost use Rattle.layout.specs.Text.{pad};
+ghost use Rattle.layout.specs.Labels.{content, labels, letters};
+ghost use Rattle.layout.specs.Layout.{plain};
+ghost use Rattle.reading.specs.Head.{place, on-end};
+ghost use Rattle.records.specs.Records.{entry};
+ghost use Rattle.gathered.specs.Got.{slots-of, mode, went, gone, told, stepped};
+ghost use Rattle.records.specs.Tables.{action, place-at};
+ghost use Rattle.headlines.specs.Step.{ended-in, fresh, exponent-in, if-below, system-at, by-letter, acted};
+use fields::Found;
+use gathered::Next;
+use gathered::State;
+use gathered::Stepped;
+use mapset::axes;
+use records::One;
+use records::Two;
+use records::content;
+
+// What is done at each label: 0 misplaced, 1 skipped, 2 EXPONENT, 3 a record of the header, 4 SYS, 5 an aux block is opened, 6 END OF HEADER.
+const ACTIONS: [u8; 32] = [
+    0,
+    3,
+    1,
+    1,
+    3,
+    3,
+    3,
+    3,
+    3,
+    3,
+    3,
+    3,
+    3,
+    4,
+    3,
+    3,
+    3,
+    3,
+    3,
+    2,
+    5,
+    0,
+    6,
+    0,
+    0,
+    0,
+    0,
+    0,
+    0,
+    0,
+    0,
+    0,
+];
+
+// The place of a record of the header.
+const PLACES: [usize; 32] = [
+    0,
+    0,
+    0,
+    0,
+    1,
+    2,
+    3,
+    4,
+    5,
+    6,
+    7,
+    8,
+    9,
+    0,
+    10,
+    11,
+    12,
+    13,
+    14,
+    0,
+    0,
+    0,
+    0,
+    0,
+    0,
+    0,
+    0,
+    0,
+    0,
+    0,
+    0,
+    0,
+];
+
+fn more(s: State) -> Stepped
+    ensures { λ r. ⌜ told r ≡ ok (went (mode (s .aux)) (s .exponent) (slots-of s)) ⌝ }
+{
+    Stepped {
+        next: Next::More,
+        state: s,
+    }
+}
+
+// The record at place i of the header, once.
+fn at_place(s: State, i: usize, line: &[u8]) -> Stepped
+    requires { ⌜ (i < 15) × (length (now line) ≤ 80) ⌝ }
+    ensures { λ r. ⌜ told r ≡ fresh s i (entry (content i) (pad (now (line .entry)))) ⌝ }
+{
+    if s.seen[i] {
+        return gathered::refuse(s, 5, 61);
+    }
+    let kind = content::KINDS[i];
+    if kind <= 5 {
+        return gathered::keep(s, i, content::hear(line, i));
+    }
+    if kind == 6 {
+        return gathered::keep_program(s, line);
+    }
+    if kind == 7 {
+        return gathered::keep_mapping(s, line);
+    }
+    gathered::keep_observables(s, line)
+}
+
+// The place of a system's letter in 01's list, 7 where it is none of them.
+fn letter_place(b: u8) -> usize
+    ensures { λ r. ⌜ if-below 7 r ≡ place ℕ-discrete b letters ⌝ }
+{
+    match b {
+        b'G' => 0,
+        b'R' => 1,
+        b'E' => 2,
+        b'C' => 3,
+        b'J' => 4,
+        b'I' => 5,
+        b'S' => 6,
+        _ => 7,
+    }
+}
+
+// A letter that is none of the seven is told after what is ill-formed.
+fn no_system(s: State, line: &[u8]) -> Stepped
+    requires { ⌜ length (now line) ≤ 80 ⌝ }
+    ensures { λ r. ⌜ told r ≡ system-at s (pad (now (line .entry))) none ⌝ }
+{
+    match content::system_record(line) {
+        Two::Wrong(column) => gathered::refuse(s, 6, column),
+        Two::Numbers(_, _) => gathered::refuse(s, 7, 6),
+    }
+}
+
+// SYS once per letter, which is taken as it stands in column 6.
+fn at_system(s: State, line: &[u8]) -> Stepped
+    requires { ⌜ length (now line) ≤ 80 ⌝ }
+    ensures { λ r. ⌜ told r ≡ by-letter s (pad (now (line .entry))) ⌝ }
+{
+    let j = letter_place(fields::byte_at(line, 5));
+    if 7 <= j {
+        return no_system(s, line);
+    }
+    let i = 15 + j;
+    if s.seen[i] {
+        return gathered::refuse(s, 5, 61);
+    }
+    gathered::keep(s, i, content::hear_system(line))
+}
+
+fn at_exponent(s: State, line: &[u8]) -> Stepped
+    requires { ⌜ length (now line) ≤ 80 ⌝ }
+    ensures { λ r. ⌜ told r ≡ exponent-in s (pad (now (line .entry))) ⌝ }
+{
+    match content::int_record(line) {
+        One::Wrong(column) => gathered::refuse(s, 6, column),
+        One::Number(z) => {
+            if axes::between(-3, 0, z) {
+                let mut t = s;
+                t.exponent = z;
+                return more(t);
+            }
+            gathered::refuse(s, 7, 1)
+        }
+    }
+}
+
+// END OF HEADER with its columns blank: a record is missing, the dimension disagrees, the grid is too large.
+fn ended(s: State, code: u32) -> Stepped
+    ensures { λ r. ⌜ told r ≡ ended-in code (slots-of s) ⌝ }
+{
+    if !gathered::complete(s) {
+        return gathered::refuse(s, 9, 0);
+    }
+    let header = gathered::header_of(s, code);
+    let model = header.model;
+    let times = header.times;
+    let grid = header.grid;
+    let agrees = axes::dimension_agrees(model.dimension, grid.heights);
+    let fits = axes::limits_hold(times.maps, grid);
+    if !agrees {
+        return gathered::refuse(s, 8, 0);
+    }
+    if !fits {
+        return gathered::refuse(s, 7, 0);
+    }
+    Stepped {
+        next: Next::Done(header),
+        state: s,
+    }
+}
+
+fn at_end(s: State, code: u32, line: &[u8]) -> Stepped
+    requires { ⌜ length (now line) ≤ 80 ⌝ }
+    ensures { λ r. ⌜ told r ≡ amap (gone code (slots-of s)) (on-end code (slots-of s) (pad (now (line .entry)))) ⌝ }
+{
+    match fields::first_not_blank(line, 0, 60) {
+        Found::At(column) => gathered::refuse(s, 6, column as u64),
+        Found::Nowhere => ended(s, code),
+    }
+}
+
+// A record with the k-th label, outside aux blocks.
+fn by_label(s: State, code: u32, k: usize, line: &[u8]) -> Stepped
+    requires { ⌜ (k < 32) × (length (now line) ≤ 80) × (s .aux ≡ false) ⌝ }
+    ensures { λ r. ⌜ told r ≡ acted (getD (map action labels) k 0) (getD (map place-at labels) k 0) s code (pad (now (line .entry))) ⌝ }
+{
+    let action = ACTIONS[k];
+    let place = PLACES[k];
+    match action {
+        1 => more(s),
+        2 => at_exponent(s, line),
+        3 => at_place(s, place, line),
+        4 => at_system(s, line),
+        5 => {
+            let mut t = s;
+            t.aux = true;
+            more(t)
+        }
+        6 => at_end(s, code, line),
+        _ => gathered::refuse(s, 5, 61),
+    }
+}
+
+// Inside an aux block every line but END OF AUX DATA is skipped.
+fn in_aux(s: State, k: usize) -> Stepped
+    ensures { λ r. ⌜ told r ≡ cond (eqb k 21) (ok (went plain (s .exponent) (slots-of s))) (ok (went (mode (s .aux)) (s .exponent) (slots-of s))) ⌝ }
+{
+    if k == 21 {
+        let mut t = s;
+        t.aux = false;
+        return more(t);
+    }
+    more(s)
+}
+
+// A line that is clean and not blank.
+pub fn step(s: State, code: u32, line: &[u8]) -> Stepped
+    requires { ⌜ length (now line) ≤ 80 ⌝ }
+    ensures { λ r. ⌜ told r ≡ stepped s code (pad (now (line .entry))) ⌝ }
+{
+    let k = layout::label_of(line);
+    if s.aux {
+        return in_aux(s, k);
+    }
+    if 32 <= k {
+        return gathered::refuse(s, 4, 61);
+    }
+    by_label(s, code, k, line)
+}

@@ -1,0 +1,2 @@
+-- What the code says of the maps' records.
+pub mod Records

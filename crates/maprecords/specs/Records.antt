@@ -1,0 +1,36 @@
+-- What the records of the maps hold, as the code has it.
+use Prim.Native.Nat.{ℕ}
+use Rattle.kit.specs.Answer.{Answer, ok, refused}
+use Rattle.fields.specs.declared.Field.{Field}
+use Rattle.fields.specs.declared.Found.{Found}
+use Rattle.fields.specs.declared.Triple.{Triple}
+use Rattle.fields.specs.declared.Triple.the-variants.{Three, Amiss}
+use Rattle.layout.specs.Records.{Vals}
+use Rattle.layout.specs.Labels.{exponent, block, layout}
+use Rattle.reading.specs.Feed.{Fault, fault}
+use Rattle.reading.specs.Fields.{number}
+use Rattle.reading.specs.ScanLaws.{unless}
+use Rattle.maprecords.specs.declared.One.{One}
+use Rattle.maprecords.specs.declared.One.the-variants as one
+use Rattle.maprecords.specs.declared.Dated.{Dated}
+use Rattle.maprecords.specs.declared.Dated.the-variants as dated
+use Rattle.maprecords.specs.declared.Opening.{Opening}
+use Rattle.maprecords.specs.declared.Opening.the-variants as opening
+
+-- ill-formed is 6
+abbrev pub told-one : One → Answer Fault (Vals (layout exponent))
+told-one (one.Number z) = ok (z, tt)
+told-one (one.Wrong c) = refused (fault 6 c)
+
+abbrev pub told-dated : Dated → Answer Fault ℕ
+told-dated (dated.At t) = ok t
+told-dated (dated.Refused k c) = refused (fault k c)
+
+abbrev pub told-opening : Opening → Answer Fault (Vals (layout block))
+told-opening (opening.Numbers a b c d e) = ok (a, (b, (c, (d, (e, tt)))))
+told-opening (opening.Wrong c) = refused (fault 6 c)
+
+-- five numbers, three and then two, and what must be blank behind them
+abbrev pub numbers-of : Triple → Field → Field → Found → Answer Fault (Vals (layout block))
+numbers-of (Amiss c) d e f = refused (fault 6 c)
+numbers-of (Three x y z) d e f = number d 21 (λ u. number e 27 (λ v. unless f (ok (x, (y, (z, (u, (v, tt))))))))

@@ -1,0 +1,109 @@
+// What the records of the maps hold.
+ghost use mathlib.Core.Path.{_≡_};
+ghost use Prim.Native.Nat.{_≤_};
+ghost use lib.ListN.{length};
+ghost use Rattle.kit.specs.Answer.{bind, ok};
+ghost use Rattle.calendar.specs.Calendar.{dated};
+ghost use Rattle.layout.specs.Text.{pad};
+ghost use Rattle.layout.specs.Labels as L;
+ghost use Rattle.reading.specs.Fields as R;
+ghost use Rattle.reading.specs.Maps.{date, on-date};
+ghost use Rattle.reading.specs.ScanLaws.{blank-to};
+ghost use Rattle.maprecords.specs.Records.{told-one, told-dated, told-opening, numbers-of};
+ghost use Rattle.fields.specs.Form.{F1};
+ghost use Rattle.fields.specs.Read.{readField};
+ghost use Rattle.fields.specs.Columns.{columns};
+ghost use Rattle.fields.specs.Rows.{threeAt};
+use calendar::Taken;
+use fields::Field;
+use fields::Found;
+use fields::Row;
+use fields::Triple;
+
+// A record's one number, or the column where it is ill-formed.
+pub enum One {
+    Number(i32),
+    Wrong(u64),
+}
+
+// The second of a record's date, or a refusal's number and column.
+pub enum Dated {
+    At(u64),
+    Refused(u64, u64),
+}
+
+// The five numbers that open a block, or the column where they are ill-formed.
+pub enum Opening {
+    Numbers(i32, i32, i32, i32, i32),
+    Wrong(u64),
+}
+
+// I6,54X: EXPONENT, and each START and END.
+pub fn one_number(line: &[u8]) -> One
+    requires { ⌜ length (now line) ≤ 80 ⌝ }
+    ensures { λ r. ⌜ told-one r ≡ R.fields L.exponent (pad (now (line .entry))) ⌝ }
+{
+    match fields::int_at(line, 0, 6) {
+        Field::Bad => One::Wrong(1),
+        Field::Number(z) => match fields::first_not_blank(line, 6, 60) {
+            Found::At(column) => One::Wrong(column as u64),
+            Found::Nowhere => One::Number(z),
+        },
+    }
+}
+
+fn second_of(year: i32, month: i32, day: i32, hour: i32, minute: i32, second: i32) -> Dated
+    ensures { λ r. ⌜ told-dated r ≡ on-date (dated year month day hour minute second) ok ⌝ }
+{
+    match calendar::take(year, month, day, hour, minute, second) {
+        Taken::At(t) => Dated::At(t),
+        Taken::Wrong(column) => Dated::Refused(7, column),
+    }
+}
+
+// 6I6,24X: EPOCH OF CURRENT MAP.
+pub fn epoch_in(line: &[u8]) -> Dated
+    requires { ⌜ length (now line) ≤ 80 ⌝ }
+    ensures { λ r. ⌜ told-dated r ≡ bind (R.fields L.epoch (pad (now (line .entry)))) (λ d. on-date (date d) ok) ⌝ }
+{
+    match fields::six_numbers(line) {
+        Row::Wrong(column) => Dated::Refused(6, column as u64),
+        Row::Six(year, month, day, hour, minute, second) => match fields::first_not_blank(
+            line,
+            36,
+            60,
+        ) {
+            Found::At(column) => Dated::Refused(6, column as u64),
+            Found::Nowhere => second_of(year, month, day, hour, minute, second),
+        },
+    }
+}
+
+fn numbers_in(line: &[u8]) -> Opening
+    ensures { λ r. ⌜ told-opening r ≡ numbers-of (threeAt F1 (now (line .entry)) 2) (readField F1 (columns (now (line .entry)) 20 6)) (readField F1 (columns (now (line .entry)) 26 6)) (blank-to (now (line .entry)) 32 60) ⌝ }
+{
+    match fields::three_numbers(line, 2, 1) {
+        Triple::Amiss(column) => Opening::Wrong(column as u64),
+        Triple::Three(latitude, first, last) => match fields::tenths_at(line, 20, 6) {
+            Field::Bad => Opening::Wrong(21),
+            Field::Number(step) => match fields::tenths_at(line, 26, 6) {
+                Field::Bad => Opening::Wrong(27),
+                Field::Number(height) => match fields::first_not_blank(line, 32, 60) {
+                    Found::At(column) => Opening::Wrong(column as u64),
+                    Found::Nowhere => Opening::Numbers(latitude, first, last, step, height),
+                },
+            },
+        },
+    }
+}
+
+// 2X,5F6.1,28X: LAT/LON1/LON2/DLON/H.
+pub fn opening_in(line: &[u8]) -> Opening
+    requires { ⌜ length (now line) ≤ 80 ⌝ }
+    ensures { λ r. ⌜ told-opening r ≡ R.fields L.block (pad (now (line .entry))) ⌝ }
+{
+    match fields::first_not_blank(line, 0, 2) {
+        Found::At(column) => Opening::Wrong(column as u64),
+        Found::Nowhere => numbers_in(line),
+    }
+}

@@ -1,0 +1,4 @@
+-- The nodes of a question: their values, weights and sum.
+pub mod Value
+pub mod Sums
+pub mod SumLaws

@@ -1,0 +1,316 @@
+-- A padded line's columns are the line's; and what a record says by the fields that the code reads.
+use mathlib.Core.Path.{_≡_, refl, sym, ap, ap₂, _∙_}
+use mathlib.Core.Bool.{true, false}
+use mathlib.Core.List.{List, [], _∷_}
+use Prim.Native.Nat.{ℕ, zero, suc, _+_, _-_, _≤_, _<_}
+use native.Mathlib.Nat.{suc-add, sub-zero}
+use native.Mathlib.Decide.{ℕ-discrete}
+use native.Mathlib.Omega.{arith}
+use lib.ListN.{length, take, drop}
+use lib.Seq.{drop-drop, take-take, take-nil}
+use lib.Dec.{leb}
+use lib.IntN.{ℤ, pos, negsuc, natAbs}
+use lib.Signed.{ltZ}
+use borrow.Author.Tests.{eq-eqb, ne-eqb, leb-true, leb-false}
+use Rattle.kit.specs.Answer.{Answer, ok, refused, need, need-yes, need-no, bind, amap, pick, pick-yes, pick-no, all-dec}
+use Rattle.kit.specs.Range.{natural?}
+use Rattle.kit.specs.Truth.{truth, fails, tells}
+use Rattle.kit.specs.Parts.{lt-true, lt-false}
+use Rattle.fields.specs.Form as form
+use Rattle.fields.specs.Read.{readField}
+use Rattle.fields.specs.Columns.{columns, further, firstNotBlank}
+use Rattle.fields.specs.ColumnLaws.{columns-padded}
+use Rattle.fields.specs.Rows.{threeAt, sixOf, numberOr}
+use Rattle.fields.specs.declared.Field.{Field}
+use Rattle.fields.specs.declared.Field.the-variants.{Number, Bad}
+use Rattle.fields.specs.declared.Found.{Found}
+use Rattle.fields.specs.declared.Found.the-variants.{At, Nowhere}
+use Rattle.fields.specs.declared.Triple.{Triple}
+use Rattle.fields.specs.declared.Triple.the-variants.{Three, Amiss}
+use Rattle.fields.specs.declared.Row.{Row}
+use Rattle.fields.specs.declared.Row.the-variants.{Six, Wrong}
+use Rattle.mapset.specs.Grid.{Line}
+use Rattle.mapset.specs.declared.Axis.{Axis}
+use Rattle.mapset.specs.declared.axes.Judged.the-variants as J
+use Rattle.mapset.specs.Decisions.{end?, step?, together?}
+use Rattle.mapset.specs.Judged.{judged}
+use Rattle.mapset.specs.Header.{count, tenths, epoch as an-epoch, axis, program, mapping, observables, system as a-system, Said, along, words, counts}
+use Rattle.layout.specs.Text.{pad}
+use Rattle.layout.specs.Records.{Item, I, F, X, A, U, Vals}
+use Rattle.layout.specs.Labels.{header-end, items}
+use Rattle.reading.specs.Feed.{Fault, fault}
+use Rattle.reading.specs.Fields.{number, blanks, blank, scan, fields}
+use Rattle.reading.specs.Head.{axis-of, meant}
+use Rattle.records.specs.Records.{int-in, tenths-in, version-in, system-in, axis-in, entry, toldHeard, unless, blank-to, alone-in, two-in, counts-after, ranged-in, judged-as}
+use Rattle.records.specs.declared.Heard.{Heard}
+use Rattle.records.specs.declared.Heard.the-variants as Heard
+
+-- ---- columns that must be blank
+
+further-one : (c : ℕ) (f : Found) → further c (further 1 f) ≡ further (suc c) f
+further-one c (At i) = ap At (omega arith)
+further-one c Nowhere = refl
+
+need-iff : {A P Q : Type 0} (d : Dec P) (e : Dec Q) (w : Fault) (x : Answer Fault A) → (P → Q) → (Q → P) → need d w x ≡ need e w x
+unfolding need
+need-iff (yes p) e w x f g = sym (need-yes e w x (f p))
+need-iff (no n) e w x f g = sym (need-no e w x (λ q. n (g q)))
+
+blank-cons : {A : Type 0} (b : ℕ) (bs : List ℕ) (c : ℕ) (x : Answer Fault A) → Dec (b ≡ 32)
+    → blank bs (suc c) x ≡ unless (further (suc c) (firstNotBlank bs)) x → blank (b ∷ bs) c x ≡ unless (further c (firstNotBlank (b ∷ bs))) x
+unfolding blank blanks firstNotBlank
+blank-cons b bs c x (yes e) ih =
+    let n : c + suc (blanks bs) ≡ suc c + blanks bs = omega arith in
+    rw (pick-yes (ℕ-discrete b 32) (suc (blanks bs)) 0 e, eq-eqb b 32 e, further-one c (firstNotBlank bs), n)
+    (need-iff (all-dec (λ b. ℕ-discrete b 32) (b ∷ bs)) (all-dec (λ b. ℕ-discrete b 32) bs) (fault 6 (suc c + blanks bs)) x (λ h. h .1) (λ h. (e, h)) ∙ ih)
+blank-cons b bs c x (no n) ih =
+    rw (pick-no (ℕ-discrete b 32) (suc (blanks bs)) 0 n, ne-eqb b 32 n) (need-no (all-dec (λ b. ℕ-discrete b 32) (b ∷ bs)) (fault 6 (c + 0)) x (λ h. n (h .0)))
+
+blank-first : {A : Type 0} (bs : List ℕ) (c : ℕ) (x : Answer Fault A) → blank bs c x ≡ unless (further c (firstNotBlank bs)) x
+blank-first [] c x = unfold blank firstNotBlank in need-yes (all-dec (λ b. ℕ-discrete b 32) []) (fault 6 (c + blanks [])) x tt
+blank-first (b ∷ bs) c x = blank-cons b bs c x (ℕ-discrete b 32) (blank-first bs (suc c) x)
+
+-- ---- the columns of a padded line
+
+drop-take : {A : Type 0} (a n : ℕ) (l : List A) → drop a (take n l) ≡ take (n - a) (drop a l)
+drop-take zero n l = rw sub-zero
+drop-take (suc a) zero l = let e : 0 - suc a ≡ 0 = omega arith in rw e
+drop-take (suc a) (suc n) [] = sym (take-nil (suc n - suc a))
+drop-take (suc a) (suc n) (x ∷ l) = let e : suc n - suc a ≡ n - a = omega arith in rw e (drop-take a n l)
+
+-- the values of the columns after the first a, by the line's columns
+abbrev pub scanned : ℕ → (is : List Item) → List ℕ → Answer Fault (Vals is)
+scanned a [] line = ok tt
+scanned a (I w ∷ is) line = number (readField form.I (columns line a w)) (suc a) (λ z. amap (λ vs. (z, vs)) (scanned (a + w) is line))
+scanned a (F w ∷ is) line = number (readField form.F1 (columns line a w)) (suc a) (λ z. amap (λ vs. (z, vs)) (scanned (a + w) is line))
+scanned a (X w ∷ is) line = unless (further (suc a) (firstNotBlank (columns line a w))) (scanned (a + w) is line)
+scanned a (A w ∷ is) line = amap (λ vs. (columns line a w, vs)) (scanned (a + w) is line)
+scanned a (U w ∷ is) line = scanned (a + w) is line
+
+abbrev width : List Item → ℕ
+width [] = 0
+width (I w ∷ is) = w + width is
+width (F w ∷ is) = w + width is
+width (X w ∷ is) = w + width is
+width (A w ∷ is) = w + width is
+width (U w ∷ is) = w + width is
+
+module _ (line : List ℕ) (fits : length line ≤ 80) where
+  column-run : (a w : ℕ) → a + w ≤ 60 → take w (drop a (take 60 (pad line))) ≡ columns line a w
+  unfolding pad
+  column-run a w h = ap (take w) (drop-take a 60 (pad line)) ∙ take-take w (60 - a) (drop a (pad line)) (omega arith) ∙ sym (columns-padded line a w (omega arith) fits)
+
+  later : (w : ℕ) (is : List Item) (a : ℕ) → scan (suc (a + w)) is (drop (a + w) (take 60 (pad line))) ≡ scanned (a + w) is line
+      → scan (suc a + w) is (drop w (drop a (take 60 (pad line)))) ≡ scanned (a + w) is line
+  later w is a e = rw (drop-drop w a (take 60 (pad line)), suc-add a w) e
+
+  scan-is : (is : List Item) (a : ℕ) → a + width is ≤ 60 → scan (suc a) is (drop a (take 60 (pad line))) ≡ scanned a is line
+  unfolding scan
+  scan-is [] a h = refl
+  scan-is (I w ∷ is) a h =
+      ap₂ (λ (bs : List ℕ) (x : Answer Fault (Vals is)). number (readField form.I bs) (suc a) (λ z. amap (λ vs. (z, vs)) x)) (column-run a w (omega arith)) (later w is a (scan-is is (a + w) (omega arith)))
+  scan-is (F w ∷ is) a h =
+      ap₂ (λ (bs : List ℕ) (x : Answer Fault (Vals is)). number (readField form.F1 bs) (suc a) (λ z. amap (λ vs. (z, vs)) x)) (column-run a w (omega arith)) (later w is a (scan-is is (a + w) (omega arith)))
+  scan-is (X w ∷ is) a h =
+      ap₂ (λ (bs : List ℕ) (x : Answer Fault (Vals is)). blank bs (suc a) x) (column-run a w (omega arith)) (later w is a (scan-is is (a + w) (omega arith)))
+      ∙ blank-first (columns line a w) (suc a) (scanned (a + w) is line)
+  scan-is (A w ∷ is) a h =
+      ap₂ (λ (bs : List ℕ) (x : Answer Fault (Vals is)). amap (λ vs. (bs, vs)) x) (column-run a w (omega arith)) (later w is a (scan-is is (a + w) (omega arith)))
+  scan-is (U w ∷ is) a h = later w is a (scan-is is (a + w) (omega arith))
+
+  pub read-is : (is : List Item) → width is ≤ 60 → scan 1 is (take 60 (pad line)) ≡ scanned 0 is line
+  read-is is h = scan-is is 0 (omega arith)
+
+-- ---- the records of numbers
+
+one-by : (z : Field) (f : Found) → amap (λ (v : ℤ × Unit {0}). v .0) (number z 1 (λ x. amap (λ vs. (x, vs)) (unless f (ok tt)))) ≡ alone-in z f
+unfolding amap number
+one-by (Number z) (At c) = refl
+one-by (Number z) Nowhere = refl
+one-by Bad f = refl
+
+module _ (line : List ℕ) (fits : length line ≤ 80) where
+  pub int-is : int-in (pad line) ≡ alone-in (readField form.I (columns line 0 6)) (blank-to line 6 60)
+  unfolding int-in fields blank-to
+  int-is = ap (amap (λ v. v .0)) (read-is line fits (I 6 ∷ X 54 ∷ []) (omega arith)) ∙ one-by (readField form.I (columns line 0 6)) (blank-to line 6 60)
+
+  pub tenths-is : tenths-in (pad line) ≡ alone-in (readField form.F1 (columns line 0 8)) (blank-to line 8 60)
+  unfolding tenths-in fields blank-to
+  tenths-is = ap (amap (λ v. v .0)) (read-is line fits (F 8 ∷ X 52 ∷ []) (omega arith)) ∙ one-by (readField form.F1 (columns line 0 8)) (blank-to line 8 60)
+
+  pub version-is : version-in (pad line) ≡ alone-in (readField form.F1 (columns line 0 8)) (blank-to line 8 20)
+  unfolding version-in fields blank-to
+  version-is = ap (amap (λ v. v .0)) (read-is line fits (F 8 ∷ X 12 ∷ []) (omega arith)) ∙ one-by (readField form.F1 (columns line 0 8)) (blank-to line 8 20)
+
+-- three numbers between columns that must be blank
+abbrev pub three-of : Triple → Found → Answer Fault (ℤ × ℤ × ℤ)
+three-of (Amiss c) g = refused (fault 6 c)
+three-of (Three x y z) g = unless g (ok (x, y, z))
+
+abbrev pub three-in : Found → Triple → Found → Answer Fault (ℤ × ℤ × ℤ)
+three-in f t g = unless f (three-of t g)
+
+three-by : (f : Found) (x y z : Field) (g : Found)
+    → amap (λ (v : ℤ × (ℤ × (ℤ × Unit {0}))). (v .0, v .1 .0, v .1 .1 .0))
+    (unless f (number x 3 (λ a. amap (λ vs. (a, vs)) (number y 9 (λ b. amap (λ vs. (b, vs)) (number z 15 (λ c. amap (λ vs. (c, vs)) (unless g (ok tt)))))))))
+    ≡ three-in f (numberOr x (Amiss 3) (λ a. numberOr y (Amiss 9) (λ b. numberOr z (Amiss 15) (λ c. Three a b c)))) g
+unfolding amap number
+three-by (At c) x y z g = refl
+three-by Nowhere Bad y z g = refl
+three-by Nowhere (Number a) Bad z g = refl
+three-by Nowhere (Number a) (Number b) Bad g = refl
+three-by Nowhere (Number a) (Number b) (Number d) (At c) = refl
+three-by Nowhere (Number a) (Number b) (Number d) Nowhere = refl
+
+module _ (line : List ℕ) (fits : length line ≤ 80) where
+  pub axis-is : axis-in (pad line) ≡ three-in (blank-to line 0 2) (threeAt form.F1 line 2) (blank-to line 20 60)
+  unfolding axis-in blank-to threeAt
+  axis-is =
+      ap (amap (λ v. (v .0, v .1 .0, v .1 .1 .0))) (read-is line fits (X 2 ∷ F 6 ∷ F 6 ∷ F 6 ∷ X 40 ∷ []) (omega arith))
+      ∙ three-by (blank-to line 0 2) (readField form.F1 (columns line 2 6)) (readField form.F1 (columns line 8 6)) (readField form.F1 (columns line 14 6)) (blank-to line 20 60)
+
+two-by : (f : Found) (t : List ℕ) (x y : Field) (g : Found)
+    → amap (λ (v : List ℕ × (ℤ × (ℤ × Unit {0}))). (v .1 .0, v .1 .1 .0))
+    (unless f (amap (λ vs. (t, vs)) (number x 7 (λ a. amap (λ vs. (a, vs)) (number y 13 (λ b. amap (λ vs. (b, vs)) (unless g (ok tt))))))))
+    ≡ unless f (two-in x y g)
+unfolding amap number
+two-by (At c) t x y g = refl
+two-by Nowhere t Bad y g = refl
+two-by Nowhere t (Number a) Bad g = refl
+two-by Nowhere t (Number a) (Number b) (At c) = refl
+two-by Nowhere t (Number a) (Number b) Nowhere = refl
+
+module _ (line : List ℕ) (fits : length line ≤ 80) where
+  pub system-is : system-in (pad line) ≡ unless (blank-to line 0 5) (counts-after line)
+  unfolding system-in fields blank-to
+  system-is =
+      ap (amap (λ v. (v .1 .0, v .1 .1 .0))) (read-is line fits (items a-system) (omega arith))
+      ∙ two-by (blank-to line 0 5) (columns line 5 1) (readField form.I (columns line 6 6)) (readField form.I (columns line 12 6)) (blank-to line 18 60)
+
+-- ---- ranges
+
+module _ (low high : ℕ) where
+  pub under-zero : (z : ℤ) → ltZ z (pos 0) ≡ true → false ≡ truth (natural? low high z)
+  under-zero (pos n) e = absurd (omega (arith, lt-true (pos n) (pos 0) e))
+  under-zero (negsuc n) e = fails (natural? low high (negsuc n)) (λ h. h)
+
+  pub below-low : (z : ℤ) → natAbs z < low → false ≡ truth (natural? low high z)
+  below-low (pos n) l = fails (natural? low high (pos n)) (λ h. omega (arith, h .0))
+  below-low (negsuc n) l = fails (natural? low high (negsuc n)) (λ h. h)
+
+  pub up-to : (z : ℤ) → ltZ z (pos 0) ≡ false → low ≤ natAbs z → leb (natAbs z) high ≡ truth (natural? low high z)
+  up-to (pos n) e l = tells (leb n high) (natural? low high (pos n)) (λ t. (l, leb-true n high t)) (λ t h. omega (arith, leb-false n high t, h .1))
+  up-to (negsuc n) e l = absurd (omega (arith, lt-false (negsuc n) (pos 0) e))
+
+-- ---- what they say
+
+pub bind-amap : {A B C : Type 0} (f : A → B) (g : B → Answer Fault C) (x : Answer Fault A) → bind (amap f x) g ≡ bind x (λ a. g (f a))
+unfolding bind amap
+bind-amap f g (ok a) = refl
+bind-amap f g (refused w) = refl
+
+pub count-says : (low high : ℕ) (r : List ℕ) → ranged-in low high (int-in r) ≡ entry (count low high) r
+unfolding ranged-in int-in entry meant fields
+count-says low high r = bind-amap _ _ _
+
+-- a number is told alike, whole or in tenths
+pub told-alike : (low high : ℕ) (h : Heard) → toldHeard (tenths low high) h ≡ toldHeard (count low high) h
+told-alike low high (Heard.Said v) = refl
+told-alike low high (Heard.Refused n c) = refl
+
+pub tenths-says : (low high : ℕ) (r : List ℕ) → ranged-in low high (tenths-in r) ≡ entry (tenths low high) r
+unfolding ranged-in tenths-in entry meant
+tenths-says low high r = bind-amap _ _ _
+
+-- what six numbers say, after which the rest must be blank
+abbrev pub epoch-in : Row → Found → Answer Fault Said
+epoch-in (Wrong c) f = refused (fault 6 c)
+epoch-in (Six y m d h i s) f = unless f (meant an-epoch (y, (m, (d, (h, (i, (s, tt)))))))
+
+abbrev Date : Type 0
+Date = ℤ × (ℤ × (ℤ × (ℤ × (ℤ × (ℤ × Unit {0})))))
+
+epoch-by : (a b c d e g : Field) (f : Found)
+    → bind (number a 1 (λ y. amap (λ vs. (y, vs)) (number b 7 (λ m. amap (λ vs. (m, vs)) (number c 13 (λ x. amap (λ vs. (x, vs)) (number d 19 (λ h. amap (λ vs. (h, vs)) (number e 25 (λ i. amap (λ vs. (i, vs)) (number g 31 (λ s. amap (λ vs. (s, vs)) (unless f (ok tt)))))))))))))) (meant an-epoch)
+    ≡ epoch-in (numberOr a (Wrong 1) (λ y. numberOr b (Wrong 7) (λ m. numberOr c (Wrong 13) (λ x. numberOr d (Wrong 19) (λ h. numberOr e (Wrong 25) (λ i. numberOr g (Wrong 31) (λ s. Six y m x h i s))))))) f
+unfolding bind amap number
+epoch-by Bad b c d e g f = refl
+epoch-by (Number y) Bad c d e g f = refl
+epoch-by (Number y) (Number m) Bad d e g f = refl
+epoch-by (Number y) (Number m) (Number x) Bad e g f = refl
+epoch-by (Number y) (Number m) (Number x) (Number h) Bad g f = refl
+epoch-by (Number y) (Number m) (Number x) (Number h) (Number i) Bad f = refl
+epoch-by (Number y) (Number m) (Number x) (Number h) (Number i) (Number s) (At n) = refl
+epoch-by (Number y) (Number m) (Number x) (Number h) (Number i) (Number s) Nowhere = refl
+
+module _ (line : List ℕ) (fits : length line ≤ 80) where
+  pub epoch-says : epoch-in (sixOf line) (blank-to line 36 60) ≡ entry an-epoch (pad line)
+  unfolding entry blank-to sixOf
+  epoch-says =
+      sym (ap (λ (x : Answer Fault Date). bind x (meant an-epoch)) (read-is line fits (items an-epoch) (omega arith))
+      ∙ epoch-by (readField form.I (columns line 0 6)) (readField form.I (columns line 6 6)) (readField form.I (columns line 12 6)) (readField form.I (columns line 18 6)) (readField form.I (columns line 24 6)) (readField form.I (columns line 30 6)) (blank-to line 36 60))
+
+judged-by : {P Q R S : Type 0} (p : Dec P) (q : Dec Q) (r : Dec R) (s : Dec S) (a : Axis)
+    → judged-as (pick p (pick q (pick r (pick s J.Fine J.Together) J.Step) J.Last) J.First) a ≡ need p (fault 7 3) (need q (fault 7 9) (need r (fault 7 15) (need s (fault 7 0) (ok (along a)))))
+unfolding pick need
+judged-by (no p) q r s a = refl
+judged-by (yes p) (no q) r s a = refl
+judged-by (yes p) (yes q) (no r) s a = refl
+judged-by (yes p) (yes q) (yes r) (no s) a = refl
+judged-by (yes p) (yes q) (yes r) (yes s) a = refl
+
+axis-meant : (l : Line) (v : ℤ × (ℤ × (ℤ × Unit {0}))) → judged-as (judged l (axis-of (v .0) (v .1 .0) (v .1 .1 .0))) (axis-of (v .0) (v .1 .0) (v .1 .1 .0)) ≡ meant (axis l) v
+unfolding judged meant
+axis-meant l v = judged-by (end? l (v .0)) (end? l (v .1 .0)) (step? l (v .1 .1 .0)) (together? l (axis-of (v .0) (v .1 .0) (v .1 .1 .0))) (axis-of (v .0) (v .1 .0) (v .1 .1 .0))
+
+pub bind-same : {A B : Type 0} (x : Answer Fault A) (f g : A → Answer Fault B) → ((a : A) → f a ≡ g a) → bind x f ≡ bind x g
+unfolding bind
+bind-same (ok a) f g h = h a
+bind-same (refused w) f g h = refl
+
+pub axis-says : (l : Line) (r : List ℕ) → bind (axis-in r) (λ v. judged-as (judged l (axis-of (v .0) (v .1) (v .2))) (axis-of (v .0) (v .1) (v .2))) ≡ entry (axis l) r
+unfolding axis-in entry
+axis-says l r = bind-amap _ _ (scan 1 (items (axis l)) (take 60 r)) ∙ bind-same (scan 1 (items (axis l)) (take 60 r)) _ _ (axis-meant l)
+
+-- a system's counts in their ranges
+unfoldable pub counted-in : ℤ → ℤ → Answer Fault Said
+counted-in a b = need (natural? 0 999999 a) (fault 7 7) (need (natural? 0 999999 b) (fault 7 13) (ok (counts (natAbs a) (natAbs b))))
+
+pub system-says : (r : List ℕ) → bind (system-in r) (λ v. counted-in (v .0) (v .1)) ≡ entry a-system r
+unfolding system-in entry meant counted-in fields
+system-says r = bind-amap _ _ _
+
+-- ---- the records of texts
+
+pub program-says : (line : List ℕ) → length line ≤ 80 → entry program (pad line) ≡ ok (words (columns line 0 20 ∷ columns line 20 20 ∷ columns line 40 20 ∷ []))
+unfolding entry meant bind amap
+program-says line fits = ap (λ x. bind x (meant program)) (read-is line fits (items program) (omega arith))
+
+pub observables-says : (line : List ℕ) → length line ≤ 80 → entry observables (pad line) ≡ ok (words (columns line 0 60 ∷ []))
+unfolding entry meant bind amap
+observables-says line fits = ap (λ x. bind x (meant observables)) (read-is line fits (items observables) (omega arith))
+
+abbrev pub mapping-in : Found → List ℕ → Found → Answer Fault Said
+mapping-in f t g = unless f (unless g (ok (words (t ∷ []))))
+
+mapping-by : (f : Found) (t : List ℕ) (g : Found) → bind (unless f (amap (λ vs. (t, vs)) (unless g (ok tt)))) (meant mapping) ≡ mapping-in f t g
+unfolding bind amap meant
+mapping-by (At c) t g = refl
+mapping-by Nowhere t (At c) = refl
+mapping-by Nowhere t Nowhere = refl
+
+pub mapping-says : (line : List ℕ) → length line ≤ 80 → mapping-in (blank-to line 0 2) (columns line 2 4) (blank-to line 6 60) ≡ entry mapping (pad line)
+unfolding entry blank-to
+mapping-says line fits =
+    sym (ap (λ x. bind x (meant mapping)) (read-is line fits (items mapping) (omega arith)) ∙ mapping-by (blank-to line 0 2) (columns line 2 4) (blank-to line 6 60))
+
+-- ---- END OF HEADER
+
+blank-by : {A : Type 0} (f : Found) (x : Answer Fault A) → bind (unless {A = Unit {0}} f (ok tt)) (λ v. x) ≡ unless f x
+unfolding bind
+blank-by (At c) x = refl
+blank-by Nowhere x = refl
+
+pub blank-says : {A : Type 0} (line : List ℕ) (x : Answer Fault A) → length line ≤ 80 → bind (fields header-end (pad line)) (λ v. x) ≡ unless (blank-to line 0 60) x
+unfolding fields blank-to
+blank-says line x fits = ap (λ y. bind y (λ v. x)) (read-is line fits (X 60 ∷ []) (omega arith)) ∙ blank-by (blank-to line 0 60) x

@@ -1,0 +1,140 @@
+-- A record's columns 1 to 60 as the code hands them on, and what a record says.
+use mathlib.Core.List.{List, [], _∷_}
+use Prim.Native.Nat.{ℕ, _+_, _-_}
+use lib.ListN.{take}
+use lib.IntN.{ℤ, pos, natAbs}
+use Rattle.kit.specs.Answer.{Answer, ok, refused, need, bind, amap, get, same}
+use Rattle.kit.specs.Integer.{int?}
+use Rattle.kit.specs.Range.{natural?}
+use Rattle.fields.specs.Form as form
+use Rattle.fields.specs.Read.{readField}
+use Rattle.fields.specs.Columns.{columns, further, firstNotBlank}
+use Rattle.fields.specs.declared.Field.{Field}
+use Rattle.fields.specs.declared.Found.{Found}
+use Rattle.fields.specs.declared.Found.the-variants.{At, Nowhere}
+use Rattle.mapset.specs.declared.Axis.{Axis}
+use Rattle.mapset.specs.declared.axes.Judged.{Judged}
+use Rattle.mapset.specs.declared.axes.Judged.the-variants as J
+use Rattle.mapset.specs.Header.{Content, count, tenths, epoch, axis, program, mapping, observables, system as a-system, Said, number, along, words, counts}
+use Rattle.layout.specs.Records.{F, X}
+use Rattle.layout.specs.Labels.{exponent, system, items, codes}
+use Rattle.reading.specs.Feed.{Fault, fault}
+use Rattle.reading.specs.Fields.{number as on-number, scan, fields}
+use Rattle.reading.specs.Head.{axis-of, meant, place}
+use Rattle.records.specs.declared.Value.{Value}
+use Rattle.records.specs.declared.One.{One}
+use Rattle.records.specs.declared.One.the-variants as One
+use Rattle.records.specs.declared.Two.{Two}
+use Rattle.records.specs.declared.Two.the-variants as Two
+use Rattle.records.specs.declared.Three.{Three}
+use Rattle.records.specs.declared.Three.the-variants as Three
+use Rattle.records.specs.declared.Heard.{Heard}
+use Rattle.records.specs.declared.Heard.the-variants as Heard
+use Rattle.records.specs.declared.Coded.{Coded}
+use Rattle.records.specs.declared.Coded.the-variants as Coded
+
+-- ---- the numbers of a record; ill-formed is 6
+abbrev pub toldOne : One → Answer Fault ℤ
+toldOne (One.Number z) = ok z
+toldOne (One.Wrong c) = refused (fault 6 c)
+
+abbrev pub toldTwo : Two → Answer Fault (ℤ × ℤ)
+toldTwo (Two.Numbers x y) = ok (x, y)
+toldTwo (Two.Wrong c) = refused (fault 6 c)
+
+abbrev pub toldThree : Three → Answer Fault (ℤ × ℤ × ℤ)
+toldThree (Three.Numbers x y z) = ok (x, y, z)
+toldThree (Three.Wrong c) = refused (fault 6 c)
+
+-- I6,54X
+unfoldable pub int-in : List ℕ → Answer Fault ℤ
+int-in r = amap (λ v. v .0) (fields exponent r)
+
+-- F8.1,52X
+unfoldable pub tenths-in : List ℕ → Answer Fault ℤ
+tenths-in r = amap (λ v. v .0) (scan 1 (items (tenths 0 0)) (take 60 r))
+
+-- the version record's F8.1,12X
+unfoldable pub version-in : List ℕ → Answer Fault ℤ
+version-in r = amap (λ v. v .0) (scan 1 (F 8 ∷ X 12 ∷ []) (take 60 r))
+
+-- 5X,A1,I6,I6,42X
+unfoldable pub system-in : List ℕ → Answer Fault (ℤ × ℤ)
+system-in r = amap (λ v. (v .1 .0, v .1 .1 .0)) (fields system r)
+
+-- 2X,3F6.1,40X, whichever axis it is
+unfoldable pub axis-in : List ℕ → Answer Fault (ℤ × ℤ × ℤ)
+axis-in r = amap (λ v. (v .0, v .1 .0, v .1 .1 .0)) (scan 1 (X 2 ∷ F 6 ∷ F 6 ∷ F 6 ∷ X 40 ∷ []) (take 60 r))
+
+-- ---- what a record says
+
+-- by what it holds
+unfoldable pub entry : Content → List ℕ → Answer Fault Said
+entry k r = bind (scan 1 (items k) (take 60 r)) (meant k)
+
+-- as the code has it, for records of numbers
+abbrev pub says : Content → Value → Said
+says (count low high) v = number (v .number)
+says (tenths low high) v = number (v .number)
+says epoch v = number (v .second)
+says (axis l) v = along (v .axis)
+says a-system v = counts (v .number) (v .satellites)
+says program v = words []
+says mapping v = words []
+says observables v = words []
+
+-- the second of six numbers that are a date
+abbrev pub date-says : ℤ → ℤ → ℤ → ℤ → ℤ → ℤ → Answer Fault Said
+date-says y m d h i s = meant epoch (y, (m, (d, (h, (i, (s, tt))))))
+
+abbrev pub numbered : ℕ → ℕ → Value
+numbered n m = record { number = n; satellites = m; second = 0; axis = axis-of (pos 0) (pos 0) (pos 0) }
+
+abbrev pub toldHeard : Content → Heard → Answer Fault Said
+toldHeard k (Heard.Said v) = ok (says k v)
+toldHeard k (Heard.Refused n c) = refused (fault n c)
+
+-- ---- the version record
+abbrev pub toldCoded : Coded → Answer Fault ℕ
+toldCoded (Coded.Code c) = ok c
+toldCoded (Coded.Refused n c) = refused (fault n c)
+
+-- ---- what the code looks at
+
+-- the first of the columns after the first a and up to e that is not blank
+unfoldable pub blank-to : List ℕ → ℕ → ℕ → Found
+blank-to line a e = further (a + 1) (firstNotBlank (columns line a (e - a)))
+
+-- 6 there, else x
+abbrev pub unless : {A : Type 0} → Found → Answer Fault A → Answer Fault A
+unless (At c) x = refused (fault 6 c)
+unless Nowhere x = x
+
+-- z, where what must be blank is
+abbrev pub alone-in : Field → Found → Answer Fault ℤ
+alone-in z f = on-number z 1 (λ x. unless f (ok x))
+
+-- two counts, and blanks
+abbrev pub two-in : Field → Field → Found → Answer Fault (ℤ × ℤ)
+two-in x y g = on-number x 7 (λ a. on-number y 13 (λ b. unless g (ok (a, b))))
+
+-- the counts of a system
+abbrev pub counts-after : List ℕ → Answer Fault (ℤ × ℤ)
+counts-after line = two-in (readField form.I (columns line 6 6)) (readField form.I (columns line 12 6)) (blank-to line 18 60)
+
+-- 7 where a number is out of its range
+unfoldable pub ranged-in : ℕ → ℕ → Answer Fault ℤ → Answer Fault Said
+ranged-in low high x = bind x (λ z. need (natural? low high z) (fault 7 1) (ok (number (natAbs z))))
+
+-- an axis as it is judged
+abbrev pub judged-as : Judged → Axis → Answer Fault Said
+judged-as J.First a = refused (fault 7 3)
+judged-as J.Last a = refused (fault 7 9)
+judged-as J.Step a = refused (fault 7 15)
+judged-as J.Together a = refused (fault 7 0)
+judged-as J.Fine a = ok (along a)
+
+-- version, type and code of the version record
+unfoldable pub judged-in : List ℕ → ℤ → Answer Fault ℕ
+judged-in line z =
+    need (int? z (pos 11)) (fault 3 1) (need (same (columns line 20 1) (73 ∷ [])) (fault 3 21) (get (place same (columns line 40 3) codes) (fault 3 41) ok))

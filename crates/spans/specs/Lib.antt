@@ -1,0 +1,4 @@
+-- The maps of a second.
+pub mod Time
+pub mod Spans
+pub mod TimeLaws

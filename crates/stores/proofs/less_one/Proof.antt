@@ -1,0 +1,14 @@
+use native.Mathlib.Omega.{arith}
+use Rattle.stores.proofs.less_one.Statement.{statement}
+use Rattle.stores.proofs.less_one.Tie as tie
+use Rattle.stores.proofs.less_one.Reads as reads
+use Rattle.stores.proofs.less_one.Lts as lts
+
+returns : tie.Need-returns
+returns c = omega arith
+
+returns-2 : tie.Need-returns-2
+returns-2 c = omega arith
+
+pub less-one-spec : {M : Type 1} → statement M
+less-one-spec = tie.close (tie.spec returns returns-2)

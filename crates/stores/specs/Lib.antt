@@ -1,0 +1,1 @@
+-- The stores promise what `areas` says of them; only their types are declared here.
