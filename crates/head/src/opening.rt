@@ -21,7 +21,7 @@ use gathered::Next;
 use gathered::State;
 use lines::Line;
 use mapset::Texts;
-use records::Coded;
+use version::Coded;
 
 // The next line that is not blank.
 fn row_from(text: &[u8], from: usize, passed: u64) -> Ahead
@@ -181,9 +181,7 @@ pub fn read_header(text: &[u8]) -> HeaderRead
     match row_from(text, 0, 0) {
         Ahead::Over(n) => refusal(10, line_after(n), 0),
         Ahead::Bad(number, line, column) => refusal(number, line, column),
-        Ahead::Line(start, end, next, n) => match records::version::version_code(
-            &text[start..end],
-        ) {
+        Ahead::Line(start, end, next, n) => match version::version_code(&text[start..end]) {
             Coded::Refused(number, column) => refusal(number, n + 1, column),
             Coded::Code(code) => header_from(text, next, n + 1, code),
         },

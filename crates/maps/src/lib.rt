@@ -6,15 +6,15 @@ ghost use lib.ListN.{length, drop};
 ghost use Rattle.mapset.specs.Grid.{Limits};
 ghost use Rattle.reading.specs.Feed.{split, feed};
 ghost use Rattle.reading.specs.Maps.{run};
-ghost use Rattle.mapsteps.specs.Steps.{force-of};
+ghost use Rattle.mapbounds.specs.Steps.{force-of};
 ghost use Rattle.maps.specs.Turns.{told, from, ended-with, After, Turned, Fits, Keeps};
-use lines::Block;
+use blocks::Block;
 use lines::Line;
+use mapbounds::Move;
+use mapbounds::Next;
+use mapbounds::Past;
+use mapbounds::Push;
 use mapset::Header;
-use mapsteps::Move;
-use mapsteps::Next;
-use mapsteps::Past;
-use mapsteps::Push;
 use reading::Place;
 
 // The maps as they are judged: accepted, and whether some RMS and some height map stands; or a refusal's number, line and column.
@@ -35,7 +35,7 @@ fn values_after(text: &[u8], at: usize, lines: u64, next: Next) -> Turn
     requires { ⌜ (at ≤ length (now text)) × (lines ≤ at) ⌝ }
     ensures { λ r. ⌜ After (now (text .entry)) at lines next r ⌝ }
 {
-    match lines::judge_block(text, at, lines, next.due) {
+    match blocks::judge_block(text, at, lines, next.due) {
         Block::Good(to, passed) => Turn::On(to, passed, next),
         Block::Refused(number, line, column) => Turn::Halt(number, line, column),
     }

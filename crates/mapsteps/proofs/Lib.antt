@@ -1,2 +1,2 @@
 pub mod RoleLaws
-pub mod StepLaws
+pub mod InsideLaws

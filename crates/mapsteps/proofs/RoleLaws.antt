@@ -20,7 +20,7 @@ use Rattle.reading.specs.Fields.{label, scan, fields}
 use Rattle.reading.specs.LabelLaws.{label-known, label-unknown}
 use Rattle.reading.specs.Maps.{Step, stays, misplaced, loose, on-comment, on-exponent, on-start, on-end, on-epoch, on-block, on-file, taken, step}
 use Rattle.reading.specs.declared.Place.{Place}
-use Rattle.mapsteps.specs.Steps.{role, role-of}
+use Rattle.mapsteps.specs.ByLabel.{role, role-of}
 use Rattle.mapsteps.specs.declared.Role.{Role}
 use Rattle.mapsteps.specs.declared.Role.the-variants as R
 

@@ -1,2 +1,2 @@
--- What a record of the maps does.
-pub mod Steps
+-- What a label stands for among the maps.
+pub mod ByLabel

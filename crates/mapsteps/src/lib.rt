@@ -1,52 +1,25 @@
-// What a record of the maps does, by its label: one function each.
+// What a record of the maps does, by its label.
 ghost use mathlib.Core.Path.{_≡_};
-ghost use mathlib.Core.List.{[]};
-ghost use Prim.Native.Nat.{_+_, _-_, _<_, _≤_};
+ghost use Prim.Native.Nat.{_-_, _≤_};
 ghost use lib.ListN.{length, getD};
-ghost use Rattle.kit.specs.Truth.{truth};
 ghost use Rattle.mapset.specs.Grid.{Limits};
 ghost use Rattle.layout.specs.Text.{pad};
-ghost use Rattle.layout.specs.Labels as L;
-ghost use Rattle.layout.specs.Layout as W;
 ghost use Rattle.reading.specs.Fields as F;
 ghost use Rattle.reading.specs.Maps as M;
-ghost use Rattle.mapsteps.specs.Steps.{force-of, past-of, moved, Always, ended, role, opened};
+ghost use Rattle.mapbounds.specs.Steps.{force-of, moved, Always};
+ghost use Rattle.mapsteps.specs.ByLabel.{role, opened};
 use agreement::grid;
 use agreement::times;
+use mapbounds::Move;
+use mapbounds::Next;
+use mapbounds::Past;
+use mapbounds::Push;
 use maprecords::Dated;
-use maprecords::One;
 use maprecords::Opening;
 use mapset::Header;
 use mapset::Kind;
 use reading::Open;
 use reading::Place;
-
-// What is in force besides the epochs: the exponent, and the numbers of the last RMS and height map, 0 before the first.
-pub struct Past {
-    pub exponent: i32,
-    pub rms: u64,
-    pub height: u64,
-}
-
-// An epoch to be remembered, or none.
-pub enum Push {
-    Keep,
-    New(u64),
-}
-
-// Where a record leads: the next place, what is then in force, and how many values come first.
-pub struct Next {
-    pub to: Place,
-    pub past: Past,
-    pub due: usize,
-    pub push: Push,
-}
-
-// What a record does: on, or a refusal's number and column.
-pub enum Move {
-    Go(Next),
-    Stop(u64, u64),
-}
 
 // What a label stands for among the maps.
 pub enum Role {
@@ -59,247 +32,6 @@ pub enum Role {
     File,
     Misplaced,
     Unknown,
-}
-
-// On without values; the epochs stay.
-fn still(to: Place, force: Past) -> Move
-    ensures { λ r. ⌜ r ≡ Move.Go (record { to = to; past = force; due = 0; push = Push.Keep }) ⌝ }
-{
-    Move::Go(Next {
-        to: to,
-        past: force,
-        due: 0,
-        push: Push::Keep,
-    })
-}
-
-// ---- EXPONENT and COMMENT
-
-fn has_ended(place: Place) -> bool
-    ensures { λ r. ⌜ r ≡ ended place ⌝ }
-{
-    match place {
-        Place::Ended => true,
-        Place::Between => false,
-        Place::Early => false,
-        Place::Inside(_) => false,
-    }
-}
-
-pub fn on_comment(place: Place, past: Past) -> Move
-    ensures { λ r. ⌜ Always r (λ h es. M.loose place (M.stays place (force-of past es))) ⌝ }
-{
-    if has_ended(place) {
-        return Move::Stop(5, 61);
-    }
-    still(place, past)
-}
-
-// The exponent stays in force, across blocks, maps and kinds.
-pub fn on_exponent(place: Place, past: Past, line: &[u8]) -> Move
-    requires { ⌜ length (now line) ≤ 80 ⌝ }
-    ensures { λ r. ⌜ Always r (λ h es. M.on-exponent place (force-of past es) (pad (now (line .entry)))) ⌝ }
-{
-    if has_ended(place) {
-        return Move::Stop(5, 61);
-    }
-    match maprecords::one_number(line) {
-        One::Wrong(column) => Move::Stop(6, column),
-        One::Number(e) => {
-            if !mapset::axes::between(-3, 0, e) {
-                return Move::Stop(7, 1);
-            }
-            still(
-                place,
-                Past {
-                    exponent: e,
-                    rms: past.rms,
-                    height: past.height,
-                },
-            )
-        }
-    }
-}
-
-// ---- START
-
-fn start_tec(header: Header, past: Past, epochs: &[u64], line: &[u8]) -> Move
-    requires { ⌜ length (now line) ≤ 80 ⌝ }
-    ensures { λ r. ⌜ r ≡ moved (now (epochs .entry)) (M.start-tec header (force-of past (now (epochs .entry))) (pad (now (line .entry)))) ⌝ }
-{
-    match maprecords::one_number(line) {
-        One::Wrong(column) => Move::Stop(6, column),
-        One::Number(z) => {
-            let k = epochs.len() as u64;
-            if grid::natural(z) != k + 1 {
-                return Move::Stop(8, 1);
-            }
-            if header.times.maps as u64 <= k {
-                return Move::Stop(8, 1);
-            }
-            still(Place::Early, past)
-        }
-    }
-}
-
-fn last_of(kind: Kind, past: Past, epochs: &[u64]) -> u64
-    ensures { λ r. ⌜ r ≡ W.last-of kind (force-of past (now (epochs .entry))) ⌝ }
-{
-    match kind {
-        Kind::Tec => epochs.len() as u64,
-        Kind::Rms => past.rms,
-        Kind::Height => past.height,
-    }
-}
-
-fn with_last(kind: Kind, i: u64, past: Past) -> Past
-    ensures { λ r. ⌜ r ≡ past-of (W.with-last kind i (force-of past [])) ⌝ }
-{
-    match kind {
-        Kind::Tec => past,
-        Kind::Rms => Past {
-            exponent: past.exponent,
-            rms: i,
-            height: past.height,
-        },
-        Kind::Height => Past {
-            exponent: past.exponent,
-            rms: past.rms,
-            height: i,
-        },
-    }
-}
-
-// Of a TEC map that has ended, above the last of its kind.
-fn start_other(kind: Kind, header: Header, past: Past, epochs: &[u64], line: &[u8]) -> Move
-    requires { ⌜ (length (now line) ≤ 80) × Limits (header .times .maps) (header .grid) ⌝ }
-    ensures { λ r. ⌜ r ≡ moved (now (epochs .entry)) (M.start-other kind header (force-of past (now (epochs .entry))) (pad (now (line .entry)))) ⌝ }
-{
-    match maprecords::one_number(line) {
-        One::Wrong(column) => Move::Stop(6, column),
-        One::Number(z) => {
-            let i = grid::natural(z);
-            if i <= last_of(kind, past, epochs) {
-                return Move::Stop(8, 1);
-            }
-            if (epochs.len() as u64) < i {
-                return Move::Stop(8, 1);
-            }
-            let left = grid::per_map(header.grid);
-            still(
-                Place::Inside(Open {
-                    fresh: true,
-                    kind: kind,
-                    number: i,
-                    left: left,
-                }),
-                with_last(kind, i, past),
-            )
-        }
-    }
-}
-
-fn start_map(kind: Kind, header: Header, past: Past, epochs: &[u64], line: &[u8]) -> Move
-    requires { ⌜ (length (now line) ≤ 80) × Limits (header .times .maps) (header .grid) ⌝ }
-    ensures { λ r. ⌜ r ≡ moved (now (epochs .entry)) (M.start-map kind header (force-of past (now (epochs .entry))) (pad (now (line .entry)))) ⌝ }
-{
-    match kind {
-        Kind::Tec => start_tec(header, past, epochs, line),
-        Kind::Rms => start_other(Kind::Rms, header, past, epochs, line),
-        Kind::Height => start_other(Kind::Height, header, past, epochs, line),
-    }
-}
-
-pub fn on_start(
-    header: Header,
-    place: Place,
-    past: Past,
-    epochs: &[u64],
-    kind: Kind,
-    line: &[u8],
-) -> Move
-    requires { ⌜ (length (now line) ≤ 80) × Limits (header .times .maps) (header .grid) ⌝ }
-    ensures { λ r. ⌜ r ≡ moved (now (epochs .entry)) (M.on-start header place (force-of past (now (epochs .entry))) kind (pad (now (line .entry)))) ⌝ }
-{
-    match place {
-        Place::Ended => Move::Stop(5, 61),
-        Place::Between => start_map(kind, header, past, epochs, line),
-        Place::Early => Move::Stop(5, 61),
-        Place::Inside(_) => Move::Stop(5, 61),
-    }
-}
-
-// ---- END
-
-fn same_kind(a: Kind, b: Kind) -> bool
-    ensures { λ r. ⌜ r ≡ truth (M.kind? a b) ⌝ }
-{
-    match a {
-        Kind::Tec => match b {
-            Kind::Tec => true,
-            Kind::Rms => false,
-            Kind::Height => false,
-        },
-        Kind::Rms => match b {
-            Kind::Tec => false,
-            Kind::Rms => true,
-            Kind::Height => false,
-        },
-        Kind::Height => match b {
-            Kind::Tec => false,
-            Kind::Rms => false,
-            Kind::Height => true,
-        },
-    }
-}
-
-// With no epoch and no block before it.
-fn end_early(kind: Kind, past: Past, line: &[u8]) -> Move
-    requires { ⌜ length (now line) ≤ 80 ⌝ }
-    ensures { λ r. ⌜ Always r (λ h es. M.on-end h Place.Early (force-of past es) kind (pad (now (line .entry)))) ⌝ }
-{
-    if !same_kind(kind, Kind::Tec) {
-        return Move::Stop(5, 61);
-    }
-    match maprecords::one_number(line) {
-        One::Wrong(column) => Move::Stop(6, column),
-        One::Number(_) => Move::Stop(9, 0),
-    }
-}
-
-// Its blocks are all there, and it carries its START's number.
-fn end_map(this: Open, past: Past, kind: Kind, line: &[u8]) -> Move
-    requires { ⌜ length (now line) ≤ 80 ⌝ }
-    ensures { λ r. ⌜ Always r (λ h es. M.end-map this (force-of past es) kind (pad (now (line .entry)))) ⌝ }
-{
-    let its = this.kind;
-    if !same_kind(kind, its) {
-        return Move::Stop(5, 61);
-    }
-    match maprecords::one_number(line) {
-        One::Wrong(column) => Move::Stop(6, column),
-        One::Number(z) => {
-            if this.left != 0 {
-                return Move::Stop(9, 0);
-            }
-            if !grid::counts(z, this.number) {
-                return Move::Stop(8, 1);
-            }
-            still(Place::Between, past)
-        }
-    }
-}
-
-pub fn on_end(place: Place, past: Past, kind: Kind, line: &[u8]) -> Move
-    requires { ⌜ length (now line) ≤ 80 ⌝ }
-    ensures { λ r. ⌜ Always r (λ h es. M.on-end h place (force-of past es) kind (pad (now (line .entry)))) ⌝ }
-{
-    match place {
-        Place::Ended => Move::Stop(5, 61),
-        Place::Between => Move::Stop(5, 61),
-        Place::Early => end_early(kind, past, line),
-        Place::Inside(this) => end_map(this, past, kind, line),
-    }
 }
 
 // ---- EPOCH OF CURRENT MAP
@@ -364,7 +96,7 @@ fn epoch_other(this: Open, past: Past, epochs: &[u64], line: &[u8]) -> Move
                 return Move::Stop(8, 1);
             }
             let kind = this.kind;
-            still(
+            mapbounds::still(
                 Place::Inside(Open {
                     fresh: false,
                     kind: kind,
@@ -474,7 +206,7 @@ fn end_file(header: Header, past: Past, epochs: &[u64], line: &[u8]) -> Move
             if epochs.len() as u64 != header.times.maps as u64 {
                 return Move::Stop(9, 0);
             }
-            still(Place::Ended, past)
+            mapbounds::still(Place::Ended, past)
         }
     }
 }
@@ -524,10 +256,10 @@ pub fn step(header: Header, place: Place, past: Past, epochs: &[u64], line: &[u8
     match role_of(line) {
         Role::Unknown => Move::Stop(4, 61),
         Role::Misplaced => Move::Stop(5, 61),
-        Role::Comment => on_comment(place, past),
-        Role::Exponent => on_exponent(place, past, line),
-        Role::Start(kind) => on_start(header, place, past, epochs, kind, line),
-        Role::End(kind) => on_end(place, past, kind, line),
+        Role::Comment => mapbounds::on_comment(place, past),
+        Role::Exponent => mapbounds::on_exponent(place, past, line),
+        Role::Start(kind) => mapbounds::on_start(header, place, past, epochs, kind, line),
+        Role::End(kind) => mapbounds::on_end(place, past, kind, line),
         Role::Epoch => on_epoch(header, place, past, epochs, line),
         Role::Block => on_block(header, place, past, line),
         Role::File => on_file(header, place, past, epochs, line),

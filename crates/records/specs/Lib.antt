@@ -3,4 +3,3 @@ pub mod Records
 pub mod Tables
 pub mod RecordLaws
 pub mod TableLaws
-pub mod VersionLaws

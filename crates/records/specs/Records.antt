@@ -3,8 +3,7 @@ use mathlib.Core.List.{List, [], _∷_}
 use Prim.Native.Nat.{ℕ, _+_, _-_}
 use lib.ListN.{take}
 use lib.IntN.{ℤ, pos, natAbs}
-use Rattle.kit.specs.Answer.{Answer, ok, refused, need, bind, amap, get, same}
-use Rattle.kit.specs.Integer.{int?}
+use Rattle.kit.specs.Answer.{Answer, ok, refused, need, bind, amap}
 use Rattle.kit.specs.Range.{natural?}
 use Rattle.fields.specs.Form as form
 use Rattle.fields.specs.Read.{readField}
@@ -17,10 +16,10 @@ use Rattle.mapset.specs.declared.axes.Judged.{Judged}
 use Rattle.mapset.specs.declared.axes.Judged.the-variants as J
 use Rattle.mapset.specs.Header.{Content, count, tenths, epoch, axis, program, mapping, observables, system as a-system, Said, number, along, words, counts}
 use Rattle.layout.specs.Records.{F, X}
-use Rattle.layout.specs.Labels.{exponent, system, items, codes}
+use Rattle.layout.specs.Labels.{exponent, system, items}
 use Rattle.reading.specs.Feed.{Fault, fault}
 use Rattle.reading.specs.Fields.{number as on-number, scan, fields}
-use Rattle.reading.specs.Head.{axis-of, meant, place}
+use Rattle.reading.specs.Head.{axis-of, meant}
 use Rattle.records.specs.declared.Value.{Value}
 use Rattle.records.specs.declared.One.{One}
 use Rattle.records.specs.declared.One.the-variants as One
@@ -30,8 +29,6 @@ use Rattle.records.specs.declared.Three.{Three}
 use Rattle.records.specs.declared.Three.the-variants as Three
 use Rattle.records.specs.declared.Heard.{Heard}
 use Rattle.records.specs.declared.Heard.the-variants as Heard
-use Rattle.records.specs.declared.Coded.{Coded}
-use Rattle.records.specs.declared.Coded.the-variants as Coded
 
 -- ---- the numbers of a record; ill-formed is 6
 abbrev pub toldOne : One → Answer Fault ℤ
@@ -94,11 +91,6 @@ abbrev pub toldHeard : Content → Heard → Answer Fault Said
 toldHeard k (Heard.Said v) = ok (says k v)
 toldHeard k (Heard.Refused n c) = refused (fault n c)
 
--- ---- the version record
-abbrev pub toldCoded : Coded → Answer Fault ℕ
-toldCoded (Coded.Code c) = ok c
-toldCoded (Coded.Refused n c) = refused (fault n c)
-
 -- ---- what the code looks at
 
 -- the first of the columns after the first a and up to e that is not blank
@@ -133,8 +125,3 @@ judged-as J.Last a = refused (fault 7 9)
 judged-as J.Step a = refused (fault 7 15)
 judged-as J.Together a = refused (fault 7 0)
 judged-as J.Fine a = ok (along a)
-
--- version, type and code of the version record
-unfoldable pub judged-in : List ℕ → ℤ → Answer Fault ℕ
-judged-in line z =
-    need (int? z (pos 11)) (fault 3 1) (need (same (columns line 20 1) (73 ∷ [])) (fault 3 21) (get (place same (columns line 40 3) codes) (fault 3 41) ok))

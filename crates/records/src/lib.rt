@@ -1,8 +1,7 @@
-// The records of a header by themselves: what each says, in itself.
+// The records of a header by themselves: what each says.
 use mapset::Axis;
 
 pub mod content;
-pub mod version;
 
 // What a record of numbers says: a number in a range (or a system's stations), a system's satellites, an epoch's second, an axis.
 // What it does not say is 0.
@@ -32,11 +31,5 @@ pub enum Three {
 // What a record of numbers says, or its refusal with 01's number and a column.
 pub enum Heard {
     Said(Value),
-    Refused(u64, u64),
-}
-
-// The place of the version record's code in 01's list, or its refusal.
-pub enum Coded {
-    Code(u32),
     Refused(u64, u64),
 }

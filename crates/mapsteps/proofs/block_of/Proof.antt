@@ -9,8 +9,9 @@ use Rattle.mapset.specs.Grid.{rows}
 use Rattle.layout.specs.Layout.{per-map, node}
 use Rattle.reading.specs.Maps.{height?}
 use Rattle.agreement.specs.Agreement.{differing}
-use Rattle.mapsteps.specs.Steps.{force-of}
-use Rattle.mapsteps.proofs.StepLaws.{stops, opens, row-wrong, longitude-wrong, height-wrong, opened-fine}
+use Rattle.mapbounds.specs.Steps.{force-of}
+use Rattle.mapbounds.proofs.StepLaws.{stops}
+use Rattle.mapsteps.proofs.InsideLaws.{opens, row-wrong, longitude-wrong, height-wrong, opened-fine}
 use borrow.Author.Needs.{needs}
 use Rattle.mapsteps.proofs.block_of.Statement.{statement}
 use Rattle.mapsteps.proofs.block_of.Tie as tie

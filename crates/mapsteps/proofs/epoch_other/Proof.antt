@@ -2,9 +2,10 @@ use mathlib.Core.Path.{_≡_, sym, ap, _∙_}
 use native.Mathlib.Omega.{arith}
 use borrow.Author.Tests.{not-true, not-false}
 use Rattle.layout.specs.Text.{pad}
-use Rattle.mapsteps.specs.Steps.{force-of}
+use Rattle.mapbounds.specs.Steps.{force-of}
 use Rattle.maprecords.specs.Records.{told-dated}
-use Rattle.mapsteps.proofs.StepLaws.{stops, stills, again-late, again-bad, again-not, again-fine}
+use Rattle.mapbounds.proofs.StepLaws.{stops, stills}
+use Rattle.mapsteps.proofs.InsideLaws.{again-late, again-bad, again-not, again-fine}
 use borrow.Author.Needs.{needs}
 use Rattle.mapsteps.proofs.epoch_other.Statement.{statement}
 use Rattle.mapsteps.proofs.epoch_other.Tie as tie
@@ -12,7 +13,7 @@ use Rattle.mapsteps.proofs.epoch_other.Reads as reads
 use Rattle.mapsteps.proofs.epoch_other.Lts as lts
 use Rattle.maprecords.proofs.epoch_in.Reads as epoch-in-reads
 use Rattle.mapsteps.proofs.epoch_of.Reads as epoch-of-reads
-use Rattle.mapsteps.proofs.still.Reads as still-reads
+use Rattle.mapbounds.proofs.still.Reads as still-reads
 
 returns : tie.Need-returns
 returns c =

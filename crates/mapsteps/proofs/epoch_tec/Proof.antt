@@ -2,9 +2,10 @@ use mathlib.Core.Path.{sym, ap, _∙_}
 use native.Mathlib.Numerals.{add-one}
 use borrow.Author.Tests.{not-true, not-false}
 use Rattle.layout.specs.Text.{pad}
-use Rattle.mapsteps.specs.Steps.{force-of}
+use Rattle.mapbounds.specs.Steps.{force-of}
 use Rattle.maprecords.specs.Records.{told-dated}
-use Rattle.mapsteps.proofs.StepLaws.{stops, remembers, epoch-bad, epoch-late, epoch-fine}
+use Rattle.mapbounds.proofs.StepLaws.{stops}
+use Rattle.mapsteps.proofs.InsideLaws.{remembers, epoch-bad, epoch-late, epoch-fine}
 use borrow.Author.Needs.{needs}
 use Rattle.mapsteps.proofs.epoch_tec.Statement.{statement}
 use Rattle.mapsteps.proofs.epoch_tec.Tie as tie

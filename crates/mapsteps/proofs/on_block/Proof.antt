@@ -2,7 +2,7 @@ use mathlib.Core.Path.{sym, ap, _∙_}
 use Rattle.layout.specs.Text.{pad}
 use Rattle.reading.specs.Maps.{on-block}
 use Rattle.reading.specs.declared.Place.{Place}
-use Rattle.mapsteps.specs.Steps.{force-of, moved}
+use Rattle.mapbounds.specs.Steps.{force-of, moved}
 use borrow.Author.Needs.{needs}
 use Rattle.mapsteps.proofs.on_block.Statement.{statement}
 use Rattle.mapsteps.proofs.on_block.Tie as tie

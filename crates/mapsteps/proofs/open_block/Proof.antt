@@ -2,9 +2,10 @@ use mathlib.Core.Path.{_≡_, sym, ap, _∙_}
 use mir.Syntax.{w32}
 use mir.Val.{toZ, ofZ}
 use Rattle.layout.specs.Text.{pad}
-use Rattle.mapsteps.specs.Steps.{force-of}
+use Rattle.mapbounds.specs.Steps.{force-of}
 use Rattle.maprecords.specs.Records.{told-opening}
-use Rattle.mapsteps.proofs.StepLaws.{stops, same-move, block-none, block-bad, block-on}
+use Rattle.mapbounds.proofs.StepLaws.{stops, same-move}
+use Rattle.mapsteps.proofs.InsideLaws.{block-none, block-bad, block-on}
 use borrow.Author.Needs.{needs}
 use Rattle.mapsteps.proofs.open_block.Statement.{statement}
 use Rattle.mapsteps.proofs.open_block.Tie as tie

@@ -3,7 +3,7 @@ use native.Mathlib.Omega.{arith}
 use Prim.Native.Nat.{_+_}
 use mathlib.Core.Path.{subst}
 use lib.ListN.{length-take, length-drop}
-use Rattle.records.specs.Records.{toldCoded}
+use Rattle.version.specs.Version.{toldCoded}
 use Rattle.head.specs.Opened.{Leads, LeadsRow, blank-texts}
 use Rattle.head.specs.declared.Headed.the-variants.{Refused}
 use Rattle.head.specs.OpenedLaws.{hands, first-over, first-bad, first-no, first-coded, continues}
@@ -16,7 +16,7 @@ use Rattle.head.proofs.opening.header_from.Reads as header-from-reads
 use Rattle.head.proofs.opening.line_after.Reads as line-after-reads
 use Rattle.head.proofs.opening.refusal.Reads as refusal-reads
 use Rattle.head.proofs.opening.row_from.Reads as row-from-reads
-use Rattle.records.proofs.version.version_code.Reads as version-code-reads
+use Rattle.version.proofs.version_code.Reads as version-code-reads
 
 -- the row that was found
 led : (c : tie.After-known-told3) → let a = c .before .before .before .before .before .args in LeadsRow (a .text .now) 0 0 (c .before .start .given .0 .0) (c .before .start .given .0 .1 .0) (c .before .start .given .0 .1 .1 .0) (c .before .start .given .0 .1 .1 .1 .0)

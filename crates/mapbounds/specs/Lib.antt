@@ -1,0 +1,2 @@
+-- What a record of the maps does.
+pub mod Steps

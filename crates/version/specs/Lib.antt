@@ -1,0 +1,3 @@
+-- What the code answers of the version record, by what `reading` says of it.
+pub mod Version
+pub mod VersionLaws

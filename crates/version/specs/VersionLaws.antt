@@ -1,0 +1,126 @@
+-- The version record by what the code looks at.
+use mathlib.Core.Path.{_≡_, refl, sym, ap, _∙_}
+use mathlib.Core.Bool.{Bool, true, false, _&&_}
+use mathlib.Core.Option.{none, some}
+use mathlib.Core.List.{List, [], _∷_}
+use Prim.Native.Nat.{ℕ, suc, _≤_, _<_}
+use native.Mathlib.Omega.{arith}
+use lib.Dec.{eqb}
+use lib.ListN.{length, getD, drop}
+use lib.IntN.{ℤ, pos}
+use Rattle.kit.specs.Answer.{Answer, ok, refused, need, need-yes, need-no, bind, amap, get, pick, pick-yes, pick-no, same}
+use Rattle.kit.specs.Integer.{int?, between?}
+use Rattle.kit.specs.Parts.{up, dn, eq-parts, parts-le, le-parts}
+use Rattle.kit.specs.Truth.{truth, truth-same}
+use Rattle.fields.specs.Form as form
+use Rattle.fields.specs.Read.{readField}
+use Rattle.fields.specs.Columns.{columns}
+use Rattle.fields.specs.ColumnLaws.{columns-first}
+use Rattle.fields.specs.declared.Field.{Field}
+use Rattle.fields.specs.declared.Field.the-variants.{Number, Bad}
+use Rattle.fields.specs.declared.Found.{Found}
+use Rattle.fields.specs.declared.Found.the-variants.{At, Nowhere}
+use Rattle.layout.specs.Text.{pad}
+use Rattle.layout.specs.Labels.{version, name, layout, codes}
+use Rattle.layout.specs.Names.{holds, place-of, names, number-of}
+use Rattle.reading.specs.Feed.{Fault, fault}
+use Rattle.reading.specs.Fields.{number, fields}
+use Rattle.reading.specs.LabelLaws.{placed, placed-yes, placed-no, place-is, named, version-number}
+use Rattle.reading.specs.Head.{place, next}
+use Rattle.reading.specs.Read.{code-of}
+use Rattle.records.specs.Records.{version-in, unless, blank-to, alone-in}
+use Rattle.version.specs.Version.{judged-in}
+use Rattle.records.specs.RecordLaws.{read-is, version-is}
+
+-- ---- 1.1
+
+pub exactly : (n v : ℤ) → truth (between? n n v) ≡ truth (int? v n)
+exactly n v =
+    truth-same (between? n n v) (int? v n)
+    (λ b. eq-parts v n (omega (arith, parts-le n v (b .from), parts-le v n (b .to))))
+    (λ e. record { from = le-parts n v (omega (arith, ap up e, ap dn e)); to = le-parts v n (omega (arith, ap up e, ap dn e)) })
+
+-- ---- the type, in column 21
+
+one-column : (line : List ℕ) (a : ℕ) → columns line a 1 ≡ getD line a 32 ∷ []
+one-column line a = columns-first line a 0 ∙ (unfold columns in refl)
+
+pub type-yes : (line : List ℕ) → getD line 20 32 ≡ 73 → columns line 20 1 ≡ 73 ∷ []
+type-yes line e = one-column line 20 ∙ ap (λ (b : ℕ). b ∷ []) e
+
+pub type-no : (line : List ℕ) → ¬ (getD line 20 32 ≡ 73) → ¬ (columns line 20 1 ≡ 73 ∷ [])
+type-no line n e = let f : getD line 20 32 ∷ [] ≡ 73 ∷ [] = sym (one-column line 20) ∙ e in n (cc)
+
+-- ---- the code
+
+-- columns that hold a name of three bytes
+three-and : (a b c : Bool) → ((a && b) && c) ≡ (a && (b && (c && true)))
+three-and true true true = refl
+three-and true true false = refl
+three-and true false c = refl
+three-and false b c = refl
+
+pub three-hold : (s : List ℕ) (a : ℕ) (n : List ℕ) → length n ≡ 3
+    → ((eqb (getD s a 32) (getD n 0 0) && eqb (getD s (suc a) 32) (getD n 1 0)) && eqb (getD s (suc (suc a)) 32) (getD n 2 0)) ≡ holds s a n
+three-hold s a [] e = absurd (omega arith)
+three-hold s a (x ∷ []) e = absurd (omega arith)
+three-hold s a (x ∷ y ∷ []) e = absurd (omega arith)
+three-hold s a (x ∷ y ∷ z ∷ []) e = three-and (eqb (getD s a 32) x) (eqb (getD s (suc a) 32) y) (eqb (getD s (suc (suc a)) 32) z)
+three-hold s a (x ∷ y ∷ z ∷ w ∷ n) e = absurd (omega arith)
+
+module _ (u : List ℕ) where
+  found : (ns : List (List ℕ)) → placed u ns < length ns → place same u ns ≡ some (placed u ns)
+  unfolding place
+  found [] h = absurd (omega arith)
+  found (n ∷ ns) h = by (same u n) (found ns)
+    where
+      by : Dec (u ≡ n) → (placed u ns < length ns → place same u ns ≡ some (placed u ns)) → pick (same u n) (some 0) (next (place same u ns)) ≡ some (placed u (n ∷ ns))
+      by (yes e) ih = pick-yes (same u n) (some 0) (next (place same u ns)) e ∙ ap some (sym (placed-yes u n ns e))
+      by (no e) ih =
+          let k = placed-no u n ns e in
+          pick-no (same u n) (some 0) (next (place same u ns)) e ∙ ap next (ih (omega arith)) ∙ ap some (sym k)
+
+  lost : (ns : List (List ℕ)) → length ns ≤ placed u ns → place same u ns ≡ none
+  unfolding place
+  lost [] h = refl
+  lost (n ∷ ns) h = by (same u n) (lost ns)
+    where
+      by : Dec (u ≡ n) → (length ns ≤ placed u ns → place same u ns ≡ none) → pick (same u n) (some 0) (next (place same u ns)) ≡ none
+      by (yes e) ih = let k = placed-yes u n ns e in absurd (omega arith)
+      by (no e) ih = let k = placed-no u n ns e in pick-no (same u n) (some 0) (next (place same u ns)) e ∙ ap next (ih (omega arith))
+
+module _ (line : List ℕ) (k : ℕ) (e : k ≡ place-of line 40 codes) where
+  in-codes : k ≡ placed (columns line 40 3) codes
+  in-codes = e ∙ place-is line 40 3 codes tt
+
+  pub code-known : k < 9 → place same (columns line 40 3) codes ≡ some k
+  code-known h = found (columns line 40 3) codes (rw in-codes at h) ∙ ap some (sym in-codes)
+
+  pub code-unknown : 9 ≤ k → place same (columns line 40 3) codes ≡ none
+  code-unknown h = lost (columns line 40 3) codes (rw in-codes at h)
+
+-- ---- the record
+
+code-by : {A : Type 0} (z : Field) (f : Found) (t u : List ℕ) (k : ℤ → List ℕ → List ℕ → Answer Fault A)
+    → bind {B = ℤ × (List ℕ × (List ℕ × Unit {0}))} (number z 1 (λ x. amap (λ vs. (x, vs)) (unless {A = List ℕ × (List ℕ × Unit {0})} f (amap (λ vs. (t, vs)) (amap (λ vs. (u, vs)) (ok tt)))))) (λ v. k (v .0) (v .1 .0) (v .1 .1 .0))
+    ≡ bind (alone-in z f) (λ x. k x t u)
+unfolding bind amap number
+code-by (Number z) (At c) t u k = refl
+code-by (Number z) Nowhere t u k = refl
+code-by Bad f t u k = refl
+
+module _ (line : List ℕ) (fits : length line ≤ 80) where
+  pub not-version : ¬ (number-of line ≡ 0) → code-of (pad line) ≡ refused (fault 3 61)
+  unfolding code-of
+  not-version n = need-no (same (drop 60 (pad line)) (name version)) (fault 3 61) _ (λ e. n (version-number line fits e))
+
+  pub is-version : number-of line ≡ 0 → code-of (pad line) ≡ bind (version-in (pad line)) (judged-in line)
+  unfolding code-of fields blank-to judged-in
+  is-version e =
+      let n : drop 60 (pad line) ≡ name version = named line fits (omega arith) ∙ (unfold names in rw e refl) in
+      need-yes (same (drop 60 (pad line)) (name version)) (fault 3 61) _ n
+      ∙ ap (λ x. bind x (λ v. need (int? (v .0) (pos 11)) (fault 3 1) (need (same (v .1 .0) (73 ∷ [])) (fault 3 21) (get (place same (v .1 .1 .0) codes) (fault 3 41) ok))))
+      (read-is line fits (layout version) (omega arith))
+      ∙ code-by (readField form.F1 (columns line 0 8)) (blank-to line 8 20) (columns line 20 1) (columns line 40 3)
+      (λ z t u. need (int? z (pos 11)) (fault 3 1) (need (same t (73 ∷ [])) (fault 3 21) (get (place same u codes) (fault 3 41) ok)))
+      ∙ ap (λ x. bind x (judged-in line)) (sym (version-is line fits))
