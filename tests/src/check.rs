@@ -11,7 +11,10 @@ use std::fs;
 use std::path::PathBuf;
 
 /// How often each answer must have occurred.
-const OFTEN: u64 = 100;
+pub const OFTEN: u64 = 100;
+
+/// How many failed jobs are shown and left as files; the others are only counted.
+pub const SHOWN: u64 = 20;
 
 /// How often each answer occurred.
 #[derive(Default)]
@@ -131,8 +134,10 @@ fn over_seeds(count: u64, seed: u64, try_job: impl Fn(&Job) -> (Outcome, Option<
             counts.add(job, &outcome);
             tally.note(complaint.is_none());
             if let Some(complaint) = complaint {
-                println!("seed {seed} job {k} ({}): {complaint}", job.name());
-                leave(seed, k, job);
+                if tally.failed <= SHOWN {
+                    println!("seed {seed} job {k} ({}): {complaint}", job.name());
+                    leave(seed, k, job);
+                }
             }
         }
     }
@@ -145,18 +150,20 @@ fn over_seeds(count: u64, seed: u64, try_job: impl Fn(&Job) -> (Outcome, Option<
     tally
 }
 
-/// Leaves what a failed job was given under tests/failed/.
+/// Leaves what a failed job was given.
 fn leave(seed: u64, k: usize, job: &Job) {
+    match job {
+        Job::Read { text, .. } => leave_file(&format!("{seed}-{k}.inx"), text),
+        _ => leave_file(&format!("{seed}-{k}.txt"), format!("{job:#?}\n").as_bytes()),
+    }
+}
+
+/// Leaves a file under tests/failed/.
+pub fn leave_file(name: &str, bytes: &[u8]) {
     let folder = PathBuf::from(env!("CARGO_MANIFEST_DIR")).join("failed");
-    let written = fs::create_dir_all(&folder).and_then(|()| match job {
-        Job::Read { text, .. } => fs::write(folder.join(format!("{seed}-{k}.inx")), text),
-        _ => fs::write(
-            folder.join(format!("{seed}-{k}.txt")),
-            format!("{job:#?}\n"),
-        ),
-    });
+    let written = fs::create_dir_all(&folder).and_then(|()| fs::write(folder.join(name), bytes));
     if let Err(error) = written {
-        println!("could not leave the job: {error}");
+        println!("could not leave {name}: {error}");
     }
 }
 

@@ -1103,7 +1103,9 @@ pub fn question(rng: &mut Rng, set: &MapSet) -> Question {
                 1 => rng.range(-50_000, 50_000),
                 _ => 0,
             };
-            place(rng, low, high, header.longitudes.step) + 36_000 * turns
+            let place = place(rng, low, high, header.longitudes.step) + 36_000 * turns;
+            // The library takes places of 32 bits.
+            place.clamp(i64::from(i32::MIN), i64::from(i32::MAX))
         },
         second: second(rng, &set.areas.epochs[..grid.maps]),
     }

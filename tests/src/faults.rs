@@ -124,12 +124,17 @@ pub fn all() -> Vec<Fault> {
     faults
 }
 
-/// The seed and job that find the fault, and the difference, within `count` seeds.
-pub fn find(fault: Fault, count: u64, seed: u64) -> Option<(u64, usize, String)> {
+/// The seed and job at which the comparison with a library finds the fault, and the difference, within `count` seeds.
+pub fn find(
+    library: &dyn Library,
+    fault: Fault,
+    count: u64,
+    seed: u64,
+) -> Option<(u64, usize, String)> {
     let faulty = Faulty(fault);
     for seed in seed..seed.saturating_add(count) {
         for (k, job) in jobs::jobs(seed).iter().enumerate() {
-            let right = run::run(&Second, job);
+            let right = run::run(library, job);
             let wrong = run::run(&faulty, job);
             if let Some(difference) = run::difference(&right, &wrong) {
                 return Some((seed, k, difference));

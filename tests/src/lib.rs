@@ -1,5 +1,11 @@
 //! Seeded texts, map sets and questions, run against one library or two.
 
+#![deny(unsafe_code)]
+
+pub mod boundary;
+#[allow(unsafe_code)]
+pub mod c;
+pub mod calls;
 pub mod check;
 pub mod damage;
 pub mod faults;
@@ -7,6 +13,7 @@ pub mod gen;
 pub mod jobs;
 pub mod library;
 pub mod oracle;
+pub mod program;
 pub mod rng;
 pub mod run;
 pub mod set;

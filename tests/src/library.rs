@@ -1,9 +1,11 @@
 //! What is compared: four functions over lent areas.
 
+use crate::boundary::{self, Boundary, Lent, HEADER, TEXTS};
+use crate::c;
 use crate::set::{Buffers, MapSet};
 use second::{Answer, Question, Reading, Refusal};
 
-/// One implementation. The proved library is to be one, through its C functions.
+/// One implementation. The proved library is one, through its C functions.
 pub trait Library {
     fn name(&self) -> String;
 
@@ -43,7 +45,94 @@ impl Library for Second {
     }
 }
 
-/// The library to compare with the second program, once it is linked.
+/// A library behind the C boundary.
+pub struct Behind<B: Boundary>(pub B);
+
+impl<B: Boundary> Library for Behind<B> {
+    fn name(&self) -> String {
+        "library".to_string()
+    }
+
+    fn read(&self, text: &[u8], areas: &mut Buffers) -> Reading {
+        let mut lent = Lent {
+            areas: std::mem::take(areas),
+            header: vec![-1; HEADER],
+            texts: vec![0; TEXTS],
+            place: vec![0; 2],
+        };
+        let answer = self.0.read(text, &mut lent);
+        *areas = lent.areas;
+        let [first, second] = [lent.place[0], lent.place[1]];
+        match answer {
+            0 => {
+                let header = boundary::header_of(&lent.header).expect("a header");
+                let again = boundary::numbers_of(&header);
+                assert_eq!(lent.header, again, "flags are 0 or 1");
+                Reading::Accepted {
+                    header,
+                    texts: boundary::texts_of(&lent.texts),
+                }
+            }
+            1..=10 => Reading::Refused(Refusal::Place {
+                number: answer as u8,
+                line: first,
+                column: second,
+            }),
+            11 => Reading::Refused(Refusal::Area {
+                area: u8::try_from(first).expect("an area"),
+                need: second,
+            }),
+            _ => panic!("reading answered {answer}"),
+        }
+    }
+
+    fn write(&self, set: &MapSet, out: &mut [u8]) -> Result<usize, Refusal> {
+        let mut count = [0];
+        match self.0.write(&boundary::given(set), out, &mut count) {
+            0 => Ok(count[0] as usize),
+            30 => Err(Refusal::Output { need: count[0] }),
+            answer => Err(bare(answer)),
+        }
+    }
+
+    fn ask(&self, set: &MapSet, question: &Question) -> Result<Answer, Refusal> {
+        let mut value = [0];
+        let asked = boundary::asked(question);
+        match self.0.ask(&boundary::given(set), &asked, &mut value) {
+            0 if question.kind == 2 => Ok(Answer::ThousandthsOfKilometre(value[0].into())),
+            0 => Ok(Answer::ThousandthsOfTecu(value[0].into())),
+            answer => Err(bare(answer)),
+        }
+    }
+
+    fn moved(&self, epoch: u64, by: i64) -> Result<u64, Refusal> {
+        let mut moved = [0];
+        match self.0.moved(epoch, by, &mut moved) {
+            0 => Ok(moved[0]),
+            answer => Err(bare(answer)),
+        }
+    }
+}
+
+fn bare(answer: u64) -> Refusal {
+    Refusal::Bare {
+        number: u8::try_from(answer).expect("a refusal's number"),
+    }
+}
+
+/// The library to compare with the second program, where a function of it is linked.
 pub fn other() -> Option<Box<dyn Library>> {
-    None
+    let linked = c::FUNCTIONS.iter().any(|(_, linked)| *linked);
+    linked.then(|| Box::new(Behind(c::Archive)) as Box<dyn Library>)
+}
+
+/// The second program, and the library where one is linked.
+pub fn all() -> Vec<Box<dyn Library>> {
+    let second = Box::new(Second) as Box<dyn Library>;
+    std::iter::once(second).chain(other()).collect()
+}
+
+/// The library where one is linked, else the second program.
+pub fn judged() -> Box<dyn Library> {
+    other().unwrap_or(Box::new(Second))
 }

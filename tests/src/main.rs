@@ -1,35 +1,40 @@
-//! compare self-check COUNT SEED   the second program judged by itself
+//! compare self-check COUNT SEED   the library judged by what is known of each job
+//! compare libraries COUNT SEED    the second program and the library, byte for byte
+//! compare boundary COUNT SEED     both at the C boundary: own areas of every length, numbers too wide
 //! compare faults COUNT SEED       every planted fault must be found
 //! compare places COUNT SEED       where the damaged texts are refused, for reading
-//! compare libraries COUNT SEED    the second program and the library linked
+//! compare program FILE            an executable on every example, against the second program
 //!
+//! A function of the library that is not linked is answered by the second program, and a line says so.
 //! The last line is `N passed, M failed`; the exit status is non-zero if M > 0.
 
+#![forbid(unsafe_code)]
+
+use compare::c::{Archive, FUNCTIONS};
 use compare::check::{self, Tally};
-use compare::faults;
 use compare::library::{self, Second};
+use compare::{calls, faults, program};
+use std::path::Path;
 use std::process::ExitCode;
 
 fn main() -> ExitCode {
     let arguments: Vec<String> = std::env::args().skip(1).collect();
-    let number = |k: usize| arguments.get(k).and_then(|text| text.parse::<u64>().ok());
-    let (Some(mode), Some(count), Some(seed)) = (arguments.first(), number(1), number(2)) else {
-        return usage();
-    };
-    let tally = match mode.as_str() {
-        "self-check" => check::self_check(&Second, count, seed),
-        "faults" => planted_faults(count, seed),
-        "places" => {
-            check::places(&Second, count, seed);
-            return ExitCode::SUCCESS;
-        }
-        "libraries" => match library::other() {
-            Some(other) => check::compare(&Second, other.as_ref(), count, seed),
-            None => {
-                eprintln!("no other library is linked");
-                return ExitCode::from(2);
+    let words: Vec<&str> = arguments.iter().map(String::as_str).collect();
+    let tally = match words[..] {
+        ["program", file] => program::examples(Path::new(file)),
+        [mode, count, seed] => {
+            let (Ok(count), Ok(seed)) = (count.parse(), seed.parse()) else {
+                return usage();
+            };
+            if mode == "places" {
+                check::places(library::judged().as_ref(), count, seed);
+                return ExitCode::SUCCESS;
             }
-        },
+            match seeded(mode, count, seed) {
+                Some(tally) => tally,
+                None => return usage(),
+            }
+        }
         _ => return usage(),
     };
     println!("{} passed, {} failed", tally.passed, tally.failed);
@@ -41,22 +46,63 @@ fn main() -> ExitCode {
 }
 
 fn usage() -> ExitCode {
-    eprintln!("usage: compare self-check|faults|places|libraries COUNT SEED");
+    eprintln!("usage: compare self-check|libraries|boundary|faults|places COUNT SEED");
+    eprintln!("       compare program FILE");
+    eprintln!("libraries and boundary need a function that is linked");
     ExitCode::from(2)
 }
 
-fn planted_faults(count: u64, seed: u64) -> Tally {
-    let mut tally = Tally::default();
-    for fault in faults::all() {
-        let found = faults::find(fault, count, seed);
-        tally.note(found.is_some());
-        match found {
-            Some((seed, job, difference)) => {
-                let short: String = difference.chars().take(60).collect();
-                println!("found {fault:?} at seed {seed} job {job}: {short}");
-            }
-            None => println!("NOT FOUND {fault:?}"),
+fn seeded(mode: &str, count: u64, seed: u64) -> Option<Tally> {
+    say_what_is_linked();
+    let library = library::judged();
+    Some(match mode {
+        "self-check" => check::self_check(library.as_ref(), count, seed),
+        "libraries" if linked() => check::compare(&Second, library.as_ref(), count, seed),
+        "boundary" if linked() => calls::compare(&Archive, count, seed),
+        "faults" => planted_faults(count, seed),
+        _ => return None,
+    })
+}
+
+/// Whether there is anything to compare with the second program.
+fn linked() -> bool {
+    FUNCTIONS.iter().any(|(_, linked)| *linked)
+}
+
+fn say_what_is_linked() {
+    for (name, linked) in FUNCTIONS {
+        if !linked {
+            println!("{name} is not linked: the second program stands in its place");
         }
     }
+}
+
+/// One wrong answer for each thing compared; the comparison must find it.
+fn planted_faults(count: u64, seed: u64) -> Tally {
+    let mut tally = Tally::default();
+    let library = library::judged();
+    for fault in faults::all() {
+        let found = faults::find(library.as_ref(), fault, count, seed);
+        let told = found.map(|(seed, job, difference)| {
+            let short: String = difference.chars().take(60).collect();
+            format!("seed {seed} job {job}: {short}")
+        });
+        tell(&mut tally, &format!("{fault:?}"), told);
+    }
+    for fault in calls::FAULTS {
+        let found = calls::find(&Archive, fault, count, seed);
+        let told = found.map(|(seed, difference)| format!("seed {seed}: {difference}"));
+        tell(&mut tally, &format!("{fault:?} at the boundary"), told);
+    }
+    let all = tally.passed + tally.failed;
+    println!("{all} faults planted, {} found", tally.passed);
     tally
+}
+
+fn tell(tally: &mut Tally, fault: &str, found: Option<String>) {
+    tally.note(found.is_some());
+    match found {
+        Some(told) => println!("found {fault} at {told}"),
+        None => println!("NOT FOUND {fault}"),
+    }
 }

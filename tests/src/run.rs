@@ -110,7 +110,8 @@ fn reading(a: &Reading, b: &Reading) -> Option<String> {
     }
 }
 
-fn areas(a: &Buffers, b: &Buffers) -> Option<String> {
+/// The first of the six areas in which two differ.
+pub fn areas(a: &Buffers, b: &Buffers) -> Option<String> {
     let found = [
         (a.tec != b.tec).then(|| place("tec", &a.tec, &b.tec)),
         (a.rms != b.rms).then(|| place("rms", &a.rms, &b.rms)),
@@ -123,7 +124,7 @@ fn areas(a: &Buffers, b: &Buffers) -> Option<String> {
 }
 
 /// The first place where two areas differ.
-fn place<T: PartialEq + std::fmt::Debug>(what: &str, a: &[T], b: &[T]) -> String {
+pub fn place<T: PartialEq + std::fmt::Debug>(what: &str, a: &[T], b: &[T]) -> String {
     if a.len() != b.len() {
         return format!("{what}: lengths {} and {}", a.len(), b.len());
     }

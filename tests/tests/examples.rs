@@ -1,33 +1,25 @@
 //! The example files: each text gives the answer written beside it.
 
+use compare::library::{self, Library};
+use compare::program;
 use compare::set::Buffers;
 use second::program::canon;
-use second::{read, Axis, Header, Reading};
+use second::{Axis, Header, Reading};
 use std::fs;
-use std::path::PathBuf;
-
-fn folder() -> PathBuf {
-    PathBuf::from(env!("CARGO_MANIFEST_DIR")).join("examples")
-}
 
 fn bytes(name: &str) -> Vec<u8> {
-    fs::read(folder().join(name)).unwrap()
+    fs::read(program::folder().join(name)).unwrap()
 }
 
 #[test]
 fn answers_beside_the_texts() {
-    let mut names = Vec::new();
-    for entry in fs::read_dir(folder()).unwrap() {
-        let path = entry.unwrap().path();
-        if path.extension().is_some_and(|e| e == "expected") {
-            names.push(path.file_stem().unwrap().to_string_lossy().into_owned());
-        }
-    }
-    names.sort();
-    assert_eq!(names.len(), 14);
+    let names: Vec<String> = program::names()
+        .into_iter()
+        .filter(|name| !name.starts_with("001"))
+        .collect();
+    assert_eq!(names.len(), 18);
     for name in names {
         let text = bytes(&format!("{name}.inx"));
-        assert!(text.len() <= 32_768, "{name}");
         let expected = bytes(&format!("{name}.expected"));
         let found = canon(&text);
         assert_eq!(
@@ -41,10 +33,21 @@ fn answers_beside_the_texts() {
     }
 }
 
+/// The sizes that the names promise.
+#[test]
+fn sizes() {
+    assert_eq!(bytes("empty.inx").len(), 0);
+    assert_eq!(bytes("size-32768.inx").len(), 32_768);
+    assert_eq!(bytes("size-32769.inx").len(), 32_769);
+    // The last byte of the largest input is needed.
+    let cut = &bytes("size-32768.inx")[..32_767];
+    assert!(canon(cut).starts_with(b"refused 4 "));
+}
+
 /// Reads an example of document 001 with areas of exactly the lengths needed.
-fn example(name: &str, lengths: [usize; 6]) -> (Header, Buffers) {
+fn example(library: &dyn Library, name: &str, lengths: [usize; 6]) -> (Header, Buffers) {
     let mut areas = Buffers::filled(lengths, 1);
-    match read(&bytes(name), &mut areas.lent()) {
+    match library.read(&bytes(name), &mut areas) {
         Reading::Accepted { header, texts } => {
             assert_eq!(&texts.program, b"ionpgm v1.0         ");
             assert_eq!(&texts.agency, b"aiub                ");
@@ -82,9 +85,15 @@ fn common(header: &Header, areas: &Buffers) {
 
 #[test]
 fn table_3() {
+    for library in library::all() {
+        read_table_3(library.as_ref());
+    }
+}
+
+fn read_table_3(library: &dyn Library) {
     let values = 5 * 35 * 72;
     let lengths = [values, values, values, 3 * 5 * 35, 5, 5];
-    let (header, areas) = example("001-table-3.inx", lengths);
+    let (header, areas) = example(library, "001-table-3.inx", lengths);
     common(&header, &areas);
     assert_eq!(header.dimension, 2);
     let heights = header.heights;
@@ -99,9 +108,15 @@ fn table_3() {
 
 #[test]
 fn table_4() {
+    for library in library::all() {
+        read_table_4(library.as_ref());
+    }
+}
+
+fn read_table_4(library: &dyn Library) {
     let values = 5 * 13 * 35 * 72;
     let lengths = [values, values, 0, 3 * 5 * 13 * 35, 5, 5];
-    let (header, areas) = example("001-table-4.inx", lengths);
+    let (header, areas) = example(library, "001-table-4.inx", lengths);
     common(&header, &areas);
     assert_eq!(header.dimension, 3);
     let heights = header.heights;

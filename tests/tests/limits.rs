@@ -1,7 +1,8 @@
 //! A map set of exactly 2,000,000 values: 100 maps, 50 rows, 400 columns.
 
-use compare::set::Buffers;
-use second::{read, write, Reading, Refusal};
+use compare::library;
+use compare::set::{Buffers, MapSet};
+use second::{Reading, Refusal};
 
 fn rec(body: &str, label: &str) -> String {
     format!("{body:<60}{label}\n")
@@ -48,31 +49,39 @@ fn text() -> String {
 #[test]
 fn two_million_values() {
     let text = text();
-    let mut areas = Buffers::filled([2_000_001, 0, 0, 15_000, 100, 100], 1);
-    let guard = areas.tec[2_000_000];
-    let answer = read(text.as_bytes(), &mut areas.lent());
-    let Reading::Accepted { header, texts } = answer else {
-        panic!("{answer:?}");
-    };
-    assert_eq!(areas.tec[2_000_000], guard);
-    for (block, values) in areas.tec[..2_000_000].chunks(400).enumerate() {
-        assert!(values.iter().all(|&value| value == block as i32));
+    for library in library::all() {
+        let mut areas = Buffers::filled([2_000_001, 0, 0, 15_000, 100, 100], 1);
+        let guard = areas.tec[2_000_000];
+        let answer = library.read(text.as_bytes(), &mut areas);
+        let Reading::Accepted { header, texts } = answer else {
+            panic!("{answer:?}");
+        };
+        assert_eq!(areas.tec[2_000_000], guard);
+        for (block, values) in areas.tec[..2_000_000].chunks(400).enumerate() {
+            assert!(values.iter().all(|&value| value == block as i32));
+        }
+        let set = MapSet {
+            header,
+            texts,
+            areas,
+        };
+        let mut out = vec![0; text.len()];
+        assert_eq!(library.write(&set, &mut out), Ok(text.len()));
+        assert!(out == text.as_bytes());
     }
-    let mut out = vec![0; text.len()];
-    let written = write(&header, &texts, &areas.view(), &mut out);
-    assert_eq!(written, Ok(text.len()));
-    assert!(out == text.as_bytes());
 }
 
 #[test]
 fn one_column_more() {
     let text = text().replace("199.5", "200.0");
-    let mut areas = Buffers::filled([0; 6], 1);
-    let answer = read(text.as_bytes(), &mut areas.lent());
     let expected = Refusal::Place {
         number: 7,
         line: 15,
         column: 0,
     };
-    assert_eq!(answer, Reading::Refused(expected));
+    for library in library::all() {
+        let mut areas = Buffers::filled([0; 6], 1);
+        let answer = library.read(text.as_bytes(), &mut areas);
+        assert_eq!(answer, Reading::Refused(expected));
+    }
 }

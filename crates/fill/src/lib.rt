@@ -22,7 +22,7 @@ fn put_block(text: &[u8], at: usize, from: usize, columns: usize, area: &mut [i3
     ensures { λ r. ⌜ Resumes (now (text .entry)) at columns r × (now (area .exit) ≡ sets (now (area .entry)) from (values-ahead columns (rows-from (now (text .entry)) at))) ⌝ }
 {
     let e = from + columns;
-    blocks::fill_block(text, at, 0, &mut area[from..e])
+    lines::fill_block(text, at, 0, &mut area[from..e])
 }
 
 // ---- From one line to the next

@@ -1,9 +1,8 @@
 // The labels of the records, compared by the reader and written by the writer.
 ghost use mathlib.Core.Path.{_≡_};
-ghost use mathlib.Core.List.{[]};
-ghost use Prim.Native.Nat.{_<_};
-ghost use lib.ListN.{getD};
-ghost use Rattle.layout.specs.Names.{names, holds, number-of};
+ghost use Prim.Native.Nat.{_≤_};
+ghost use lib.ListN.{length};
+ghost use Rattle.layout.specs.Names.{holds, number-of};
 
 // In 01's order: 23 of the header, 9 of the maps.
 pub const LABELS: [[u8; 20]; 32] = [
@@ -41,15 +40,15 @@ pub const LABELS: [[u8; 20]; 32] = [
     *b"END OF FILE         ",
 ];
 
-// Whether columns 61 to 80 hold the k-th label.
-fn has_label(line: &[u8], k: usize) -> bool
-    requires { ⌜ k < 32 ⌝ }
-    ensures { λ r. ⌜ r ≡ holds (now (line .entry)) 60 (getD names k []) ⌝ }
+// Whether columns 61 to 80 hold a label.
+fn has_label(line: &[u8], label: &[u8; 20]) -> bool
+    requires { ⌜ length (now label) ≡ 20 ⌝ }
+    ensures { λ r. ⌜ r ≡ holds (now (line .entry)) 60 (now (label .entry)) ⌝ }
 {
     let mut j: usize = 0;
     while j < 20 {
         let b = fields::byte_at(line, 60 + j);
-        if b != LABELS[k][j] {
+        if b != label[j] {
             return false;
         }
         j += 1;
@@ -57,16 +56,46 @@ fn has_label(line: &[u8], k: usize) -> bool
     true
 }
 
-// The place in LABELS of the label in columns 61 to 80, 32 where it is none of them.
-pub fn label_of(line: &[u8]) -> usize
+// The same of a line that does not stop early: no branch per byte, so that vector code is made of it.
+fn has_whole(line: &[u8], label: &[u8; 20]) -> bool
+    requires { ⌜ (80 ≤ length (now line)) × (length (now label) ≡ 20) ⌝ }
+    ensures { λ r. ⌜ r ≡ holds (now (line .entry)) 60 (now (label .entry)) ⌝ }
+{
+    let mut ok = true;
+    let mut j: usize = 0;
+    while j < 20 {
+        ok = ok & (line[60 + j] == label[j]);
+        j += 1;
+    }
+    ok
+}
+
+// The place of the label in columns 61 to 80, by trying one after the other. The table is made once, not for each byte.
+fn search(line: &[u8]) -> usize
     ensures { λ r. ⌜ r ≡ number-of (now (line .entry)) ⌝ }
 {
+    let labels = LABELS;
     let mut k: usize = 0;
     while k < 32 {
-        if has_label(line, k) {
+        let label = labels[k];
+        if has_label(line, &label) {
             return k;
         }
         k += 1;
     }
     32
+}
+
+// The place in LABELS of the label in columns 61 to 80, 32 where it is none of them. Nearly all labels of a file open a block: that is tried first.
+pub fn label_of(line: &[u8]) -> usize
+    ensures { λ r. ⌜ r ≡ number-of (now (line .entry)) ⌝ }
+{
+    if line.len() < 80 {
+        return search(line);
+    }
+    let opening = LABELS[30];
+    if has_whole(line, &opening) {
+        return 30;
+    }
+    search(line)
 }

@@ -1,3 +1,7 @@
 pub mod Passing
 pub mod Firsts
 pub mod Parts
+pub mod QuickLines
+pub mod ValueLaws
+pub mod QuickRows
+pub mod BlockLaws

@@ -72,3 +72,33 @@ module _ {P : ℕ → Type 0} (d : (b : ℕ) → Dec (P b)) where
       by : Dec (P b) → (passing d x < length x → passing d (x ++ y) ≡ passing d x) → passing d (b ∷ x ++ y) ≡ passing d (b ∷ x)
       by (yes p) f = let e = one b x p in one b (x ++ y) p ∙ ap suc (f (omega arith)) ∙ sym e
       by (no n) f = none b (x ++ y) n ∙ sym (none b x n)
+
+  -- where all of the first k pass, the rest decides
+  pub passing-skip : (k : ℕ) (l : List ℕ) → passing d (take k l) ≡ k → passing d l ≡ k + passing d (drop k l)
+  passing-skip zero l e = omega arith
+  passing-skip (suc k) [] e = let z : passing d [] ≡ 0 = unfold passing in refl in absurd (omega arith)
+  passing-skip (suc k) (b ∷ l) e = by (d b) (passing-skip k l)
+    where
+      by : Dec (P b) → (passing d (take k l) ≡ k → passing d l ≡ k + passing d (drop k l)) → passing d (b ∷ l) ≡ suc k + passing d (drop k l)
+      by (yes p) f =
+          let u = one b (take k l) p in
+          let v = one b l p in
+          let g = f (omega arith) in
+          omega arith
+      by (no n) f = let u = none b (take k l) n in absurd (omega arith)
+
+  pub passing-before : (l : List ℕ) (i : ℕ) → i < passing d l → P (getD l i 0)
+  unfolding passing
+  passing-before [] i h = absurd (omega arith)
+  passing-before (b ∷ l) zero h = pick-elim (λ k. 0 < k → P b) (d b) (λ p h. p) (λ n h. absurd (omega arith)) h
+  passing-before (b ∷ l) (suc i) h =
+      pick-elim (λ k. suc i < k → P (getD l i 0)) (d b) (λ p h. passing-before l i (omega arith)) (λ n h. absurd (omega arith)) h
+
+  pub passing-is : (l : List ℕ) (k : ℕ) → k < length l → ((i : ℕ) → i < k → P (getD l i 0)) → ¬ P (getD l k 0) → k ≡ passing d l
+  passing-is [] k h f n = absurd (omega arith)
+  passing-is (b ∷ l) zero h f n = sym (none b l n)
+  passing-is (b ∷ l) (suc k) h f n = ap suc (passing-is l k (omega arith) (λ i q. f (suc i) (omega arith)) n) ∙ sym (one b l (f 0 (omega arith)))
+
+  pub passing-full : (l : List ℕ) → All P l → passing d l ≡ length l
+  passing-full [] a = unfold passing in refl
+  passing-full (b ∷ l) a = one b l (a .0) ∙ ap suc (passing-full l (a .1))

@@ -1,4 +1,4 @@
--- Texts that tell: an order of refusals that no rule of the layout shows, and a small text that is accepted.
+-- Texts that tell: an order of refusals that no rule of the layout shows, and two small texts that are accepted.
 use mathlib.Core.Path.{_≡_, refl}
 use mathlib.Core.List.{List, [], _∷_, _++_}
 use mathlib.Core.Bool.{true, false}
@@ -97,7 +97,7 @@ abbrev row-of : ℤ → ℤ → ℤ → ℤ → Block
 row-of e a b c = record { exponent = e; values = a ∷ b ∷ c ∷ [] }
 
 -- the map set that makes it: the second row and the RMS map stand under the exponent -2
-pub small-set : MapSet
+unfoldable pub small-set : MapSet
 small-set =
     record {
       header = record {
@@ -133,3 +133,71 @@ small-read = refl
 
 pub small-made : Makes small-set (lines small-text)
 small-made = made-read (lines small-text) small-read
+
+-- a text with two TEC maps of one row and two columns
+pub two-text : List String
+two-text =
+    "     1.1            IONOSPHERE MAPS     MIX                 IONEX VERSION / TYPE"
+    ∷ "maker               agency              15-nov-26 06:00     PGM / RUN BY / DATE"
+    ∷ "  1995    10    15     0     0     0                        EPOCH OF FIRST MAP"
+    ∷ "  1995    10    15     1     0     0                        EPOCH OF LAST MAP"
+    ∷ "  3600                                                      INTERVAL"
+    ∷ "     2                                                      # OF MAPS IN FILE"
+    ∷ "  COSZ                                                      MAPPING FUNCTION"
+    ∷ "     0.0                                                    ELEVATION CUTOFF"
+    ∷ "carrier phase                                               OBSERVABLES USED"
+    ∷ "  6371.0                                                    BASE RADIUS"
+    ∷ "     2                                                      MAP DIMENSION"
+    ∷ "   450.0 450.0   0.0                                        HGT1 / HGT2 / DHGT"
+    ∷ "     5.0   5.0   5.0                                        LAT1 / LAT2 / DLAT"
+    ∷ "     0.0   5.0   5.0                                        LON1 / LON2 / DLON"
+    ∷ "                                                            END OF HEADER"
+    ∷ "     1                                                      START OF TEC MAP"
+    ∷ "  1995    10    15     0     0     0                        EPOCH OF CURRENT MAP"
+    ∷ "     5.0   0.0   5.0   5.0 450.0                            LAT/LON1/LON2/DLON/H"
+    ∷ "   11   12"
+    ∷ "     1                                                      END OF TEC MAP"
+    ∷ "     2                                                      START OF TEC MAP"
+    ∷ "  1995    10    15     1     0     0                        EPOCH OF CURRENT MAP"
+    ∷ "     5.0   0.0   5.0   5.0 450.0                            LAT/LON1/LON2/DLON/H"
+    ∷ "   21   22"
+    ∷ "     2                                                      END OF TEC MAP"
+    ∷ "                                                            END OF FILE"
+    ∷ []
+
+abbrev pair-of : ℤ → ℤ → Block
+pair-of a b = record { exponent = negsuc 0; values = a ∷ b ∷ [] }
+
+unfoldable pub two-set : MapSet
+two-set =
+    record {
+      header = record {
+        version = record { tenths = 11; kind = 73; code = 6 };
+        times = record { first = 3022704000; last = 3022707600; interval = 3600; maps = 2 };
+        model = record { cutoff = 0; radius = 63710; dimension = 2 };
+        grid = record {
+          heights = record { first = pos 4500; last = pos 4500; step = pos 0 };
+          latitudes = record { first = pos 50; last = pos 50; step = pos 50 };
+          longitudes = record { first = pos 0; last = pos 50; step = pos 50 };
+        };
+        stations = record { stands = false; count = 0 };
+        satellites = record { stands = false; count = 0 };
+        systems = record { g = no-system; r = no-system; e = no-system; c = no-system; j = no-system; i = no-system; s = no-system };
+      };
+      texts = record {
+        program = bytes "maker               ";
+        agency = bytes "agency              ";
+        date = bytes "15-nov-26 06:00     ";
+        mapping = bytes "COSZ";
+        observables = bytes "carrier phase                                               ";
+      };
+      maps = record {
+        tec = record { epoch = 3022704000; blocks = pair-of (pos 11) (pos 12) ∷ [] } ∷ record { epoch = 3022707600; blocks = pair-of (pos 21) (pos 22) ∷ [] } ∷ [];
+        rms = [];
+        height = [];
+      };
+    }
+
+pub two-read : read (lines two-text) ≡ ok two-set
+unfolding two-text two-set read begin feed split front opens? pad pick ×-dec ⊎-dec ¬-dec all-dec same sames need bind amap get ℕ-discrete decLe decLt int? le? lt? between? within? natural? dated second isLeap monthDays yearDays sum readField numberOf formed? ×₃-dec ×₄-dec end? step? multiple? together? limits? dimension? follows? name on-line lookup label number blank scan fields cells on-date exponent? kind? true? after? implies? in-time? height? loose on-comment on-exponent start-tec start-other start-map on-start end-map on-map-end epoch-tec epoch-other on-epoch open-block on-block on-file taken step finish run short meant place none? complete? made made-texts once on-end at-head head-step heading code-of
+two-read = refl

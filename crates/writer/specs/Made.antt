@@ -161,6 +161,11 @@ module _ (m : MapSet) (f : Formed m) where
       (h-end (row-is header-end tt tt) (none-left 22) (f .header .fillers) (f .header .dimension) (f .header .limits) (body .0))
       (row-good header-end tt (known-heads .3) tt, body .1)
 
+  -- every row has 80 printable columns, one of them not blank
+  pub rows-good : All GoodRow (canon-rows m)
+  unfolding canon-rows
+  rows-good = (version-good (m .header .version .code) (f .header .version .code), header-put .1)
+
   -- ---- canonical text is made from its map set
   pub canon-made : Makes m (canon m)
   unfolding canon canon-rows

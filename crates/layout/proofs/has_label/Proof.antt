@@ -1,26 +1,25 @@
-use mathlib.Core.Path.{_≡_, _∙_, sym, ap, refl}
-use mathlib.Core.List.{[]}
-use Prim.Native.Nat.{ℕ, _+_, _-_, _≤_, _<_}
+use mathlib.Core.Path.{_≡_, refl, sym, _∙_}
+use Prim.Native.Nat.{_+_, _-_, _≤_}
 use native.Mathlib.Omega.{arith}
 use borrow.Author.Needs.{needs}
-use borrow.Author.Tests.{eq-eqb, ne-eqb}
-use lib.ListN.{drop, getD, length}
-use Rattle.layout.specs.Labels.{name}
-use Rattle.layout.specs.Names.{holds, names}
-use Rattle.layout.proofs.Laws.{holds-other, holds-same, holds-end, label-length}
+use mathlib.Core.Bool.{_&&_}
+use lib.ListN.{drop, length}
+use Rattle.layout.specs.Names.{holds}
+use Rattle.layout.proofs.Laws.{holds-other, holds-same, holds-end}
 use Rattle.layout.proofs.has_label.Statement.{statement}
 use Rattle.layout.proofs.has_label.Tie as tie
 use Rattle.layout.proofs.has_label.Reads as reads
 use Rattle.layout.proofs.has_label.Lts as lts
+use Rattle.fields.proofs.byte_at.Reads as byte-at-reads
 
 abbrev Inv-loop : tie.InvT-loop
-Inv-loop line k j₀ j = (j ≤ 20) × (holds line (60 + j) (drop j (getD names k [])) ≡ holds line 60 (getD names k []))
+Inv-loop line label j₀ j = (j ≤ 20) × (holds line (60 + j) (drop j label) ≡ holds line 60 label)
 
 abbrev μ-loop : tie.MeasureT-loop
-μ-loop line k j₀ j = 20 - j
+μ-loop line label j₀ j = 20 - j
 
 loop-holds : tie.Need-loop-holds Inv-loop μ-loop
-loop-holds c = (search needs, refl)
+loop-holds c = (omega arith, refl)
 
 add-byte-at : tie.Need-add-byte-at Inv-loop μ-loop
 add-byte-at c = omega arith
@@ -28,25 +27,14 @@ add-byte-at c = omega arith
 byte-at-requires : tie.Need-byte-at-requires Inv-loop μ-loop
 byte-at-requires c κs = tt
 
-mul-if1 : tie.Need-mul-if1 Inv-loop μ-loop
-mul-if1 c = omega arith
-
-index-1-if1 : tie.Need-index-1-if1 Inv-loop μ-loop
-index-1-if1 c = omega arith
-
-index-2-if1 : tie.Need-index-2-if1 Inv-loop μ-loop
-index-2-if1 c = omega arith
-
-length-here : (k j : ℕ) → k < 32 → j < 20 → j < length (getD names k [])
-length-here k j h i = rw (label-length k h) i
+element-copy-out-if1 : tie.Need-element-copy-out-if1 Inv-loop μ-loop
+element-copy-out-if1 c = omega arith
 
 returns : tie.Need-returns Inv-loop μ-loop
-unfolding names name
 returns c =
     let a = c .before .before .before .before .before .before .args in
     let l = c .before .before .before .before .loop in
-    holds-other (a .line .now) 60 (getD names (a .k) []) (l .j) (c .before .before .byte-at .result)
-    (length-here (a .k) (l .j) (omega arith) (omega arith)) (l .inv .1) (c .before .before .byte-at .ensures) (c .if1 .taken)
+    holds-other (a .line .now) 60 (a .label .now) (l .j) (c .before .before .byte-at .result) (omega arith) (l .inv .1) (c .before .before .byte-at .ensures) (c .if1 .taken)
 
 add-j : tie.Need-add-j Inv-loop μ-loop
 add-j c = omega arith
@@ -55,20 +43,16 @@ loop-less : tie.Need-loop-less Inv-loop μ-loop
 loop-less c = omega arith
 
 loop-again : tie.Need-loop-again Inv-loop μ-loop
-unfolding names name
 loop-again c =
     let a = c .before .before .before .before .before .before .args in
-    let l = c .before .before .before .before .loop in (
-      omega arith,
-      holds-same (a .line .now) 60 (getD names (a .k) []) (l .j) (c .before .before .byte-at .result)
-          (length-here (a .k) (l .j) (omega arith) (omega arith)) (l .inv .1) (c .before .before .byte-at .ensures) (c .if1 .left),
-    )
+    let l = c .before .before .before .before .loop in
+    (omega arith, holds-same (a .line .now) 60 (a .label .now) (l .j) (c .before .before .byte-at .result) (omega arith) (l .inv .1) (c .before .before .byte-at .ensures) (c .if1 .left))
 
 returns-2 : tie.Need-returns-2 Inv-loop μ-loop
 returns-2 c =
     let a = c .before .before .before .args in
     let l = c .before .loop in
-    holds-end (a .line .now) 60 (getD names (a .k) []) (l .j) (rw (label-length (a .k) (omega arith)) (omega arith)) (l .inv .1)
+    holds-end (a .line .now) 60 (a .label .now) (l .j) (omega arith) (l .inv .1)
 
 pub has-label-spec : {M : Type 1} → statement M
 has-label-spec =
@@ -79,9 +63,7 @@ has-label-spec =
     loop-holds
     add-byte-at
     byte-at-requires
-    mul-if1
-    index-1-if1
-    index-2-if1
+    element-copy-out-if1
     returns
     add-j
     loop-less

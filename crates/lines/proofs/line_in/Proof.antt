@@ -1,61 +1,77 @@
 use native.Mathlib.Omega.{arith}
 use mathlib.Core.Path.{sym}
 use lib.Seq.{length-take-le}
-use Rattle.lines.proofs.Firsts.{stand-over, stand-bad, stand-skip, stand-row}
+use Rattle.lines.proofs.QuickLines.{quick-row, quick-skip}
 use borrow.Author.Needs.{needs}
 use Rattle.lines.proofs.line_in.Statement.{statement}
 use Rattle.lines.proofs.line_in.Tie as tie
 use Rattle.lines.proofs.line_in.Reads as reads
 use Rattle.lines.proofs.line_in.Lts as lts
-use Rattle.lines.proofs.look_at.Reads as look-at-reads
-use Rattle.lines.proofs.span_in.Reads as span-in-reads
+use Rattle.lines.proofs.any_line_in.Reads as any-line-in-reads
+use Rattle.lines.proofs.blanks_in.Reads as blanks-in-reads
+use Rattle.lines.proofs.run_in.Reads as run-in-reads
+
+run-in-requires : tie.Need-run-in-requires
+run-in-requires c κs = search needs
+
+any-line-in-requires : tie.Need-any-line-in-requires
+any-line-in-requires c κs = search needs
 
 returns : tie.Need-returns
-returns c =
-    stand-over _ (c .if1 .taken)
+returns c = search needs
 
-span-in-requires : tie.Need-span-in-requires
-span-in-requires c κs = search needs
-
-slice-aggregate-look-at : tie.Need-slice-aggregate-look-at
-slice-aggregate-look-at c =
-    let h = c .before .span-in .ensures in sym (length-take-le _ _ (omega (arith, h .inside, h .within)))
-
-look-at-requires : tie.Need-look-at-requires
-look-at-requires c κs = search needs
-
-enum-known-number : tie.Need-enum-known-number
-enum-known-number c = search needs
-
-enum-told : tie.Need-enum-told
-enum-told c = search needs
-
-enum-told-2 : tie.Need-enum-told-2
-enum-told-2 c = search needs
+any-line-in-requires-2 : tie.Need-any-line-in-requires-2
+any-line-in-requires-2 c κs = search needs
 
 returns-2 : tie.Need-returns-2
-returns-2 c =
-    stand-bad _ _ (c .before .before .before .before .before .span-in .ensures) _ _ (cc)
+returns-2 c = search needs
+
+shared-slice-read-if3 : tie.Need-shared-slice-read-if3
+shared-slice-read-if3 c = search needs
+
+any-line-in-requires-3 : tie.Need-any-line-in-requires-3
+any-line-in-requires-3 c κs = search needs
 
 returns-3 : tie.Need-returns-3
-returns-3 c =
-    stand-skip _ _ (c .before .before .before .before .span-in .ensures) (cc)
+returns-3 c = search needs
+
+slice-aggregate-blanks-in : tie.Need-slice-aggregate-blanks-in
+slice-aggregate-blanks-in c = sym (length-take-le _ _ (omega arith))
+
+blanks-in-requires : tie.Need-blanks-in-requires
+blanks-in-requires c κs = search needs
+
+add-t10 : tie.Need-add-t10
+add-t10 c = search needs
 
 returns-4 : tie.Need-returns-4
 returns-4 c =
-    stand-row _ _ (c .before .before .before .before .span-in .ensures) (cc)
+    let f = c .before .before .before in
+    quick-row _ _ (f .before .before .before .before .run-in .ensures) (omega arith) (f .if3 .left) (omega arith) _ (c .before .blanks-in .ensures) (omega arith)
+
+add-t4 : tie.Need-add-t4
+add-t4 c = search needs
+
+returns-5 : tie.Need-returns-5
+returns-5 c =
+    let f = c .before .before .before in
+    quick-skip _ _ (f .before .before .before .before .run-in .ensures) (omega arith) (f .if3 .left) (omega arith) _ (c .before .blanks-in .ensures) (omega arith)
 
 pub line-in-spec : {M : Type 1} → statement M
 line-in-spec =
     tie.close
     (tie.spec
+    run-in-requires
+    any-line-in-requires
     returns
-    span-in-requires
-    slice-aggregate-look-at
-    look-at-requires
-    enum-known-number
-    enum-told
-    enum-told-2
+    any-line-in-requires-2
     returns-2
+    shared-slice-read-if3
+    any-line-in-requires-3
     returns-3
-    returns-4)
+    slice-aggregate-blanks-in
+    blanks-in-requires
+    add-t10
+    returns-4
+    add-t4
+    returns-5)

@@ -1,0 +1,198 @@
+//! The value at a place and second, plainly, with the library's checks.
+
+use crate::calendar;
+use crate::header::{self, Axis, Header, CODES};
+
+pub struct View<'a> {
+    pub tec: &'a [i32],
+    pub rms: &'a [i32],
+    pub height: &'a [i32],
+    pub exponents: &'a [i32],
+    pub epochs: &'a [u64],
+    pub marks: &'a [u8],
+}
+
+#[derive(Clone, Copy, Debug, PartialEq, Eq)]
+pub struct Question {
+    pub kind: u64,
+    pub method: u64,
+    pub layer: u64,
+    /// Hundredths of a degree.
+    pub lat: i32,
+    pub lon: i32,
+    pub second: u64,
+}
+
+/// A line or map, its share, and the share of the next one.
+#[derive(Clone, Copy)]
+struct Between {
+    at: usize,
+    shares: [i64; 2],
+}
+
+/// Thousandths of a TECU or of a kilometre, or a refusal: 23, 31, 20, 21, 22.
+pub fn ask(header: &Header, view: &View, question: &Question) -> Result<i32, u8> {
+    if question.kind > 2 || question.method > 1 {
+        return Err(23);
+    }
+    if !is_valid(header) || !areas_fit(header, view) {
+        return Err(31);
+    }
+    let epochs = &view.epochs[..header.maps as usize];
+    let time = in_time(epochs, question).ok_or(20)?;
+    let layer = usize::try_from(question.layer).map_err(|_| 21)?;
+    if layer >= header.heights.count() {
+        return Err(21);
+    }
+    let latitude = i64::from(question.lat) - 10 * header.latitudes.first;
+    let row = along(&header.latitudes, latitude * header.latitudes.step.signum()).ok_or(21)?;
+    let longitude = i64::from(question.lon) - 10 * header.longitudes.first;
+    let column = along(&header.longitudes, longitude.rem_euclid(36_000)).ok_or(21)?;
+    value(
+        header,
+        view,
+        question.kind as usize,
+        layer,
+        time,
+        row,
+        column,
+    )
+    .ok_or(22)
+}
+
+/// The two lines around an offset in hundredths from an axis' first.
+fn along(axis: &Axis, offset: i64) -> Option<Between> {
+    let step = 10 * axis.step.abs();
+    if offset < 0 || offset > 10 * (axis.last - axis.first).abs() {
+        return None;
+    }
+    let share = offset % step;
+    Some(Between {
+        at: (offset / step) as usize,
+        shares: [step - share, share],
+    })
+}
+
+fn in_time(epochs: &[u64], question: &Question) -> Option<Between> {
+    let second = question.second;
+    let alone = |at| Between { at, shares: [1, 0] };
+    if second < epochs[0] || second > epochs[epochs.len() - 1] {
+        return None;
+    }
+    let at = epochs.partition_point(|&epoch| epoch <= second) - 1;
+    let Some(&next) = epochs.get(at + 1) else {
+        return Some(alone(at));
+    };
+    let (after, before) = ((second - epochs[at]) as i64, (next - second) as i64);
+    Some(match question.method {
+        0 => alone(if after <= before { at } else { at + 1 }),
+        _ => Between {
+            at,
+            shares: [before, after],
+        },
+    })
+}
+
+/// The exact fraction, rounded once, halves away from zero. Shares of at most 21,600, 1,500 and 1,500 and nodes of at
+/// most 99,999,000 leave the sum within 64 bits.
+fn value(
+    header: &Header,
+    view: &View,
+    kind: usize,
+    layer: usize,
+    time: Between,
+    row: Between,
+    column: Between,
+) -> Option<i32> {
+    let mut sum = 0;
+    let mut all = 0;
+    for (map, a) in (time.at..).zip(time.shares) {
+        for (row, b) in (row.at..).zip(row.shares) {
+            for (column, c) in (column.at..).zip(column.shares) {
+                let weight = a * b * c;
+                if weight != 0 {
+                    sum += weight * node(header, view, kind, map, layer, row, column)?;
+                    all += weight;
+                }
+            }
+        }
+    }
+    let (whole, rest) = (sum / all, sum % all);
+    let up = if 2 * rest.abs() >= all {
+        sum.signum()
+    } else {
+        0
+    };
+    Some((whole + up) as i32)
+}
+
+fn node(
+    header: &Header,
+    view: &View,
+    kind: usize,
+    map: usize,
+    layer: usize,
+    row: usize,
+    column: usize,
+) -> Option<i64> {
+    if kind != 0 && view.marks[map] & kind as u8 == 0 {
+        return None;
+    }
+    let values = [view.tec, view.rms, view.height][kind];
+    let block = (map * header.heights.count() + layer) * header.latitudes.count() + row;
+    let value = values[block * header.longitudes.count() + column];
+    let kind_start = kind * header.maps as usize * header.blocks();
+    let exponent = view.exponents[kind_start + block];
+    if value == 9999 || !(-9999..=99_999).contains(&value) || !(-3..=0).contains(&exponent) {
+        return None;
+    }
+    Some(i64::from(value) * 10i64.pow((exponent + 3) as u32))
+}
+
+fn is_valid(header: &Header) -> bool {
+    let count = |count: Option<i64>| count.is_none_or(|n| header::COUNT.contains(&n));
+    let printable = |text: &[u8]| text.iter().all(|b| (32..=126).contains(b));
+    header.version == 11
+        && header.kind == b'I'
+        && header.code < CODES.len()
+        && header.first_epoch < calendar::END
+        && header.last_epoch < calendar::END
+        && header::INTERVAL.contains(&header.interval)
+        && header::MAPS.contains(&header.maps)
+        && header::CUTOFF.contains(&header.cutoff)
+        && header::RADIUS.contains(&header.radius)
+        && header::DIMENSION.contains(&header.dimension)
+        && header.heights.heights().is_ok()
+        && header.latitudes.latitudes().is_ok()
+        && header.longitudes.longitudes().is_ok()
+        && header.dimension_agrees()
+        && header.size_fits()
+        && count(header.stations)
+        && count(header.satellites)
+        && header
+            .systems
+            .iter()
+            .all(|s| count(s.map(|s| s.stations)) && count(s.map(|s| s.satellites)))
+        && printable(&header.program)
+        && printable(&header.mapping)
+        && printable(&header.observables)
+}
+
+/// Lengths, marks and epochs.
+fn areas_fit(header: &Header, view: &View) -> bool {
+    let maps = header.maps as usize;
+    let values = maps * header.blocks() * header.longitudes.count();
+    let (Some(marks), Some(epochs)) = (view.marks.get(..maps), view.epochs.get(..maps)) else {
+        return false;
+    };
+    let any = |bit: u8| marks.iter().any(|mark| mark & bit != 0);
+    marks.iter().all(|&mark| mark <= 3)
+        && view.tec.len() >= values
+        && (view.rms.len() >= values || !any(1))
+        && (view.height.len() >= values || !any(2))
+        && view.exponents.len() >= 3 * maps * header.blocks()
+        && (0..maps).all(|k| {
+            let before = k.checked_sub(1).map(|k| epochs[k]);
+            header.epoch_agrees(k, before, epochs[k])
+        })
+}

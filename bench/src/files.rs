@@ -1,0 +1,120 @@
+//! Global files as the analysis centres make them: 25 maps of 71 rows and 73 columns.
+
+use std::fmt::Write;
+
+const MAPS: usize = 25;
+const ROWS: usize = 71;
+const COLUMNS: usize = 73;
+
+/// Elements of the six areas that such a file needs at most.
+pub const NEEDS: [usize; 6] = [
+    MAPS * ROWS * COLUMNS,
+    MAPS * ROWS * COLUMNS,
+    MAPS * ROWS * COLUMNS,
+    3 * MAPS * ROWS,
+    MAPS,
+    MAPS,
+];
+
+/// The text of a file with TEC maps and, if asked for, RMS maps.
+pub fn global(with_rms: bool) -> String {
+    let mut text = header();
+    for map in 0..MAPS {
+        add_map(&mut text, "TEC", map, tec);
+    }
+    if with_rms {
+        for map in 0..MAPS {
+            add_map(&mut text, "RMS", map, rms);
+        }
+    }
+    record(&mut text, "", "END OF FILE");
+    text
+}
+
+fn record(text: &mut String, body: &str, label: &str) {
+    writeln!(text, "{body:<60}{label}").expect("a string takes all");
+}
+
+fn header() -> String {
+    let mut text = String::new();
+    let records = [
+        (
+            "     1.1            IONOSPHERE MAPS     GNSS",
+            "IONEX VERSION / TYPE",
+        ),
+        (
+            "gimp v2.4           centre              01-jan-24 05:12",
+            "PGM / RUN BY / DATE",
+        ),
+        ("Global ionosphere maps, every hour", "DESCRIPTION"),
+        ("  2024     1     1     0     0     0", "EPOCH OF FIRST MAP"),
+        ("  2024     1     2     0     0     0", "EPOCH OF LAST MAP"),
+        ("  3600", "INTERVAL"),
+        ("    25", "# OF MAPS IN FILE"),
+        ("  COSZ", "MAPPING FUNCTION"),
+        ("    10.0", "ELEVATION CUTOFF"),
+        ("One-way carrier phase leveled to code", "OBSERVABLES USED"),
+        ("   254", "# OF STATIONS"),
+        ("    55", "# OF SATELLITES"),
+        ("  6371.0", "BASE RADIUS"),
+        ("     2", "MAP DIMENSION"),
+        ("   450.0 450.0   0.0", "HGT1 / HGT2 / DHGT"),
+        ("    87.5 -87.5  -2.5", "LAT1 / LAT2 / DLAT"),
+        ("  -180.0 180.0   5.0", "LON1 / LON2 / DLON"),
+        ("    -1", "EXPONENT"),
+        ("", "END OF HEADER"),
+    ];
+    for (body, label) in records {
+        record(&mut text, body, label);
+    }
+    text
+}
+
+fn add_map(text: &mut String, kind: &str, map: usize, value: fn(usize, usize, usize) -> i32) {
+    let number = format!("{:>6}", map + 1);
+    record(text, &number, &format!("START OF {kind} MAP"));
+    let (day, hour) = (1 + map / 24, map % 24);
+    let epoch = format!("  2024     1{day:>6}{hour:>6}     0     0");
+    record(text, &epoch, "EPOCH OF CURRENT MAP");
+    for row in 0..ROWS {
+        let latitude = 87.5 - 2.5 * row as f64;
+        let opening = format!("  {latitude:>6.1}-180.0 180.0   5.0 450.0");
+        record(text, &opening, "LAT/LON1/LON2/DLON/H");
+        for from in (0..COLUMNS).step_by(16) {
+            for column in from..COLUMNS.min(from + 16) {
+                write!(text, "{:>5}", value(map, row, column)).expect("a string takes all");
+            }
+            text.push('\n');
+        }
+    }
+    record(text, &number, &format!("END OF {kind} MAP"));
+}
+
+/// Tenths of a TECU: two crests beside the equator that follow the sun, with some noise; 3 to about 900.
+fn tec(map: usize, row: usize, column: usize) -> i32 {
+    let latitude = 87.5 - 2.5 * row as f64;
+    let sun = 180.0 - 15.0 * map as f64;
+    let longitude = -180.0 + 5.0 * (column % 72) as f64;
+    let day = ((longitude - sun - 20.0).to_radians().cos() + 1.0) / 2.0;
+    let crest = |at: f64| (-((latitude - at) / 18.0).powi(2)).exp();
+    let value = 12.0 + 700.0 * day.powi(2) * (crest(14.0) + crest(-14.0)) + 90.0 * day;
+    value as i32 + noise(map, row, column) % 40 - 9
+}
+
+/// Tenths of a TECU, 3 to 60; none near the poles at times.
+fn rms(map: usize, row: usize, column: usize) -> i32 {
+    let noise = noise(map, row, column);
+    if row < 2 && noise % 7 == 0 {
+        9999
+    } else {
+        3 + noise % 58
+    }
+}
+
+/// From 0 to 1023, the same in every run.
+fn noise(map: usize, row: usize, column: usize) -> i32 {
+    let mut word = (map * 1_000_003 + row * 10_007 + column % 72) as u64;
+    word = word.wrapping_mul(0x9e37_79b9_7f4a_7c15);
+    word = (word ^ (word >> 29)).wrapping_mul(0xbf58_476d_1ce4_e5b9);
+    (word >> 54) as i32
+}

@@ -1,0 +1,192 @@
+//! Times the library beside plain Rust that makes the same checks: reading two global files, asking, and writing.
+//! The last line is `ratio X`: the library's time over the plain reader's for the file of TEC maps.
+
+#![forbid(unsafe_code)]
+
+use bench::ask::{ask, Question, View};
+use bench::files;
+use bench::header::Header;
+use bench::plain::{read, Areas};
+use compare::boundary::{Asked, Boundary, Given, Lent, HEADER, TEXTS};
+use compare::c::{Archive, FUNCTIONS};
+use compare::set::Buffers;
+use std::hint::black_box;
+use std::time::{Duration, Instant};
+
+/// Rounds of reading and writing, of asking, and questions in a round of asking.
+const ROUNDS: usize = 200;
+const ASKING_ROUNDS: usize = 50;
+const QUESTIONS: usize = 1000;
+
+fn main() {
+    for (name, linked) in FUNCTIONS {
+        if !linked {
+            println!("{name} is not linked: the second program stands in its place");
+        }
+    }
+    let tec = files::global(false);
+    let both = files::global(true);
+    let ratio = report_reading("25 TEC maps", &tec);
+    report_reading("25 TEC and 25 RMS maps", &both);
+    report_asking(&tec);
+    report_writing("25 TEC maps", &tec);
+    report_writing("25 TEC and 25 RMS maps", &both);
+    println!("ratio {ratio:.2}");
+}
+
+fn lent() -> Lent {
+    Lent {
+        areas: Buffers::filled(files::NEEDS, 1),
+        header: vec![0; HEADER],
+        texts: vec![0; TEXTS],
+        place: vec![0; 2],
+    }
+}
+
+fn clear(areas: &mut Buffers) {
+    areas.tec.fill(0);
+    areas.rms.fill(0);
+    areas.height.fill(0);
+    areas.exponents.fill(0);
+    areas.epochs.fill(0);
+    areas.marks.fill(0);
+}
+
+fn plain_areas(areas: &mut Buffers) -> Areas<'_> {
+    Areas {
+        tec: &mut areas.tec,
+        rms: &mut areas.rms,
+        height: &mut areas.height,
+        exponents: &mut areas.exponents,
+        epochs: &mut areas.epochs,
+        marks: &mut areas.marks,
+    }
+}
+
+fn timed<T>(best: &mut Duration, work: impl FnOnce() -> T) -> T {
+    let start = Instant::now();
+    let result = work();
+    *best = start.elapsed().min(*best);
+    result
+}
+
+fn micros(time: Duration) -> f64 {
+    time.as_secs_f64() * 1e6
+}
+
+/// Both readers in turn, on areas cleared first; gives the library's best time over the plain reader's.
+fn report_reading(name: &str, text: &str) -> f64 {
+    let text = text.as_bytes();
+    let mut ours = lent();
+    let mut plain = Buffers::filled(files::NEEDS, 1);
+    let mut best = [Duration::MAX; 2];
+    for _ in 0..ROUNDS {
+        clear(&mut ours.areas);
+        let answer = timed(&mut best[0], || Archive.read(black_box(text), &mut ours));
+        assert_eq!(answer, 0, "the library refuses the file");
+        clear(&mut plain);
+        let found = timed(&mut best[1], || {
+            read(black_box(text), &mut plain_areas(&mut plain))
+        });
+        assert!(found.is_ok(), "the plain reader refuses the file");
+    }
+    assert!(ours.areas == plain, "the two readers disagree");
+    let [library, plain] = best.map(micros);
+    let ratio = library / plain;
+    println!("reading {name}: library {library:.0} us, plain {plain:.0} us, ratio {ratio:.2}");
+    ratio
+}
+
+/// The map set of a file, for the library and for the plain asker.
+fn map_set(text: &str) -> (Given, Header) {
+    let mut lent = lent();
+    assert_eq!(Archive.read(text.as_bytes(), &mut lent), 0);
+    let mut again = Buffers::filled(files::NEEDS, 1);
+    let header = read(text.as_bytes(), &mut plain_areas(&mut again)).expect("an accepted file");
+    let given = Given {
+        header: lent.header,
+        texts: lent.texts,
+        areas: lent.areas,
+    };
+    (given, header)
+}
+
+/// Places and seconds all over the first file's set.
+fn questions(first_epoch: u64) -> Vec<Question> {
+    (0..QUESTIONS as u64)
+        .map(|k| Question {
+            kind: 0,
+            method: 1,
+            layer: 0,
+            lat: (k * 7919 % 17_501) as i32 - 8750,
+            lon: (k * 104_729 % 36_000) as i32 - 18_000,
+            second: first_epoch + k * 15_485_863 % 86_401,
+        })
+        .collect()
+}
+
+fn report_asking(text: &str) {
+    let (given, header) = map_set(text);
+    let view = View {
+        tec: &given.areas.tec,
+        rms: &given.areas.rms,
+        height: &given.areas.height,
+        exponents: &given.areas.exponents,
+        epochs: &given.areas.epochs,
+        marks: &given.areas.marks,
+    };
+    let questions = questions(header.first_epoch);
+    let mut best = [Duration::MAX; 2];
+    for _ in 0..ASKING_ROUNDS {
+        let ours = timed(&mut best[0], || sum(&questions, |q| ask_library(&given, q)));
+        let plain = timed(&mut best[1], || {
+            sum(&questions, |q| {
+                ask(black_box(&header), black_box(&view), q).expect("a value")
+            })
+        });
+        assert_eq!(ours, plain, "the two answers disagree");
+    }
+    let [library, plain] = best.map(|time| micros(time) * 1000.0 / QUESTIONS as f64);
+    let ratio = library / plain;
+    println!("one question: library {library:.0} ns, plain {plain:.0} ns, ratio {ratio:.2}");
+}
+
+fn sum(questions: &[Question], value: impl Fn(&Question) -> i32) -> i64 {
+    questions
+        .iter()
+        .map(|q| i64::from(value(black_box(q))))
+        .sum()
+}
+
+fn ask_library(given: &Given, question: &Question) -> i32 {
+    let asked = Asked {
+        kind: question.kind,
+        method: question.method,
+        layer: question.layer,
+        lat: question.lat,
+        lon: question.lon,
+        second: question.second,
+    };
+    let mut value = [0];
+    assert_eq!(Archive.ask(given, &asked, &mut value), 0);
+    value[0]
+}
+
+fn report_writing(name: &str, text: &str) {
+    let (given, _) = map_set(text);
+    let mut out = vec![0; text.len()];
+    let mut count = [0];
+    let mut best = Duration::MAX;
+    for _ in 0..ROUNDS {
+        out.fill(0);
+        let answer = timed(&mut best, || {
+            Archive.write(black_box(&given), &mut out, &mut count)
+        });
+        assert_eq!(answer, 0, "the library does not write the set");
+    }
+    println!(
+        "writing {name}: library {:.0} us, {} bytes",
+        micros(best),
+        count[0]
+    );
+}

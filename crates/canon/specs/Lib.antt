@@ -1,0 +1,4 @@
+-- What the program prints.
+pub mod Lines
+pub mod Printed
+pub mod Exactly

@@ -1,0 +1,220 @@
+// The header of canonical text: the version record, the records in the order of 01's table, END OF HEADER.
+ghost use mathlib.Core.Path.{_≡_};
+ghost use mathlib.Core.List.{[], _∷_, _++_};
+ghost use Prim.Native.Nat.{ℕ, _+_, _<_, _≤_, _^_};
+ghost use lib.ListN.{length};
+ghost use lib.IntN.{pos};
+ghost use Rattle.mapset.specs.Header.{says};
+ghost use Rattle.mapset.specs.Sound.{HeaderSays, SystemsSay, ModelSays};
+ghost use Rattle.layout.specs.Labels.{header-end};
+ghost use Rattle.writer.specs.Canon as canon;
+ghost use Rattle.writer.specs.Canon.{row-of, head-rows, order};
+ghost use Rattle.rows.specs.Put.{Room, Put};
+ghost use Rattle.heading.specs.Header as said;
+use mapset::Axis;
+use mapset::Counted;
+use mapset::Grid;
+use mapset::Header;
+use mapset::Model;
+use mapset::System;
+use mapset::Systems;
+use mapset::Texts;
+
+// In 01's order.
+const CODES: [[u8; 3]; 9] = [
+    *b"BEN",
+    *b"ENV",
+    *b"ERS",
+    *b"GEO",
+    *b"GNS",
+    *b"IRI",
+    *b"MIX",
+    *b"NNS",
+    *b"TOP",
+];
+
+const LETTERS: [u8; 7] = *b"GRECJIS";
+
+// ---- Rows
+
+// 1.1, then `IONOSPHERE MAPS` in columns 21 to 35, then the code.
+fn version_row(code: usize) -> [u8; 80]
+    requires { ⌜ code < 9 ⌝ }
+    ensures { λ r. ⌜ r ≡ canon.version-row code ⌝ }
+{
+    let text = CODES[code];
+    let mut row = rows::blank_row(0);
+    fields::put_tenths(&mut row, 0, 8, 11);
+    rows::put_text(&mut row, 20, b"IONOSPHERE MAPS");
+    rows::put_text(&mut row, 40, &text);
+    row
+}
+
+fn program_row(t: Texts) -> [u8; 80]
+    ensures { λ r. ⌜ r ≡ said.program-row t ⌝ }
+{
+    let program = t.program;
+    let agency = t.agency;
+    let date = t.date;
+    let mut row = rows::blank_row(1);
+    rows::put_text(&mut row, 0, &program);
+    rows::put_text(&mut row, 20, &agency);
+    rows::put_text(&mut row, 40, &date);
+    row
+}
+
+fn mapping_row(t: Texts) -> [u8; 80]
+    ensures { λ r. ⌜ r ≡ said.mapping-row t ⌝ }
+{
+    let mapping = t.mapping;
+    let mut row = rows::blank_row(8);
+    rows::put_text(&mut row, 2, &mapping);
+    row
+}
+
+fn observables_row(t: Texts) -> [u8; 80]
+    ensures { λ r. ⌜ r ≡ said.observables-row t ⌝ }
+{
+    let observables = t.observables;
+    let mut row = rows::blank_row(10);
+    rows::put_text(&mut row, 0, &observables);
+    row
+}
+
+// F8.1,52X, of tenths.
+fn tenths_row(k: usize, n: u32) -> [u8; 80]
+    requires { ⌜ (k < 32) × (n < 2 ^ 31) ⌝ }
+    ensures { λ r. ⌜ r ≡ said.tenths-row k n ⌝ }
+{
+    let mut row = rows::blank_row(k);
+    fields::put_tenths(&mut row, 0, 8, n as i32);
+    row
+}
+
+// The j-th letter in column 6, then its counts.
+fn system_row(j: usize, s: System) -> [u8; 80]
+    requires { ⌜ (j < 7) × (s .stations < 2 ^ 31) × (s .satellites < 2 ^ 31) ⌝ }
+    ensures { λ r. ⌜ r ≡ said.system-row j s ⌝ }
+{
+    let mut row = rows::blank_row(13);
+    row[5] = LETTERS[j];
+    fields::put_int(&mut row, 6, 6, s.stations as i32);
+    fields::put_int(&mut row, 12, 6, s.satellites as i32);
+    row
+}
+
+// ---- Records, each with where the next line starts
+
+fn put_count(out: &mut [u8], at: usize, k: usize, n: u32) -> usize
+    requires { ⌜ (k < 32) × (n < 2 ^ 31) × Room at (said.number-row k n ∷ []) ⌝ }
+    ensures { λ r. ⌜ Put (now (out .entry)) at (said.number-row k n ∷ []) (now (out .exit)) r ⌝ }
+{
+    rows::put_number(out, at, k, n as i32)
+}
+
+fn put_tenths(out: &mut [u8], at: usize, k: usize, n: u32) -> usize
+    requires { ⌜ (k < 32) × (n < 2 ^ 31) × Room at (said.tenths-row k n ∷ []) ⌝ }
+    ensures { λ r. ⌜ Put (now (out .entry)) at (said.tenths-row k n ∷ []) (now (out .exit)) r ⌝ }
+{
+    let row = tenths_row(k, n);
+    rows::put_line(out, at, &row)
+}
+
+fn put_axis(out: &mut [u8], at: usize, k: usize, a: Axis) -> usize
+    requires { ⌜ (k < 32) × Room at (said.axis-row k a ∷ []) ⌝ }
+    ensures { λ r. ⌜ Put (now (out .entry)) at (said.axis-row k a ∷ []) (now (out .exit)) r ⌝ }
+{
+    let row = rows::three_row(k, a.first, a.last, a.step);
+    rows::put_line(out, at, &row)
+}
+
+// # OF STATIONS or # OF SATELLITES, where it stands.
+fn put_counted(out: &mut [u8], at: usize, k: usize, c: Counted) -> usize
+    requires { ⌜ (k < 32) × (c .count < 2 ^ 31) × Room at (said.counted-rows k c) ⌝ }
+    ensures { λ r. ⌜ Put (now (out .entry)) at (said.counted-rows k c) (now (out .exit)) r ⌝ }
+{
+    let stands = c.stands;
+    if stands {
+        return put_count(out, at, k, c.count);
+    }
+    at
+}
+
+// SYS / #STA / #SAT of the j-th letter, where it stands.
+fn put_system(out: &mut [u8], at: usize, j: usize, s: System) -> usize
+    requires { ⌜ (j < 7) × (s .stations < 2 ^ 31) × (s .satellites < 2 ^ 31) × Room at (said.system-rows j s) ⌝ }
+    ensures { λ r. ⌜ Put (now (out .entry)) at (said.system-rows j s) (now (out .exit)) r ⌝ }
+{
+    let stands = s.stands;
+    if stands {
+        let row = system_row(j, s);
+        return rows::put_line(out, at, &row);
+    }
+    at
+}
+
+// ---- The header
+
+fn put_first(out: &mut [u8], at: usize, header: Header, texts: Texts) -> usize
+    requires { ⌜ HeaderSays header texts × Room at (said.first-rows header texts) ⌝ }
+    ensures { λ r. ⌜ Put (now (out .entry)) at (said.first-rows header texts) (now (out .exit)) r ⌝ }
+{
+    let version = version_row(header.version.code as usize);
+    let program = program_row(texts);
+    let a = rows::put_line(out, at, &version);
+    let b = rows::put_line(out, a, &program);
+    let c = rows::put_dated(out, b, 4, header.times.first);
+    let d = rows::put_dated(out, c, 5, header.times.last);
+    let e = put_count(out, d, 6, header.times.interval);
+    put_count(out, e, 7, header.times.maps)
+}
+
+fn put_middle(out: &mut [u8], at: usize, header: Header, texts: Texts) -> usize
+    requires { ⌜ HeaderSays header texts × Room at (said.middle-rows header texts) ⌝ }
+    ensures { λ r. ⌜ Put (now (out .entry)) at (said.middle-rows header texts) (now (out .exit)) r ⌝ }
+{
+    let mapping = mapping_row(texts);
+    let observables = observables_row(texts);
+    let a = rows::put_line(out, at, &mapping);
+    let b = put_tenths(out, a, 9, header.model.cutoff);
+    let c = rows::put_line(out, b, &observables);
+    let d = put_counted(out, c, 11, header.stations);
+    put_counted(out, d, 12, header.satellites)
+}
+
+fn put_systems(out: &mut [u8], at: usize, s: Systems) -> usize
+    requires { ⌜ SystemsSay s × Room at (said.systems-rows s) ⌝ }
+    ensures { λ r. ⌜ Put (now (out .entry)) at (said.systems-rows s) (now (out .exit)) r ⌝ }
+{
+    let a = put_system(out, at, 0, s.g);
+    let b = put_system(out, a, 1, s.r);
+    let c = put_system(out, b, 2, s.e);
+    let d = put_system(out, c, 3, s.c);
+    let e = put_system(out, d, 4, s.j);
+    let f = put_system(out, e, 5, s.i);
+    put_system(out, f, 6, s.s)
+}
+
+fn put_last(out: &mut [u8], at: usize, model: Model, grid: Grid) -> usize
+    requires { ⌜ ModelSays model × Room at (said.last-rows model grid) ⌝ }
+    ensures { λ r. ⌜ Put (now (out .entry)) at (said.last-rows model grid) (now (out .exit)) r ⌝ }
+{
+    let end = rows::blank_row(22);
+    let a = put_tenths(out, at, 14, model.radius);
+    let b = put_count(out, a, 15, model.dimension);
+    let c = put_axis(out, b, 16, grid.heights);
+    let d = put_axis(out, c, 17, grid.latitudes);
+    let e = put_axis(out, d, 18, grid.longitudes);
+    rows::put_line(out, e, &end)
+}
+
+// Where the first map's line starts.
+pub fn put_header(out: &mut [u8], at: usize, header: Header, texts: Texts) -> usize
+    requires { ⌜ HeaderSays header texts × Room at (canon.version-row (header .version .code) ∷ head-rows order (says header texts) (row-of header-end tt ∷ [])) ⌝ }
+    ensures { λ r. ⌜ Put (now (out .entry)) at (canon.version-row (header .version .code) ∷ head-rows order (says header texts) (row-of header-end tt ∷ [])) (now (out .exit)) r ⌝ }
+{
+    let a = put_first(out, at, header, texts);
+    let b = put_middle(out, a, header, texts);
+    let c = put_systems(out, b, header.systems);
+    put_last(out, c, header.model, header.grid)
+}

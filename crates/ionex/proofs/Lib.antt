@@ -1,0 +1,4 @@
+pub mod JudgeLaws
+pub mod StoreLaws
+pub mod CrossLaws
+pub mod WriteLaws

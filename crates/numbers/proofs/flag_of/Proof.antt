@@ -1,0 +1,14 @@
+use mathlib.Core.Path.{refl}
+use Rattle.numbers.proofs.flag_of.Statement.{statement}
+use Rattle.numbers.proofs.flag_of.Tie as tie
+use Rattle.numbers.proofs.flag_of.Reads as reads
+use Rattle.numbers.proofs.flag_of.Lts as lts
+
+returns : tie.Need-returns
+returns c = rw (c .if1 .taken) refl
+
+returns-2 : tie.Need-returns-2
+returns-2 c = rw (c .if1 .left) refl
+
+pub flag-of-spec : {M : Type 1} → statement M
+flag-of-spec = tie.close (tie.spec returns returns-2)

@@ -1,0 +1,32 @@
+use mathlib.Core.Path.{_≡_, ap, _∙_}
+use native.Mathlib.Omega.{arith}
+use lib.ListN.{getD}
+use lib.IntN.{pos}
+use mir.Syntax.{w64}
+use mir.Val.{toZ, ofZ}
+use Rattle.numbers.specs.Given.{bounded}
+use Rattle.numbers.proofs.GivenLaws.{bounded-le}
+use borrow.Author.Needs.{needs}
+use Rattle.numbers.proofs.given.second_at.Statement.{statement}
+use Rattle.numbers.proofs.given.second_at.Tie as tie
+use Rattle.numbers.proofs.given.second_at.Reads as reads
+use Rattle.numbers.proofs.given.second_at.Lts as lts
+use Rattle.numbers.proofs.given.held.Reads as held-reads
+
+mul-held : tie.Need-mul-held
+mul-held c = search needs
+
+shared-slice-copy-out-held : tie.Need-shared-slice-copy-out-held
+shared-slice-copy-out-held c = search needs
+
+held-requires : tie.Need-held-requires
+held-requires c κs = search needs
+
+returns : tie.Need-returns
+returns c =
+    let s = c .before .before in
+    let e : toZ w64 (ofZ w64 (getD (s .args .n .now) (s .args .i) (pos 0))) ≡ getD (s .args .n .now) (s .args .i) (pos 0) = search needs in
+    c .held .ensures ∙ ap (bounded 18446744073709551615) e
+
+pub second-at-spec : {M : Type 1} → statement M
+second-at-spec = tie.close (tie.spec mul-held shared-slice-copy-out-held held-requires returns)

@@ -1,0 +1,32 @@
+use mathlib.Core.Path.{refl, _∙_}
+use mir.Facts.{toZ-ofZ}
+use borrow.Author.Needs.{needs}
+use Rattle.numbers.proofs.put_counted.Statement.{statement}
+use Rattle.numbers.proofs.put_counted.Tie as tie
+use Rattle.numbers.proofs.put_counted.Reads as reads
+use Rattle.numbers.proofs.put_counted.Lts as lts
+use Rattle.numbers.proofs.flag_of.Reads as flag-of-reads
+use Rattle.numbers.proofs.put_two.Reads as put-two-reads
+use Rattle.numbers.proofs.whole.Reads as whole-reads
+
+flag-of-requires : tie.Need-flag-of-requires
+flag-of-requires c κs = search needs
+
+whole-requires : tie.Need-whole-requires
+whole-requires c κs = search needs
+
+put-two-requires : tie.Need-put-two-requires
+put-two-requires c κs = search needs
+
+same-length : tie.Need-same-length
+same-length c = search needs
+
+returns : tie.Need-returns
+returns c =
+    let f = c .before .before .before .flag-of in
+    let n = c .before .before .whole in
+    c .before .put-two .ensures ∙ rw (toZ-ofZ (record { sfits = f .ok }), f .ensures, toZ-ofZ (record { sfits = n .ok }), n .ensures) refl
+
+pub put-counted-spec : {M : Type 1} → statement M
+put-counted-spec =
+    tie.close (tie.spec flag-of-requires whole-requires put-two-requires same-length returns)

@@ -1,0 +1,17 @@
+use native.Mathlib.Omega.{arith}
+use mir.Syntax.{w64}
+use mir.Facts.{toZ-pos}
+use borrow.Author.Needs.{needs}
+use Rattle.numbers.proofs.second.Statement.{statement}
+use Rattle.numbers.proofs.second.Tie as tie
+use Rattle.numbers.proofs.second.Reads as reads
+use Rattle.numbers.proofs.second.Lts as lts
+
+cast-result : tie.Need-cast-result
+cast-result c = search needs
+
+returns : tie.Need-returns
+returns c = toZ-pos w64 (omega arith)
+
+pub second-spec : {M : Type 1} → statement M
+second-spec = tie.close (tie.spec cast-result returns)

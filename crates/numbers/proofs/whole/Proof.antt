@@ -1,0 +1,17 @@
+use native.Mathlib.Omega.{arith}
+use mir.Syntax.{w64}
+use mir.Facts.{toZ-pos}
+use borrow.Author.Needs.{needs}
+use Rattle.numbers.proofs.whole.Statement.{statement}
+use Rattle.numbers.proofs.whole.Tie as tie
+use Rattle.numbers.proofs.whole.Reads as reads
+use Rattle.numbers.proofs.whole.Lts as lts
+
+cast-result : tie.Need-cast-result
+cast-result c = search needs
+
+returns : tie.Need-returns
+returns c = toZ-pos w64 (omega arith)
+
+pub whole-spec : {M : Type 1} → statement M
+whole-spec = tie.close (tie.spec cast-result returns)

@@ -1,0 +1,3 @@
+-- The header record and its texts as numbers and bytes.
+pub mod Numbers
+pub mod Given

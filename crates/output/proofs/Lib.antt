@@ -1,0 +1,5 @@
+pub mod BlockLaws
+pub mod SlotLaws
+pub mod PartLaws
+pub mod RowsLaws
+pub mod Short

@@ -1,0 +1,2 @@
+-- What may be written, in the groups in which code looks at it.
+pub mod Groups

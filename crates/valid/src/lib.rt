@@ -1,0 +1,208 @@
+// Whether header, texts and areas are a map set that some text has: else 31.
+ghost use mathlib.Core.Path.{_≡_};
+ghost use Prim.Native.Nat.{_*_, _≤_};
+ghost use mathlib.Core.List.{[]};
+ghost use lib.ListN.{length, take, drop};
+ghost use Rattle.kit.specs.Answer.{⊎-dec, all-dec, pick};
+ghost use Rattle.kit.specs.Integer.{int?, between?};
+ghost use Rattle.kit.specs.Truth.{truth};
+ghost use Rattle.mapset.specs.Grid.{layers, rows};
+ghost use Rattle.mapset.specs.Areas.{present?, nowhere?};
+ghost use Rattle.mapset.specs.Sound.{areas};
+ghost use Rattle.areas.specs.ValidDecided.{blank?};
+ghost use Rattle.valid.specs.Groups.{kind?, kind-need, Holds, rest?, Long, validity};
+ghost use Rattle.valid.specs.Groups as groups;
+use mapset::Grid;
+use mapset::Header;
+use mapset::Kind;
+use mapset::Texts;
+use mapset::axes;
+use mapset::soundness;
+
+// Whether each value is from low to high.
+fn all_between(low: i32, high: i32, values: &[i32]) -> bool
+    ensures { λ r. ⌜ r ≡ truth (all-dec (between? low high) (now (values .entry))) ⌝ }
+{
+    let mut i: usize = 0;
+    while i < values.len() {
+        if !axes::between(low, high, values[i]) {
+            return false;
+        }
+        i += 1;
+    }
+    true
+}
+
+// Whether each value is v.
+fn all_same(v: i32, values: &[i32]) -> bool
+    ensures { λ r. ⌜ r ≡ truth (all-dec (λ x. int? x v) (now (values .entry))) ⌝ }
+{
+    all_between(v, v, values)
+}
+
+// Whether a map's mark says that the kind's map is there.
+pub fn present(kind: Kind, mark: u8) -> bool
+    ensures { λ r. ⌜ r ≡ truth (present? kind mark) ⌝ }
+{
+    match kind {
+        Kind::Tec => true,
+        Kind::Rms => (mark == 1) | (mark == 3),
+        Kind::Height => (mark == 2) | (mark == 3),
+    }
+}
+
+// Whether no map of the kind is there.
+fn nowhere(kind: Kind, marks: &[u8]) -> bool
+    ensures { λ r. ⌜ r ≡ truth (nowhere? kind (now (marks .entry))) ⌝ }
+{
+    let mut i: usize = 0;
+    while i < marks.len() {
+        if present(kind, marks[i]) {
+            return false;
+        }
+        i += 1;
+    }
+    true
+}
+
+// The values that a kind needs: none where no map is marked with it.
+pub fn need(kind: Kind, marks: &[u8], values: usize) -> usize
+    ensures { λ r. ⌜ r ≡ pick (nowhere? kind (now (marks .entry))) 0 values ⌝ }
+{
+    if nowhere(kind, marks) {
+        return 0;
+    }
+    values
+}
+
+// The smaller of two numbers.
+fn least(a: usize, b: usize) -> usize
+    ensures { λ r. ⌜ r ≡ groups.least a b ⌝ }
+{
+    if a < b {
+        return a;
+    }
+    b
+}
+
+// Whether a map is there or holds v everywhere.
+fn there_or(kind: Kind, mark: u8, v: i32, values: &[i32]) -> bool
+    ensures { λ r. ⌜ r ≡ truth (⊎-dec (present? kind mark) (all-dec (λ x. int? x v) (now (values .entry)))) ⌝ }
+{
+    if present(kind, mark) {
+        return true;
+    }
+    all_same(v, values)
+}
+
+// Of maps of width elements each, those that their marks say are absent hold v everywhere.
+fn blank(kind: Kind, width: usize, v: i32, marks: &[u8], area: &[i32]) -> bool
+    ensures { λ r. ⌜ r ≡ truth (blank? kind width v (now (marks .entry)) (now (area .entry))) ⌝ }
+{
+    let mut at: usize = 0;
+    let mut i: usize = 0;
+    while i < marks.len() {
+        let end = at + least(width, area.len() - at);
+        if !there_or(kind, marks[i], v, &area[at..end]) {
+            return false;
+        }
+        at = end;
+        i += 1;
+    }
+    true
+}
+
+// The values of a kind within -9999 to 99999, and its absent maps 9999 under exponent -1. The marks are those of the maps; the
+// kind's exponents begin at first.
+fn kind_fits(
+    kind: Kind,
+    blocks: usize,
+    columns: usize,
+    marks: &[u8],
+    values: &[i32],
+    exponents: &[i32],
+    first: usize,
+) -> bool
+    requires { ⌜ Holds kind blocks columns (now marks) (now values) (now exponents) first ⌝ }
+    ensures { λ r. ⌜ r ≡ truth (kind? kind blocks columns (now (marks .entry)) (take (kind-need kind blocks columns (now (marks .entry))) (now (values .entry))) (take (length (now (marks .entry)) * blocks) (drop first (now (exponents .entry))))) ⌝ }
+{
+    let all = marks.len() * blocks;
+    let needed = need(kind, marks, all * columns);
+    let end = first + all;
+    all_between(-9999, 99999, &values[..needed])
+        & (blank(kind, blocks * columns, 9999, marks, &values[..needed])
+            & blank(kind, blocks, -1, marks, &exponents[first..end]))
+}
+
+// The blocks of a map.
+pub fn per_map(grid: Grid) -> usize
+    requires { ⌜ (layers grid ≤ 64) × (rows grid ≤ 361) ⌝ }
+    ensures { λ r. ⌜ r ≡ layers grid * rows grid ⌝ }
+{
+    (axes::nodes(grid.heights) * axes::nodes(grid.latitudes)) as usize
+}
+
+// The exponents from -3 to 0, and what is asked of each kind.
+fn rest_fits(
+    header: Header,
+    tec: &[i32],
+    rms: &[i32],
+    height: &[i32],
+    exponents: &[i32],
+    marks: &[u8],
+) -> bool
+    requires { ⌜ Long header (areas (now tec) (now rms) (now height) (now exponents) [] (now marks)) ⌝ }
+    ensures { λ r. ⌜ r ≡ truth (rest? header (areas (now (tec .entry)) (now (rms .entry)) (now (height .entry)) (now (exponents .entry)) [] (now (marks .entry)))) ⌝ }
+{
+    let maps = header.times.maps as usize;
+    let blocks = per_map(header.grid);
+    let columns = axes::nodes(header.grid.longitudes) as usize;
+    let all = maps * blocks;
+    let needed = 3 * all;
+    all_between(-3, 0, &exponents[..needed])
+        & (kind_fits(
+            Kind::Tec,
+            blocks,
+            columns,
+            &marks[..maps],
+            tec,
+            exponents,
+            0,
+        )
+            & (kind_fits(
+                Kind::Rms,
+                blocks,
+                columns,
+                &marks[..maps],
+                rms,
+                exponents,
+                all,
+            )
+                & kind_fits(
+                    Kind::Height,
+                    blocks,
+                    columns,
+                    &marks[..maps],
+                    height,
+                    exponents,
+                    all + all,
+                )))
+}
+
+pub fn valid(
+    header: Header,
+    texts: Texts,
+    tec: &[i32],
+    rms: &[i32],
+    height: &[i32],
+    exponents: &[i32],
+    epochs: &[u64],
+    marks: &[u8],
+) -> bool
+    ensures { λ r. ⌜ r ≡ truth (validity header texts (areas (now (tec .entry)) (now (rms .entry)) (now (height .entry)) (now (exponents .entry)) (now (epochs .entry)) (now (marks .entry)))) ⌝ }
+{
+    if !soundness::sound(header, texts, tec, rms, height, exponents, epochs, marks) {
+        return false;
+    }
+    rest_fits(header, tec, rms, height, exponents, marks)
+}

@@ -1,2 +1,0 @@
--- The values of one line.
-pub mod ValueLine

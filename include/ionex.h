@@ -1,0 +1,204 @@
+/*
+ * ionex.h: reads, writes and interpolates IONEX 1.1 ionosphere maps.
+ *
+ * Link with target/staticlib/libionex.a (x86-64), which `rt staticlib ionex` makes. There is nothing to set up and
+ * nothing to free: the library keeps nothing between calls and touches only the areas it is lent.
+ *
+ * WHAT THE CALLER MUST GIVE. The functions are proved for callers that keep these four rules, and C cannot check them:
+ *   - each pointer points to as many elements as the length behind it says, and is aligned for them;
+ *   - each pointer is valid and not null, for length 0 too (any valid pointer will do there);
+ *   - an area that a call writes overlaps no other area of that call;
+ *   - no other thread writes to an area during the call.
+ * Everything else may be anything at all: every text, number and length has an answer.
+ *
+ * THE ANSWER of each function is 0 for done, or a number of enum ionex_answer. Lengths count elements, not bytes.
+ */
+#ifndef IONEX_H
+#define IONEX_H
+
+#include <stddef.h>
+#include <stdint.h>
+
+#ifdef __cplusplus
+extern "C" {
+#endif
+
+enum ionex_answer {
+    IONEX_DONE = 0,
+
+    /* Reading a text: place[0] is the line and place[1] the column, both from 1; column 0 is a rule over several
+     * fields or records. The lowest line is told. */
+    IONEX_LONG_LINE = 1,     /* a line has more than 80 bytes */
+    IONEX_BAD_BYTE = 2,      /* a byte that is not printable ASCII (32 to 126) */
+    IONEX_NOT_IONEX = 3,     /* no version record first, or not version 1.1, type I and a known code */
+    IONEX_UNKNOWN_LABEL = 4, /* columns 61 to 80 hold no label of IONEX */
+    IONEX_MISPLACED = 5,     /* a record where it may not stand, or a second time */
+    IONEX_ILL_FORMED = 6,    /* no number in a number's field, or a byte where blanks belong */
+    IONEX_OUT_OF_RANGE = 7,  /* a value that is not accepted */
+    IONEX_DISAGREES = 8,     /* disagrees with the header or an earlier record */
+    IONEX_MISSING = 9,       /* at an END record: a header record, block or map has not come */
+    IONEX_CUT_SHORT = 10,    /* the text ends before END OF FILE; the line is one past the last */
+
+    /* Reading: the text is good, but an area is too short. place[0] is the area (1 TEC, 2 RMS, 3 height,
+     * 4 exponents, 5 epochs, 6 marks), place[1] the elements it needs. */
+    IONEX_SHORT_AREA = 11,
+
+    /* Asking. */
+    IONEX_OUTSIDE_TIME = 20,  /* the second lies before the first or after the last map */
+    IONEX_OUTSIDE_GRID = 21,  /* the place or the layer lies outside the grid */
+    IONEX_NO_VALUE = 22,      /* a node that the answer needs has no value */
+    IONEX_UNKNOWN_CHOICE = 23, /* kind or method is none of those listed */
+
+    /* Writing, and 31 also asking. */
+    IONEX_SHORT_OUTPUT = 30, /* the output is too short; count[0] is the bytes needed */
+    IONEX_NO_MAP_SET = 31,   /* what was given is not a valid map set */
+
+    /* A small area of the call's own is too short. Told first, in this order, before anything else is looked at,
+     * and then nothing is written. */
+    IONEX_SHORT_HEADER = 101, /* fewer than IONEX_HEADER numbers of header */
+    IONEX_SHORT_TEXTS = 102,  /* fewer than IONEX_TEXTS bytes of texts */
+    IONEX_SHORT_RESULT = 103  /* too few numbers of place, count or value */
+};
+
+/*
+ * THE MAP SET: a header, its texts and six areas. n is the number of TEC maps (header[IONEX_MAPS]), L, R and C are the
+ * layers, rows and columns of the grid.
+ *
+ *   area        element   needs             holds
+ *   tec         int32_t   n*L*R*C           values, map by map, layer by layer, row by row
+ *   rms         int32_t   n*L*R*C, or 0     the same; needs nothing where no map has RMS values
+ *   height      int32_t   n*L*R*C, or 0     the same; needs nothing where no map has heights
+ *   exponents   int32_t   3*n*L*R           -3 to 0, one for each row: all of TEC, then all of RMS, then all of height
+ *   epochs      uint64_t  n                 seconds from 1900-01-01 00:00:00
+ *   marks       uint8_t   n                 which maps stand beside TEC map i: 1 RMS, 2 height, 3 both, 0 neither
+ *
+ * A value v under exponent k is v * 10^k TECU (TEC, RMS) or kilometres (height); 9999 says that there is none. A missing
+ * RMS or height map holds 9999 everywhere and exponent -1. Areas may be longer than the need: the rest is neither read
+ * nor written. Never more than 2,000,000 values of each kind, 6,000,000 exponents, 300 epochs and 300 marks are needed.
+ */
+
+/* Places in the header, IONEX_HEADER numbers. Tenths: 87.5 degrees are 875. */
+enum ionex_header {
+    IONEX_VERSION = 0,     /* in tenths: 11 */
+    IONEX_TYPE = 1,        /* the byte 'I', 73 */
+    IONEX_CODE = 2,        /* 0 BEN, 1 ENV, 2 ERS, 3 GEO, 4 GNS, 5 IRI, 6 MIX, 7 NNS, 8 TOP */
+    IONEX_FIRST_EPOCH = 3, /* EPOCH OF FIRST MAP, seconds from 1900-01-01 00:00:00 */
+    IONEX_LAST_EPOCH = 4,  /* EPOCH OF LAST MAP */
+    IONEX_INTERVAL = 5,    /* seconds, 0 to 21,600; 0 says that it varies */
+    IONEX_MAPS = 6,        /* # OF MAPS IN FILE: the TEC maps, n, 1 to 300 */
+    IONEX_CUTOFF = 7,      /* ELEVATION CUTOFF, tenths of a degree */
+    IONEX_RADIUS = 8,      /* BASE RADIUS, tenths of a kilometre */
+    IONEX_DIMENSION = 9,   /* MAP DIMENSION, 2 or 3 */
+    IONEX_HGT1 = 10,       /* heights of the layers, tenths of a kilometre: first, */
+    IONEX_HGT2 = 11,       /* last */
+    IONEX_DHGT = 12,       /* and step; 0 in dimension 2, where L is 1 */
+    IONEX_LAT1 = 13,       /* latitudes of the rows, tenths of a degree: first, */
+    IONEX_LAT2 = 14,       /* last */
+    IONEX_DLAT = 15,       /* and step, often negative; R is (LAT2 - LAT1) / DLAT + 1 */
+    IONEX_LON1 = 16,       /* longitudes of the columns, tenths of a degree: first, */
+    IONEX_LON2 = 17,       /* last */
+    IONEX_DLON = 18,       /* and step; C is (LON2 - LON1) / DLON + 1 */
+
+    /* Optional records. A flag says whether the record stands: a reading gives 0 or 1, a call takes any number but 0
+     * for yes. The numbers of a record that does not stand are 0. */
+    IONEX_HAS_STATIONS = 19,
+    IONEX_STATIONS = 20, /* # OF STATIONS */
+    IONEX_HAS_SATELLITES = 21,
+    IONEX_SATELLITES = 22, /* # OF SATELLITES */
+    IONEX_SYSTEMS = 23,    /* SYS / #STA / #SAT of G R E C J I S: three numbers each, see below */
+
+    IONEX_HEADER = 44 /* how many numbers there are */
+};
+
+/* For the j-th letter of G R E C J I S (j from 0): whether its SYS record stands, its stations, its satellites. */
+#define IONEX_HAS_SYSTEM(j) (IONEX_SYSTEMS + 3 * (j))
+#define IONEX_SYSTEM_STATIONS(j) (IONEX_SYSTEMS + 3 * (j) + 1)
+#define IONEX_SYSTEM_SATELLITES(j) (IONEX_SYSTEMS + 3 * (j) + 2)
+
+/* Places in the texts, IONEX_TEXTS bytes: printable, padded with blanks, no ending 0. */
+enum ionex_texts {
+    IONEX_PROGRAM = 0,      /* 20 bytes: the program that made the file */
+    IONEX_RUN_BY = 20,      /* 20 bytes: the agency */
+    IONEX_DATE = 40,        /* 20 bytes: date and time of making */
+    IONEX_MAPPING = 60,     /*  4 bytes: MAPPING FUNCTION */
+    IONEX_OBSERVABLES = 64, /* 60 bytes: OBSERVABLES USED */
+    IONEX_TEXTS = 124       /* how many bytes there are */
+};
+
+/*
+ * Reads an IONEX text into the six areas.
+ *
+ *   0         the map set stands in front of the six areas, of header and of texts; place is as found.
+ *   1 to 10   the text is refused; place says where.
+ *   11        an area is too short; place says which, and what it needs. 11 is told only where nothing else is wrong,
+ *             so a reading with areas of length 0 tells the need of the first.
+ *
+ * After a refusal header, texts and all six areas are as they were found, byte for byte.
+ */
+uint64_t ionex_read(const uint8_t *text, size_t text_len,
+                    int32_t *tec, size_t tec_len,
+                    int32_t *rms, size_t rms_len,
+                    int32_t *height, size_t height_len,
+                    int32_t *exponents, size_t exponents_len,
+                    uint64_t *epochs, size_t epochs_len,
+                    uint8_t *marks, size_t marks_len,
+                    int64_t *header, size_t header_len, /* IONEX_HEADER numbers, else 101 */
+                    uint8_t *texts, size_t texts_len,   /* IONEX_TEXTS bytes, else 102 */
+                    uint64_t *place, size_t place_len); /* 2 numbers, else 103 */
+
+/*
+ * Writes a map set as canonical text: the one text that says the same in a fixed order and spacing.
+ *
+ *   0    count[0] bytes of text stand in front of out; the bytes behind them are as found.
+ *   30   out is too short; count[0] is the bytes needed.
+ *   31   not a valid map set: no accepted text means this (an area shorter than its need among the reasons, and a
+ *        header number that its field cannot hold). count is as found.
+ *
+ * After a refusal out is as it was found, byte for byte.
+ */
+uint64_t ionex_write(const int64_t *header, size_t header_len, /* IONEX_HEADER numbers, else 101 */
+                     const uint8_t *texts, size_t texts_len,   /* IONEX_TEXTS bytes, else 102 */
+                     const int32_t *tec, size_t tec_len,
+                     const int32_t *rms, size_t rms_len,
+                     const int32_t *height, size_t height_len,
+                     const int32_t *exponents, size_t exponents_len,
+                     const uint64_t *epochs, size_t epochs_len,
+                     const uint8_t *marks, size_t marks_len,
+                     uint8_t *out, size_t out_len,
+                     uint64_t *count, size_t count_len); /* 1 number, else 103 */
+
+enum ionex_kind { IONEX_KIND_TEC = 0, IONEX_KIND_RMS = 1, IONEX_KIND_HEIGHT = 2 };
+
+enum ionex_method {
+    IONEX_NEAREST = 0, /* the map nearest in time, the earlier of two equally near */
+    IONEX_BETWEEN = 1  /* interpolated in time between the two maps around the second */
+};
+
+/*
+ * Answers for the value at a place and second, interpolated between the four nodes around the place. The exact fraction
+ * is rounded once, halves away from zero.
+ *
+ *   lat, lon   hundredths of a degree; whole turns of longitude make no difference
+ *   layer      counted from 0
+ *   second     seconds from 1900-01-01 00:00:00
+ *
+ *   0                    value[0] is the answer: thousandths of a TECU (TEC, RMS) or of a kilometre (height).
+ *   23, 31, 20, 21, 22   refused, told in this order; value is as found.
+ */
+uint64_t ionex_ask(const int64_t *header, size_t header_len, /* IONEX_HEADER numbers, else 101 */
+                   const uint8_t *texts, size_t texts_len,   /* IONEX_TEXTS bytes, else 102 */
+                   const int32_t *tec, size_t tec_len,
+                   const int32_t *rms, size_t rms_len,
+                   const int32_t *height, size_t height_len,
+                   const int32_t *exponents, size_t exponents_len,
+                   const uint64_t *epochs, size_t epochs_len,
+                   const uint8_t *marks, size_t marks_len,
+                   uint64_t kind, uint64_t method, uint64_t layer,
+                   int32_t lat, int32_t lon, uint64_t second,
+                   int32_t *value, size_t value_len); /* 1 number, else 103 */
+
+#ifdef __cplusplus
+}
+#endif
+
+#endif

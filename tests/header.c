@@ -1,0 +1,77 @@
+/* include/ionex.h against the archive: each function called from C, on tests/examples/accepted-2d-freedoms.
+ * Given the text and its canonical text; says what is wrong, if anything is. */
+#include "ionex.h"
+#include <stdio.h>
+#include <string.h>
+
+static uint8_t text[8192], canonical[8192], out[8192], marks[2], texts[IONEX_TEXTS];
+static int32_t tec[8], rms[8], height[8], exponents[12], value[1];
+static uint64_t epochs[2], place[2], count[1];
+static int64_t header[IONEX_HEADER];
+
+#define AREA(a) a, sizeof a / sizeof a[0]
+#define SET AREA(header), AREA(texts), AREA(tec), AREA(rms), AREA(height), AREA(exponents), AREA(epochs), AREA(marks)
+
+static int wrong;
+
+static void must(int right, const char *what)
+{
+    if (!right) {
+        printf("wrong: %s\n", what);
+        wrong = 1;
+    }
+}
+
+static size_t load(const char *name, uint8_t *bytes, size_t room)
+{
+    FILE *file = fopen(name, "rb");
+    size_t length = file ? fread(bytes, 1, room, file) : 0;
+    must(length > 0, name);
+    if (file)
+        fclose(file);
+    return length;
+}
+
+static uint64_t ask(enum ionex_kind kind)
+{
+    return ionex_ask(SET, kind, IONEX_BETWEEN, 0, -1000, 0, epochs[0], AREA(value));
+}
+
+int main(int argc, char **argv)
+{
+    if (argc != 3)
+        return 2;
+    size_t length = load(argv[1], text, sizeof text), need = load(argv[2], canonical, sizeof canonical);
+
+    must(ionex_read(text, length, tec, 7, AREA(rms), AREA(height), AREA(exponents), AREA(epochs), AREA(marks),
+                    AREA(header), AREA(texts), AREA(place)) == IONEX_SHORT_AREA, "a short area");
+    must(place[0] == 1 && place[1] == 8, "area and need");
+    must(ionex_read(text, length, AREA(tec), AREA(rms), AREA(height), AREA(exponents), AREA(epochs), AREA(marks),
+                    AREA(header), AREA(texts), AREA(place)) == IONEX_DONE, "reading");
+    must(header[IONEX_VERSION] == 11 && header[IONEX_TYPE] == 'I' && header[IONEX_CODE] == 6, "version, type, code");
+    must(header[IONEX_FIRST_EPOCH] == 3155673599 && header[IONEX_LAST_EPOCH] == 3155673600, "epochs of the header");
+    must(header[IONEX_INTERVAL] == 0 && header[IONEX_MAPS] == 2, "interval and maps");
+    must(header[IONEX_CUTOFF] == 0 && header[IONEX_RADIUS] == 63710 && header[IONEX_DIMENSION] == 2, "radius");
+    must(header[IONEX_HGT1] == 4500 && header[IONEX_HGT2] == 4500 && header[IONEX_DHGT] == 0, "heights");
+    must(header[IONEX_LAT1] == -100 && header[IONEX_LAT2] == 0 && header[IONEX_DLAT] == 100, "latitudes");
+    must(header[IONEX_LON1] == 0 && header[IONEX_LON2] == 100 && header[IONEX_DLON] == 100, "longitudes");
+    must(header[IONEX_HAS_STATIONS] == 1 && header[IONEX_STATIONS] == 80, "stations");
+    must(header[IONEX_HAS_SATELLITES] == 0 && header[IONEX_SATELLITES] == 0, "satellites");
+    must(header[IONEX_HAS_SYSTEM(0)] == 1 && header[IONEX_SYSTEM_STATIONS(0)] == 80, "system G");
+    must(header[IONEX_HAS_SYSTEM(6)] == 1 && header[IONEX_SYSTEM_SATELLITES(6)] == 2, "system S");
+    must(header[IONEX_HAS_SYSTEM(1)] == 0, "system R");
+    must(memcmp(texts + IONEX_PROGRAM, " p ", 3) == 0 && texts[IONEX_RUN_BY + 1] == 'a', "program and agency");
+    must(texts[IONEX_DATE + 1] == 'd' && memcmp(texts + IONEX_MAPPING, "NONE", 4) == 0, "date and mapping");
+    must(texts[IONEX_OBSERVABLES] == ' ' && texts[IONEX_TEXTS - 1] == ' ', "observables");
+    must(marks[0] == 2 && marks[1] == 1 && epochs[0] == 3155673599, "marks and epochs");
+
+    must(ionex_write(SET, out, 10, AREA(count)) == IONEX_SHORT_OUTPUT && count[0] == need, "a short output");
+    must(ionex_write(SET, AREA(out), AREA(count)) == IONEX_DONE && count[0] == need, "writing");
+    must(memcmp(out, canonical, need) == 0, "canonical text");
+
+    must(ask(IONEX_KIND_TEC) == IONEX_DONE && value[0] == 10, "TEC asked for");
+    must(ask(IONEX_KIND_HEIGHT) == IONEX_DONE && value[0] == 50, "height asked for");
+    must(ask(IONEX_KIND_RMS) == IONEX_NO_VALUE && value[0] == 50, "no RMS value");
+
+    return wrong;
+}

@@ -1,0 +1,124 @@
+//! The calls of the library's C functions: all of the unsafe code. A function that is not linked (see Cargo.toml) is
+//! answered by the second program.
+
+use crate::boundary::{Asked, Boundary, Given, Lent};
+
+/// Each function of the boundary, and whether it comes from the archive.
+pub const FUNCTIONS: [(&str, bool); 4] = [
+    ("ionex_read", cfg!(feature = "read")),
+    ("ionex_ask", cfg!(feature = "ask")),
+    ("ionex_moved", cfg!(feature = "moved")),
+    ("ionex_write", cfg!(feature = "write")),
+];
+
+// The library, as include/ionex.h declares it.
+#[rustfmt::skip]
+extern "C" {
+    #[cfg(feature = "read")]
+    fn ionex_read(
+        text: *const u8, text_len: usize,
+        tec: *mut i32, tec_len: usize, rms: *mut i32, rms_len: usize, height: *mut i32, height_len: usize,
+        exponents: *mut i32, exponents_len: usize, epochs: *mut u64, epochs_len: usize,
+        marks: *mut u8, marks_len: usize,
+        header: *mut i64, header_len: usize, texts: *mut u8, texts_len: usize, place: *mut u64, place_len: usize,
+    ) -> u64;
+
+    #[cfg(feature = "write")]
+    fn ionex_write(
+        header: *const i64, header_len: usize, texts: *const u8, texts_len: usize,
+        tec: *const i32, tec_len: usize, rms: *const i32, rms_len: usize, height: *const i32, height_len: usize,
+        exponents: *const i32, exponents_len: usize, epochs: *const u64, epochs_len: usize,
+        marks: *const u8, marks_len: usize,
+        out: *mut u8, out_len: usize, count: *mut u64, count_len: usize,
+    ) -> u64;
+
+    #[cfg(feature = "ask")]
+    fn ionex_ask(
+        header: *const i64, header_len: usize, texts: *const u8, texts_len: usize,
+        tec: *const i32, tec_len: usize, rms: *const i32, rms_len: usize, height: *const i32, height_len: usize,
+        exponents: *const i32, exponents_len: usize, epochs: *const u64, epochs_len: usize,
+        marks: *const u8, marks_len: usize,
+        kind: u64, method: u64, layer: u64, lat: i32, lon: i32, second: u64,
+        value: *mut i32, value_len: usize,
+    ) -> u64;
+
+    #[cfg(feature = "moved")]
+    fn ionex_moved(epoch: u64, by: i64, moved: *mut u64, moved_len: usize) -> u64;
+}
+
+/// The library's archive.
+pub struct Archive;
+
+// Safe: every pointer comes from a slice of the length given beside it, and no two of the slices overlap.
+#[rustfmt::skip]
+impl Boundary for Archive {
+    #[cfg(feature = "read")]
+    fn read(&self, text: &[u8], lent: &mut Lent) -> u64 {
+        let Lent { areas: a, header, texts, place } = lent;
+        unsafe {
+            ionex_read(
+                text.as_ptr(), text.len(),
+                a.tec.as_mut_ptr(), a.tec.len(), a.rms.as_mut_ptr(), a.rms.len(),
+                a.height.as_mut_ptr(), a.height.len(), a.exponents.as_mut_ptr(), a.exponents.len(),
+                a.epochs.as_mut_ptr(), a.epochs.len(), a.marks.as_mut_ptr(), a.marks.len(),
+                header.as_mut_ptr(), header.len(), texts.as_mut_ptr(), texts.len(), place.as_mut_ptr(), place.len(),
+            )
+        }
+    }
+
+    #[cfg(feature = "write")]
+    fn write(&self, given: &Given, out: &mut [u8], count: &mut [u64]) -> u64 {
+        let Given { header, texts, areas: a } = given;
+        unsafe {
+            ionex_write(
+                header.as_ptr(), header.len(), texts.as_ptr(), texts.len(),
+                a.tec.as_ptr(), a.tec.len(), a.rms.as_ptr(), a.rms.len(), a.height.as_ptr(), a.height.len(),
+                a.exponents.as_ptr(), a.exponents.len(), a.epochs.as_ptr(), a.epochs.len(),
+                a.marks.as_ptr(), a.marks.len(),
+                out.as_mut_ptr(), out.len(), count.as_mut_ptr(), count.len(),
+            )
+        }
+    }
+
+    #[cfg(feature = "ask")]
+    fn ask(&self, given: &Given, asked: &Asked, value: &mut [i32]) -> u64 {
+        let Given { header, texts, areas: a } = given;
+        unsafe {
+            ionex_ask(
+                header.as_ptr(), header.len(), texts.as_ptr(), texts.len(),
+                a.tec.as_ptr(), a.tec.len(), a.rms.as_ptr(), a.rms.len(), a.height.as_ptr(), a.height.len(),
+                a.exponents.as_ptr(), a.exponents.len(), a.epochs.as_ptr(), a.epochs.len(),
+                a.marks.as_ptr(), a.marks.len(),
+                asked.kind, asked.method, asked.layer, asked.lat, asked.lon, asked.second,
+                value.as_mut_ptr(), value.len(),
+            )
+        }
+    }
+
+    #[cfg(feature = "moved")]
+    fn moved(&self, epoch: u64, by: i64, moved: &mut [u64]) -> u64 {
+        unsafe { ionex_moved(epoch, by, moved.as_mut_ptr(), moved.len()) }
+    }
+
+    // The second program in the place of what is not linked.
+
+    #[cfg(not(feature = "read"))]
+    fn read(&self, text: &[u8], lent: &mut Lent) -> u64 {
+        crate::boundary::Plain.read(text, lent)
+    }
+
+    #[cfg(not(feature = "write"))]
+    fn write(&self, given: &Given, out: &mut [u8], count: &mut [u64]) -> u64 {
+        crate::boundary::Plain.write(given, out, count)
+    }
+
+    #[cfg(not(feature = "ask"))]
+    fn ask(&self, given: &Given, asked: &Asked, value: &mut [i32]) -> u64 {
+        crate::boundary::Plain.ask(given, asked, value)
+    }
+
+    #[cfg(not(feature = "moved"))]
+    fn moved(&self, epoch: u64, by: i64, moved: &mut [u64]) -> u64 {
+        crate::boundary::Plain.moved(epoch, by, moved)
+    }
+}

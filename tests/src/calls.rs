@@ -1,0 +1,457 @@
+//! Seeded calls at the C boundary: own areas of every length, rubbish behind what is needed, and numbers that no field
+//! can hold. Everything lent is compared byte for byte afterwards.
+
+use crate::boundary::{self, Asked, Boundary, Given, Lent, Plain, FLAGS, HEADER, TEXTS};
+use crate::check::{leave_file, Tally, OFTEN, SHOWN};
+use crate::jobs::{self, Job};
+use crate::rng::Rng;
+use crate::run;
+use crate::set::MapSet;
+use std::collections::BTreeMap;
+
+/// What a call is given, and after it what it left.
+#[derive(Clone, Debug, PartialEq, Eq)]
+pub enum Call {
+    Read {
+        text: Vec<u8>,
+        lent: Lent,
+    },
+    Write {
+        given: Given,
+        out: Vec<u8>,
+        count: Vec<u64>,
+    },
+    Ask {
+        given: Given,
+        asked: Asked,
+        value: Vec<i32>,
+    },
+    Move {
+        epoch: u64,
+        by: i64,
+        moved: Vec<u64>,
+    },
+}
+
+impl Call {
+    fn name(&self) -> &'static str {
+        match self {
+            Call::Read { .. } => "read",
+            Call::Write { .. } => "write",
+            Call::Ask { .. } => "ask",
+            Call::Move { .. } => "moved",
+        }
+    }
+}
+
+fn perform(boundary: &dyn Boundary, call: &mut Call) -> u64 {
+    match call {
+        Call::Read { text, lent } => boundary.read(text, lent),
+        Call::Write { given, out, count } => boundary.write(given, out, count),
+        Call::Ask {
+            given,
+            asked,
+            value,
+        } => boundary.ask(given, asked, value),
+        Call::Move { epoch, by, moved } => boundary.moved(*epoch, *by, moved),
+    }
+}
+
+// ---- the calls of a seed ----
+
+pub fn calls(seed: u64) -> Vec<Call> {
+    let rng = &mut Rng::new(seed ^ 0x0c0f_fee0);
+    jobs::jobs(seed)
+        .into_iter()
+        .map(|job| call(rng, job))
+        .collect()
+}
+
+/// A length around what a call needs of an own area.
+fn length(rng: &mut Rng, need: usize) -> usize {
+    match rng.below(12) {
+        0 => need - 1,
+        1 => rng.below(need),
+        2..=4 => need + rng.pick(&[1, 2, 9]),
+        _ => need,
+    }
+}
+
+fn words(rng: &mut Rng, need: usize) -> Vec<u64> {
+    (0..length(rng, need)).map(|_| rng.word()).collect()
+}
+
+fn call(rng: &mut Rng, job: Job) -> Call {
+    match job {
+        Job::Read { text, lent, .. } => Call::Read {
+            text,
+            lent: Lent {
+                areas: lent,
+                header: words(rng, HEADER).iter().map(|&w| w as i64).collect(),
+                texts: words(rng, TEXTS).iter().map(|&w| w as u8).collect(),
+                place: words(rng, 2),
+            },
+        },
+        Job::Write { set, out, .. } => Call::Write {
+            given: given(rng, &set),
+            out,
+            count: words(rng, 1),
+        },
+        Job::Ask { set, question, .. } => {
+            let mut asked = boundary::asked(&question);
+            if rng.once_in(8) {
+                widen_asked(rng, &mut asked);
+            }
+            Call::Ask {
+                given: given(rng, &set),
+                asked,
+                value: words(rng, 1).iter().map(|&w| w as i32).collect(),
+            }
+        }
+        Job::Move { epoch, by } => Call::Move {
+            epoch,
+            by,
+            moved: words(rng, 1),
+        },
+    }
+}
+
+fn given(rng: &mut Rng, set: &MapSet) -> Given {
+    let mut given = boundary::given(set);
+    match rng.below(4) {
+        0 => widen(rng, &mut given.header),
+        1 => other_flags(rng, &mut given.header),
+        _ => {}
+    }
+    let (header, texts) = (length(rng, HEADER), length(rng, TEXTS));
+    given.header.resize_with(header, || rng.word() as i64);
+    given.texts.resize_with(texts, || rng.word() as u8);
+    given
+}
+
+/// One number wider than its field, some so that their lower bits are the right number.
+fn widen(rng: &mut Rng, header: &mut [i64]) {
+    let place = rng.below(HEADER);
+    let old = header[place];
+    header[place] = rng.pick(&[
+        i64::MIN,
+        i64::MAX,
+        old + (1 << 32),
+        old - (1 << 32),
+        old + (1 << 16),
+        old + 256,
+        old ^ i64::MIN,
+        -1 - old,
+    ]);
+}
+
+/// "any number but 0 says that the record stands"
+fn other_flags(rng: &mut Rng, header: &mut [i64]) {
+    for place in FLAGS {
+        if header[place] != 0 && rng.once_in(2) {
+            header[place] = rng.pick(&[2, -1, 256, 1 << 32, i64::MIN, i64::MAX]);
+        }
+    }
+}
+
+fn widen_asked(rng: &mut Rng, asked: &mut Asked) {
+    let more = rng.pick(&[1 << 8, 1 << 32, 1 << 63]);
+    let number = match rng.below(4) {
+        0 => &mut asked.kind,
+        1 => &mut asked.method,
+        2 => &mut asked.layer,
+        _ => &mut asked.second,
+    };
+    *number = number.wrapping_add(more);
+}
+
+// ---- comparing ----
+
+/// The first thing in which two answers, or what two calls left, differ.
+fn difference(a: (u64, &Call), b: (u64, &Call)) -> Option<String> {
+    if a.0 != b.0 {
+        return Some(format!("answers {} and {}", a.0, b.0));
+    }
+    let parts = match (a.1, b.1) {
+        (Call::Read { lent: left, .. }, Call::Read { lent: right, .. }) => vec![
+            run::areas(&left.areas, &right.areas),
+            part("header", &left.header, &right.header),
+            part("texts", &left.texts, &right.texts),
+            part("place", &left.place, &right.place),
+        ],
+        (
+            Call::Write { out, count, .. },
+            Call::Write {
+                out: other_out,
+                count: other_count,
+                ..
+            },
+        ) => vec![
+            part("out", out, other_out),
+            part("count", count, other_count),
+        ],
+        (Call::Ask { value: left, .. }, Call::Ask { value: right, .. }) => {
+            vec![part("value", left, right)]
+        }
+        (Call::Move { moved: left, .. }, Call::Move { moved: right, .. }) => {
+            vec![part("moved", left, right)]
+        }
+        _ => vec![Some("two calls of different kinds".to_string())],
+    };
+    let found = parts.into_iter().flatten().next()?;
+    Some(format!("after answer {}: {found}", a.0))
+}
+
+fn part<T: PartialEq + std::fmt::Debug>(name: &str, a: &[T], b: &[T]) -> Option<String> {
+    (a != b).then(|| run::place(name, a, b))
+}
+
+/// What two do with a call: the first's answer, and a difference if there is one.
+fn compare_call(a: &dyn Boundary, b: &dyn Boundary, call: &Call) -> (u64, Option<String>) {
+    let (mut left, mut right) = (call.clone(), call.clone());
+    let first = perform(a, &mut left);
+    let second = perform(b, &mut right);
+    let found = difference((first, &left), (second, &right));
+    (first, found)
+}
+
+/// Every call of the seeds, made to the second program and to another.
+pub fn compare(other: &dyn Boundary, count: u64, seed: u64) -> Tally {
+    let mut tally = Tally::default();
+    let mut counts = BTreeMap::new();
+    for (name, number) in expected_often() {
+        counts.insert((name, number), 0u64);
+    }
+    for seed in seed..seed.saturating_add(count) {
+        for (k, call) in calls(seed).iter().enumerate() {
+            let (answer, found) = compare_call(&Plain, other, call);
+            *counts.entry((call.name(), answer)).or_default() += 1;
+            tally.note(found.is_none());
+            if let Some(found) = found {
+                if tally.failed <= SHOWN {
+                    println!("seed {seed} call {k} ({}): {found}", call.name());
+                    leave(seed, k, call);
+                }
+            }
+        }
+    }
+    for (name, answer) in expected_often() {
+        let number = counts[&(name, answer)];
+        let often = number >= OFTEN;
+        let remark = if often { "" } else { "  too seldom" };
+        println!("{number:>9}  {name} answered {answer}{remark}");
+        tally.note(often);
+    }
+    tally
+}
+
+fn leave(seed: u64, k: usize, call: &Call) {
+    match call {
+        Call::Read { text, .. } => leave_file(&format!("{seed}-call-{k}.inx"), text),
+        _ => leave_file(
+            &format!("{seed}-call-{k}.txt"),
+            format!("{call:#?}\n").as_bytes(),
+        ),
+    }
+}
+
+/// The answers that must have occurred often.
+fn expected_often() -> Vec<(&'static str, u64)> {
+    let mut rows = Vec::new();
+    let mut add = |name, answers: &[u64]| rows.extend(answers.iter().map(|&answer| (name, answer)));
+    add("read", &[0, 6, 8, 11, 101, 102, 103]);
+    add("write", &[0, 30, 31, 101, 102, 103]);
+    add("ask", &[0, 20, 21, 22, 23, 31, 101, 102, 103]);
+    add("moved", &[0, 7, 103]);
+    rows
+}
+
+// ---- planted faults ----
+
+/// One thing wrong at the boundary.
+#[derive(Clone, Copy, Debug, PartialEq, Eq)]
+pub enum Fault {
+    PlaceWhenDone,
+    HeaderWhenRefused,
+    TextsWhenRefused,
+    PlaceTail,
+    HeaderTail,
+    TextsTail,
+    ReadFlagTwo,
+    /// 103 told before 101 and 102.
+    ReadOrder,
+    WriteOrder,
+    AskOrder,
+    /// Something written after 101 to 103.
+    ReadShortWritten,
+    CountWhenRefused,
+    CountTail,
+    ValueWhenRefused,
+    ValueTail,
+    MovedWhenRefused,
+    MovedTail,
+    MovedShort,
+    /// Only 1 says that a record stands.
+    FlagsOne,
+    /// Numbers of the header cut to 32 bits, in writing and in asking.
+    WriteNarrow,
+    AskNarrow,
+    /// Kind, method and layer cut to 32 bits.
+    AskedNarrow,
+}
+
+pub const FAULTS: [Fault; 22] = [
+    Fault::PlaceWhenDone,
+    Fault::HeaderWhenRefused,
+    Fault::TextsWhenRefused,
+    Fault::PlaceTail,
+    Fault::HeaderTail,
+    Fault::TextsTail,
+    Fault::ReadFlagTwo,
+    Fault::ReadOrder,
+    Fault::WriteOrder,
+    Fault::AskOrder,
+    Fault::ReadShortWritten,
+    Fault::CountWhenRefused,
+    Fault::CountTail,
+    Fault::ValueWhenRefused,
+    Fault::ValueTail,
+    Fault::MovedWhenRefused,
+    Fault::MovedTail,
+    Fault::MovedShort,
+    Fault::FlagsOne,
+    Fault::WriteNarrow,
+    Fault::AskNarrow,
+    Fault::AskedNarrow,
+];
+
+/// The seed and the difference at which the comparison with a library finds a fault, within `count` seeds.
+pub fn find(library: &dyn Boundary, fault: Fault, count: u64, seed: u64) -> Option<(u64, String)> {
+    (seed..seed.saturating_add(count)).find_map(|seed| {
+        let found = calls(seed)
+            .iter()
+            .find_map(|call| compare_call(library, &Faulty(fault), call).1)?;
+        Some((seed, found))
+    })
+}
+
+/// The second program with one thing wrong.
+struct Faulty(Fault);
+
+fn flip(area: &mut [u64], at: usize) {
+    if let Some(number) = area.get_mut(at) {
+        *number ^= 1;
+    }
+}
+
+impl Boundary for Faulty {
+    fn read(&self, text: &[u8], lent: &mut Lent) -> u64 {
+        if self.0 == Fault::ReadOrder && lent.place.len() < 2 {
+            return 103;
+        }
+        let answer = Plain.read(text, lent);
+        match (self.0, answer) {
+            (_, 101..) if self.0 != Fault::ReadShortWritten => {}
+            (Fault::ReadShortWritten, 101..) | (Fault::PlaceWhenDone, 0) => {
+                flip(&mut lent.place, 0)
+            }
+            (Fault::HeaderWhenRefused, 1..) => lent.header[0] ^= 1,
+            (Fault::TextsWhenRefused, 1..) => lent.texts[TEXTS - 1] ^= 1,
+            (Fault::PlaceTail, _) => flip(&mut lent.place, 2),
+            (Fault::HeaderTail, _) => {
+                if let Some(number) = lent.header.get_mut(HEADER) {
+                    *number ^= 1;
+                }
+            }
+            (Fault::TextsTail, _) => {
+                if let Some(byte) = lent.texts.get_mut(TEXTS) {
+                    *byte ^= 1;
+                }
+            }
+            (Fault::ReadFlagTwo, 0) => lent.header[19] *= 2,
+            _ => {}
+        }
+        answer
+    }
+
+    fn write(&self, given: &Given, out: &mut [u8], count: &mut [u64]) -> u64 {
+        if self.0 == Fault::WriteOrder && count.is_empty() {
+            return 103;
+        }
+        let answer = match self.0 {
+            Fault::FlagsOne => Plain.write(&with_header(given, only_one), out, count),
+            Fault::WriteNarrow => Plain.write(&with_header(given, narrow), out, count),
+            _ => Plain.write(given, out, count),
+        };
+        match (self.0, answer) {
+            (Fault::CountWhenRefused, 31) => flip(count, 0),
+            (Fault::CountTail, 0..=100) => flip(count, 1),
+            _ => {}
+        }
+        answer
+    }
+
+    fn ask(&self, given: &Given, asked: &Asked, value: &mut [i32]) -> u64 {
+        if self.0 == Fault::AskOrder && value.is_empty() {
+            return 103;
+        }
+        let answer = match self.0 {
+            Fault::AskNarrow => Plain.ask(&with_header(given, narrow), asked, value),
+            Fault::AskedNarrow => {
+                let low = |number: u64| number & 0xffff_ffff;
+                let asked = Asked {
+                    kind: low(asked.kind),
+                    method: low(asked.method),
+                    layer: low(asked.layer),
+                    ..*asked
+                };
+                Plain.ask(given, &asked, value)
+            }
+            _ => Plain.ask(given, asked, value),
+        };
+        let touched = match (self.0, answer) {
+            (Fault::ValueWhenRefused, 1..) => value.get_mut(0),
+            (Fault::ValueTail, _) => value.get_mut(1),
+            _ => None,
+        };
+        if let Some(number) = touched {
+            *number ^= 1;
+        }
+        answer
+    }
+
+    fn moved(&self, epoch: u64, by: i64, moved: &mut [u64]) -> u64 {
+        let answer = Plain.moved(epoch, by, moved);
+        match (self.0, answer) {
+            (Fault::MovedWhenRefused, 7) => flip(moved, 0),
+            (Fault::MovedTail, _) => flip(moved, 1),
+            (Fault::MovedShort, 103) => return 7,
+            _ => {}
+        }
+        answer
+    }
+}
+
+fn with_header(given: &Given, change: fn(usize, i64) -> i64) -> Given {
+    let mut changed = given.clone();
+    for (place, number) in changed.header.iter_mut().enumerate() {
+        *number = change(place, *number);
+    }
+    changed
+}
+
+fn narrow(place: usize, number: i64) -> i64 {
+    // Places 3 and 4 are epochs, which are wider.
+    match place {
+        3 | 4 => number,
+        _ => i64::from(number as i32),
+    }
+}
+
+fn only_one(place: usize, number: i64) -> i64 {
+    if FLAGS.contains(&place) && number != 1 {
+        0
+    } else {
+        number
+    }
+}

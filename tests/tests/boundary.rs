@@ -1,0 +1,239 @@
+//! What the C boundary promises, in so many words: by the library where it is linked, else by the second program.
+
+use compare::boundary::{Asked, Boundary, Given, Lent, FLAGS, HEADER, TEXTS};
+use compare::c::Archive;
+use compare::set::Buffers;
+use std::fs;
+use std::path::Path;
+
+fn text() -> Vec<u8> {
+    let folder = Path::new(env!("CARGO_MANIFEST_DIR")).join("examples");
+    fs::read(folder.join("accepted-3d.inx")).expect("the example")
+}
+
+fn lent(lengths: [usize; 6]) -> Lent {
+    Lent {
+        areas: Buffers::filled(lengths, 7),
+        header: vec![-77; HEADER],
+        texts: vec![b'?'; TEXTS],
+        place: vec![7_777; 2],
+    }
+}
+
+/// What the example needs: n maps of L layers, R rows and C columns.
+fn needs(header: &[i64]) -> [usize; 6] {
+    let lines = |at: usize| ((header[at + 1] - header[at]) / header[at + 2] + 1) as usize;
+    let maps = header[6] as usize;
+    let blocks = maps * lines(10) * lines(13);
+    let values = blocks * lines(16);
+    [values, values, values, 3 * blocks, maps, maps]
+}
+
+/// The example's map set, in areas of exactly the lengths needed.
+fn set() -> Given {
+    let mut first = lent([10_000; 6]);
+    assert_eq!(Archive.read(&text(), &mut first), 0);
+    let mut exact = lent(needs(&first.header));
+    assert_eq!(Archive.read(&text(), &mut exact), 0);
+    assert_eq!(exact.place, [7_777; 2], "place as found");
+    Given {
+        header: exact.header,
+        texts: exact.texts,
+        areas: exact.areas,
+    }
+}
+
+fn question(set: &Given) -> Asked {
+    Asked {
+        kind: 0,
+        method: 1,
+        layer: 0,
+        lat: (set.header[13] * 10) as i32,
+        lon: (set.header[16] * 10) as i32,
+        second: set.header[3] as u64,
+    }
+}
+
+fn write(set: &Given) -> (u64, Vec<u8>) {
+    let mut out = vec![0; 10_000];
+    let mut count = [0];
+    let answer = Archive.write(set, &mut out, &mut count);
+    out.truncate(count[0] as usize);
+    (answer, out)
+}
+
+fn ask(set: &Given, asked: &Asked) -> u64 {
+    Archive.ask(set, asked, &mut [0])
+}
+
+#[test]
+fn the_example_serves() {
+    let set = set();
+    assert_eq!(write(&set).0, 0);
+    assert_eq!(ask(&set, &question(&set)), 0);
+}
+
+/// "a number that its field cannot hold is 31", at each place, also where its lower bits are the right number.
+#[test]
+fn numbers_that_no_field_can_hold() {
+    let set = set();
+    let asked = question(&set);
+    for place in (0..HEADER).filter(|place| !FLAGS.contains(place)) {
+        let old = set.header[place];
+        for wide in [
+            i64::MIN,
+            i64::MAX,
+            -1_000_000,
+            old ^ i64::MIN,
+            old + (1 << 32),
+            old - (1 << 32),
+            old + (1 << 48),
+        ] {
+            let mut changed = set.clone();
+            changed.header[place] = wide;
+            assert_eq!(write(&changed).0, 31, "writing, place {place}: {wide}");
+            assert_eq!(ask(&changed, &asked), 31, "asking, place {place}: {wide}");
+        }
+    }
+}
+
+/// "any number but 0 says that the record stands"
+#[test]
+fn any_flag_but_0() {
+    let mut set = set();
+    for flag in FLAGS {
+        set.header[flag] = 1;
+    }
+    let (answer, text) = write(&set);
+    assert_eq!(answer, 0);
+    for flag in FLAGS {
+        for number in [2, -1, 256, 1 << 32, i64::MIN, i64::MAX] {
+            let mut changed = set.clone();
+            changed.header[flag] = number;
+            assert_eq!(write(&changed), (0, text.clone()), "flag {flag}: {number}");
+            assert_eq!(ask(&changed, &question(&set)), 0);
+        }
+        // Its numbers must be 0 where a record does not stand.
+        let mut without = set.clone();
+        without.header[flag] = 0;
+        without.header[flag + 1] = 5;
+        assert_eq!(write(&without).0, 31);
+        assert_eq!(ask(&without, &question(&set)), 31);
+    }
+}
+
+/// The lengths of header, texts and result, and the answer that they give.
+const SHORT: [([usize; 3], u64); 6] = [
+    ([HEADER - 1, TEXTS, 2], 101),
+    ([HEADER, TEXTS - 1, 2], 102),
+    ([HEADER, TEXTS, 0], 103),
+    ([0, 0, 0], 101),
+    ([HEADER, 0, 0], 102),
+    ([HEADER - 1, TEXTS, 0], 101),
+];
+
+#[test]
+fn own_areas_too_short_for_reading() {
+    let needs = needs(&set().header);
+    let one_short = ([HEADER, TEXTS, 1], 103);
+    for ([header, texts, place], answer) in SHORT.into_iter().chain([one_short]) {
+        // Neither a bad text nor a short area is looked at before.
+        for (text, lengths) in [(text(), needs), (text(), [0; 6]), (b"x".to_vec(), needs)] {
+            let mut lent = lent(lengths);
+            lent.header.truncate(header);
+            lent.texts.truncate(texts);
+            lent.place.truncate(place);
+            let before = lent.clone();
+            assert_eq!(Archive.read(&text, &mut lent), answer);
+            assert!(lent == before, "something was written");
+        }
+    }
+}
+
+#[test]
+fn own_areas_too_short_for_writing_and_asking() {
+    let set = set();
+    let mut no_set = set.clone();
+    no_set.header[0] = 0;
+    for ([header, texts, result], answer) in SHORT {
+        for set in [&set, &no_set] {
+            let mut given = set.clone();
+            given.header.truncate(header);
+            given.texts.truncate(texts);
+            let mut out = [b'?'; 100];
+            let mut count = vec![7_777; result.min(1)];
+            assert_eq!(Archive.write(&given, &mut out, &mut count), answer);
+            assert!(out == [b'?'; 100] && count.iter().all(|&n| n == 7_777));
+            let mut value = vec![-7_777; result.min(1)];
+            for kind in [0, 99] {
+                let asked = Asked {
+                    kind,
+                    ..question(set)
+                };
+                assert_eq!(Archive.ask(&given, &asked, &mut value), answer);
+                assert!(value.iter().all(|&n| n == -7_777));
+            }
+        }
+    }
+}
+
+#[test]
+fn own_area_too_short_for_moving() {
+    for (epoch, by) in [(0, 0), (0, -1), (u64::MAX, 0)] {
+        assert_eq!(Archive.moved(epoch, by, &mut []), 103);
+    }
+    let mut moved = [7_777; 3];
+    assert_eq!(Archive.moved(0, -1, &mut moved), 7);
+    assert_eq!(moved, [7_777; 3]);
+    assert_eq!(Archive.moved(10, -1, &mut moved), 0);
+    assert_eq!(moved, [9, 7_777, 7_777]);
+}
+
+/// Each of the six areas: exactly the need and more will do, one less and none at all are 11, and nothing is written.
+#[test]
+fn lengths_of_the_six_areas() {
+    let set = set();
+    let needs = needs(&set.header);
+    let text = text();
+    for area in 0..6 {
+        for more in [1, 5] {
+            let mut lengths = needs;
+            lengths[area] += more;
+            let mut lent = lent(lengths);
+            let tail = lent.areas.clone();
+            assert_eq!(Archive.read(&text, &mut lent), 0);
+            assert!(
+                lent.areas == tail.overlaid(&set.areas),
+                "elements past the need"
+            );
+        }
+        for length in [needs[area] - 1, 0] {
+            let mut lengths = needs;
+            lengths[area] = length;
+            let mut short = lent(lengths);
+            let before = short.clone();
+            assert_eq!(Archive.read(&text, &mut short), 11);
+            assert_eq!(short.place, [area as u64 + 1, needs[area] as u64]);
+            short.place = before.place.clone();
+            assert!(short == before, "a refusal wrote something");
+        }
+    }
+}
+
+/// A refusal of writing leaves the output as it was, and 31 leaves count too.
+#[test]
+fn refused_writings() {
+    let mut set = set();
+    let need = write(&set).1.len();
+    for length in [0, 1, need - 1] {
+        let mut out = vec![b'?'; length];
+        let mut count = [7_777];
+        assert_eq!(Archive.write(&set, &mut out, &mut count), 30);
+        assert_eq!((count[0] as usize, out), (need, vec![b'?'; length]));
+    }
+    set.areas.marks[0] = 4;
+    let mut out = vec![b'?'; need];
+    let mut count = [7_777];
+    assert_eq!(Archive.write(&set, &mut out, &mut count), 31);
+    assert_eq!((count, out), ([7_777], vec![b'?'; need]));
+}

@@ -1,0 +1,309 @@
+//! The figures of the scope paper that are not proved, and what it calls easy to get wrong, by the second program and
+//! by the library where it is linked.
+
+use compare::library::{self, Library};
+use compare::set::{Buffers, MapSet};
+use second::{Answer, Question, Reading, Refusal};
+
+/// 2000-01-01 00:00:00.
+const START: u64 = 3_155_673_600;
+
+fn record(body: &str, label: &str) -> String {
+    format!("{body:<60}{label}\n")
+}
+
+/// A date in January 2000, by seconds from its start.
+fn date(second: u64) -> String {
+    let (day, clock) = (1 + second / 86_400, second % 86_400);
+    let (hour, minute) = (clock / 3600, clock / 60 % 60);
+    format!("  2000     1{day:>6}{hour:>6}{minute:>6}{:>6}", clock % 60)
+}
+
+/// A header of two rows and two columns, ten degrees apart, with `more` records in it.
+fn header(maps: u64, last: u64, more: &str) -> String {
+    [
+        record(
+            "     1.1            IONOSPHERE MAPS     GNS",
+            "IONEX VERSION / TYPE",
+        ),
+        record("", "PGM / RUN BY / DATE"),
+        record(&date(0), "EPOCH OF FIRST MAP"),
+        record(&date(last), "EPOCH OF LAST MAP"),
+        record("     0", "INTERVAL"),
+        record(&format!("{maps:>6}"), "# OF MAPS IN FILE"),
+        record("", "MAPPING FUNCTION"),
+        record("     0.0", "ELEVATION CUTOFF"),
+        record("", "OBSERVABLES USED"),
+        record("  6371.0", "BASE RADIUS"),
+        record("     2", "MAP DIMENSION"),
+        record("   450.0 450.0   0.0", "HGT1 / HGT2 / DHGT"),
+        record("    10.0   0.0 -10.0", "LAT1 / LAT2 / DLAT"),
+        record("     0.0  10.0  10.0", "LON1 / LON2 / DLON"),
+        more.to_string(),
+        record("", "END OF HEADER"),
+    ]
+    .concat()
+}
+
+/// A map with the given values; `between` stands before its second block.
+fn map(
+    kind: &str,
+    number: u64,
+    epoch: Option<u64>,
+    values: [[i32; 2]; 2],
+    between: &str,
+) -> String {
+    let number = format!("{number:>6}");
+    let mut text = record(&number, &format!("START OF {kind} MAP"));
+    if let Some(second) = epoch {
+        text += &record(&date(second), "EPOCH OF CURRENT MAP");
+    }
+    for (row, latitude) in ["  10.0", "   0.0"].iter().enumerate() {
+        if row == 1 {
+            text += between;
+        }
+        let opening = format!("  {latitude}   0.0  10.0  10.0 450.0");
+        text += &record(&opening, "LAT/LON1/LON2/DLON/H");
+        text += &format!("{:>5}{:>5}\n", values[row][0], values[row][1]);
+    }
+    text + &record(&number, &format!("END OF {kind} MAP"))
+}
+
+fn end() -> String {
+    record("", "END OF FILE")
+}
+
+fn exponent(k: i32) -> String {
+    record(&format!("{k:>6}"), "EXPONENT")
+}
+
+fn read(library: &dyn Library, text: &str) -> Result<MapSet, Refusal> {
+    let mut areas = Buffers::filled([8, 8, 8, 12, 2, 2], 1);
+    match library.read(text.as_bytes(), &mut areas) {
+        Reading::Accepted { header, texts } => Ok(MapSet {
+            header,
+            texts,
+            areas,
+        }),
+        Reading::Refused(refusal) => Err(refusal),
+    }
+}
+
+fn each(test: impl Fn(&dyn Library)) {
+    for library in library::all() {
+        test(library.as_ref());
+    }
+}
+
+fn line_of(text: &str, what: &str) -> u64 {
+    let place = text.lines().position(|line| line.contains(what));
+    place.expect("the line") as u64 + 1
+}
+
+const ZEROS: [[i32; 2]; 2] = [[0, 0], [0, 0]];
+
+/// "A line of 80 bytes ... pass; 81 ... are refused", in the header and in the maps.
+#[test]
+fn lines_of_80_bytes() {
+    let long = |length: usize| {
+        let line = record("a line:", "COMMENT");
+        format!("{:<length$}\n", line.trim_end())
+    };
+    each(|library| {
+        for (length, good) in [(80, true), (81, false)] {
+            let texts = [
+                header(1, 0, &long(length)) + &map("TEC", 1, Some(0), ZEROS, "") + &end(),
+                header(1, 0, "") + &map("TEC", 1, Some(0), ZEROS, &long(length)) + &end(),
+            ];
+            for text in texts {
+                let line = line_of(&text, "a line:");
+                let expected = Refusal::Place {
+                    number: 1,
+                    line,
+                    column: 81,
+                };
+                match read(library, &text) {
+                    Ok(_) => assert!(good),
+                    Err(refusal) => assert_eq!((refusal, good), (expected, false)),
+                }
+            }
+        }
+    });
+}
+
+/// Texts without a record end too early, on the line behind their last.
+#[test]
+fn texts_of_blanks() {
+    each(|library| {
+        for (text, line) in [("", 1), ("\n", 2), ("  \r\n\n ", 4)] {
+            let expected = Refusal::Place {
+                number: 10,
+                line,
+                column: 0,
+            };
+            assert_eq!(read(library, text).err(), Some(expected));
+        }
+    });
+}
+
+/// "exponent 0 ... pass; ... 1 ... refused"
+#[test]
+fn exponents_up_to_0() {
+    each(|library| {
+        for (k, good) in [(0, true), (1, false)] {
+            let texts = [
+                header(1, 0, &exponent(k)) + &map("TEC", 1, Some(0), ZEROS, "") + &end(),
+                header(1, 0, "") + &map("TEC", 1, Some(0), ZEROS, &exponent(k)) + &end(),
+            ];
+            for text in texts {
+                let line = line_of(&text, "EXPONENT");
+                let expected = Refusal::Place {
+                    number: 7,
+                    line,
+                    column: 1,
+                };
+                let refusal = read(library, &text).err();
+                assert_eq!(refusal, (!good).then_some(expected));
+            }
+        }
+    });
+}
+
+/// "a gap of 21,600 s pass; ... 21,601 are refused"
+#[test]
+fn gaps_up_to_21600() {
+    each(|library| {
+        for (gap, good) in [(21_600, true), (21_601, false)] {
+            let text = header(2, gap, "")
+                + &map("TEC", 1, Some(0), ZEROS, "")
+                + &map("TEC", 2, Some(gap), ZEROS, "")
+                + &end();
+            let starts = text.lines().enumerate();
+            let line = starts
+                .filter(|(_, line)| line.contains("EPOCH OF CURRENT"))
+                .last()
+                .map_or(0, |(k, _)| k as u64 + 1);
+            let expected = Refusal::Place {
+                number: 8,
+                line,
+                column: 1,
+            };
+            let refusal = read(library, &text).err();
+            assert_eq!(refusal, (!good).then_some(expected));
+        }
+    });
+}
+
+/// "Setting the exponent back to -1 at each map or kind": it stays in force across all of them.
+#[test]
+fn exponents_stay_in_force() {
+    let text = header(2, 60, &exponent(-2))
+        + &map("TEC", 1, Some(0), ZEROS, &exponent(0))
+        + &map("RMS", 1, None, ZEROS, "")
+        + &map("TEC", 2, Some(60), ZEROS, "")
+        + &exponent(-3)
+        + &map("HEIGHT", 2, None, ZEROS, "")
+        + &end();
+    each(|library| {
+        let set = read(library, &text).expect("accepted");
+        let tec = [-2, 0, 0, 0];
+        let rms = [0, 0, -1, -1];
+        let height = [-1, -1, -3, -3];
+        assert_eq!(set.areas.exponents, [tec, rms, height].concat());
+        assert_eq!(set.areas.marks, [1, 2]);
+        assert_eq!(set.areas.rms[4..], [9999; 4]);
+        assert_eq!(set.areas.height[..4], [9999; 4]);
+    });
+}
+
+fn question(latitude: i64, longitude: i64, second: u64, method: i64) -> Question {
+    Question {
+        kind: 0,
+        method,
+        layer: 0,
+        latitude,
+        longitude,
+        second: START + second,
+    }
+}
+
+fn tecu(value: i64) -> Result<Answer, Refusal> {
+    Ok(Answer::ThousandthsOfTecu(value))
+}
+
+fn no(number: u8) -> Result<Answer, Refusal> {
+    Err(Refusal::Bare { number })
+}
+
+/// "Treating 9999 as 999.9 TECU, or refusing for an absent node whose weight is zero."
+#[test]
+fn absent_nodes() {
+    let text = header(1, 0, "") + &map("TEC", 1, Some(0), [[100, 9999], [300, 400]], "") + &end();
+    each(|library| {
+        let set = read(library, &text).expect("accepted");
+        let ask = |latitude, longitude| library.ask(&set, &question(latitude, longitude, 0, 1));
+        assert_eq!(ask(1000, 1000), no(22));
+        assert_eq!(ask(1000, 1), no(22));
+        assert_eq!(ask(1, 1), no(22));
+        assert_eq!(ask(1000, 0), tecu(10_000));
+        assert_eq!(ask(500, 0), tecu(20_000));
+        assert_eq!(ask(0, 500), tecu(35_000));
+    });
+}
+
+/// A map whose weight in time is zero is not needed either.
+#[test]
+fn absent_maps() {
+    let text = header(2, 60, "")
+        + &map("TEC", 1, Some(0), [[9999; 2]; 2], "")
+        + &map("TEC", 2, Some(60), [[7; 2]; 2], "")
+        + &end();
+    each(|library| {
+        let set = read(library, &text).expect("accepted");
+        for (second, method, expected) in [
+            (60, 1, tecu(700)),
+            (59, 1, no(22)),
+            (31, 0, tecu(700)),
+            (30, 0, no(22)),
+            (0, 1, no(22)),
+        ] {
+            let found = library.ask(&set, &question(500, 500, second, method));
+            assert_eq!(found, expected, "{second} {method}");
+        }
+    });
+}
+
+/// "Rounding in space and again in time": a quarter is 0, though a half is 1 and half of that 1 again.
+#[test]
+fn rounded_once() {
+    let text = header(2, 60, &exponent(-3))
+        + &map("TEC", 1, Some(0), [[0, 1], [0, 1]], "")
+        + &map("TEC", 2, Some(60), ZEROS, "")
+        + &end();
+    each(|library| {
+        let set = read(library, &text).expect("accepted");
+        let ask = |second| library.ask(&set, &question(1000, 500, second, 1));
+        assert_eq!(ask(0), tecu(1));
+        assert_eq!(ask(30), tecu(0));
+        assert_eq!(ask(60), tecu(0));
+    });
+}
+
+/// The figures of interpolation that are proved, run as well.
+#[test]
+fn corners_and_halves() {
+    let corners = [[100, 200], [300, 400]];
+    let text = header(1, 0, "") + &map("TEC", 1, Some(0), corners, "") + &end();
+    let halves = |one: i32| {
+        header(1, 0, &exponent(-3)) + &map("TEC", 1, Some(0), [[0, one]; 2], "") + &end()
+    };
+    each(|library| {
+        let ask = |text: &str| {
+            let set = read(library, text).expect("accepted");
+            library.ask(&set, &question(500, 500, 0, 1))
+        };
+        assert_eq!(ask(&text), tecu(25_000));
+        assert_eq!(ask(&halves(1)), tecu(1));
+        assert_eq!(ask(&halves(-1)), tecu(-1));
+    });
+}
