@@ -1,15 +1,17 @@
 //! Finds the library's archive, where one of its functions is linked (see Cargo.toml): in the folder that IONEX_LIB
-//! names, else where `rt staticlib ionex` leaves it.
+//! names, else where `rt staticlib ionex` leaves it. It is x86-64 code: for another machine it is linked into the bridge.
 
 use std::env;
 use std::path::{Path, PathBuf};
+use std::process::Command;
 
 const FUNCTIONS: [&str; 4] = ["READ", "ASK", "MOVED", "WRITE"];
 
 fn main() {
     println!("cargo:rerun-if-env-changed=IONEX_LIB");
     let linked = |name: &&str| env::var_os(format!("CARGO_FEATURE_{name}")).is_some();
-    if !FUNCTIONS.iter().any(linked) {
+    let functions: Vec<&str> = FUNCTIONS.into_iter().filter(linked).collect();
+    if functions.is_empty() {
         return;
     }
     let folder = match env::var_os("IONEX_LIB") {
@@ -18,6 +20,29 @@ fn main() {
     };
     let archive = folder.join("libionex.a");
     println!("cargo:rerun-if-changed={}", archive.display());
-    println!("cargo:rustc-link-search=native={}", folder.display());
-    println!("cargo:rustc-link-lib=static=ionex");
+    if env::var("CARGO_CFG_TARGET_ARCH").is_ok_and(|machine| machine == "x86_64") {
+        println!("cargo:rustc-link-search=native={}", folder.display());
+        println!("cargo:rustc-link-lib=static=ionex");
+    } else {
+        make_bridge(&archive, &functions);
+    }
+}
+
+/// Makes the bridge for these functions, and tells the crate where it is.
+fn make_bridge(archive: &Path, functions: &[&str]) {
+    println!("cargo:rerun-if-changed=bridge.c");
+    println!("cargo:rerun-if-changed=x86-64");
+    println!("cargo:rerun-if-changed=../include/ionex.h");
+    let bridge = Path::new(&env::var_os("OUT_DIR").expect("cargo's folder")).join("bridge");
+    let made = Command::new("./x86-64")
+        .arg("link")
+        .args([&bridge, Path::new("bridge.c"), archive])
+        .args("-std=c11 -Wall -Wextra -pedantic -Werror -O2 -I../include".split(' '))
+        .args(functions.iter().map(|name| format!("-D{name}")))
+        .status();
+    assert!(
+        made.is_ok_and(|status| status.success()),
+        "the bridge is not made"
+    );
+    println!("cargo:rustc-env=IONEX_BRIDGE={}", bridge.display());
 }

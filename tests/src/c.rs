@@ -3,14 +3,6 @@
 
 use crate::boundary::{Asked, Boundary, Given, Lent};
 
-/// Each function of the boundary, and whether it comes from the archive.
-pub const FUNCTIONS: [(&str, bool); 4] = [
-    ("ionex_read", cfg!(feature = "read")),
-    ("ionex_ask", cfg!(feature = "ask")),
-    ("ionex_moved", cfg!(feature = "moved")),
-    ("ionex_write", cfg!(feature = "write")),
-];
-
 // The library, as include/ionex.h declares it.
 #[rustfmt::skip]
 extern "C" {

@@ -2,7 +2,11 @@
 
 #![deny(unsafe_code)]
 
+pub mod archive;
 pub mod boundary;
+#[cfg(not(target_arch = "x86_64"))]
+pub mod bridge;
+#[cfg(target_arch = "x86_64")]
 #[allow(unsafe_code)]
 pub mod c;
 pub mod calls;

@@ -1,7 +1,7 @@
 //! What is compared: four functions over lent areas.
 
+use crate::archive::{Archive, FUNCTIONS};
 use crate::boundary::{self, Boundary, Lent, HEADER, TEXTS};
-use crate::c;
 use crate::set::{Buffers, MapSet};
 use second::{Answer, Question, Reading, Refusal};
 
@@ -122,8 +122,8 @@ fn bare(answer: u64) -> Refusal {
 
 /// The library to compare with the second program, where a function of it is linked.
 pub fn other() -> Option<Box<dyn Library>> {
-    let linked = c::FUNCTIONS.iter().any(|(_, linked)| *linked);
-    linked.then(|| Box::new(Behind(c::Archive)) as Box<dyn Library>)
+    let linked = FUNCTIONS.iter().any(|(_, linked)| *linked);
+    linked.then(|| Box::new(Behind(Archive)) as Box<dyn Library>)
 }
 
 /// The second program, and the library where one is linked.

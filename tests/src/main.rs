@@ -10,7 +10,7 @@
 
 #![forbid(unsafe_code)]
 
-use compare::c::{Archive, FUNCTIONS};
+use compare::archive::{Archive, FUNCTIONS};
 use compare::check::{self, Tally};
 use compare::library::{self, Second};
 use compare::{calls, faults, program};

@@ -22,9 +22,19 @@ pub fn names() -> Vec<String> {
     names
 }
 
+/// Runs an x86-64 executable; on another machine the script runs it under the emulator.
+pub fn command(file: &Path) -> Command {
+    if cfg!(target_arch = "x86_64") {
+        return Command::new(file);
+    }
+    let mut command = Command::new(concat!(env!("CARGO_MANIFEST_DIR"), "/x86-64"));
+    command.arg("run").arg(file);
+    command
+}
+
 /// What an executable prints for a text.
 fn printed(file: &Path, text: &[u8]) -> io::Result<Vec<u8>> {
-    let mut child = Command::new(file)
+    let mut child = command(file)
         .stdin(Stdio::piped())
         .stdout(Stdio::piped())
         .spawn()?;

@@ -1,7 +1,7 @@
 //! What the C boundary promises, in so many words: by the library where it is linked, else by the second program.
 
+use compare::archive::Archive;
 use compare::boundary::{Asked, Boundary, Given, Lent, FLAGS, HEADER, TEXTS};
-use compare::c::Archive;
 use compare::set::Buffers;
 use std::fs;
 use std::path::Path;

@@ -1,0 +1,89 @@
+/* Calls the library for a harness that cannot link it, because its machine does not run x86-64 code: reads one call
+ * after another from standard input and answers each on standard output. src/bridge.rs is the other end.
+ *
+ * A call is a struct call, then its areas. What goes back is the function's answer, then the areas that were lent, as
+ * the call left them. -D READ, WRITE, ASK or MOVED: the archive has this function. */
+#include "ionex.h"
+#include <stdio.h>
+#include <stdlib.h>
+
+enum { AREAS = 10, NUMBERS = 6 };
+
+/* src/bridge.rs has the same numbers. */
+enum function { FUNCTION_READ, FUNCTION_WRITE, FUNCTION_ASK, FUNCTION_MOVED };
+
+struct area {
+    uint64_t length; /* in elements, as the library is told */
+    uint64_t bytes;  /* with the guard behind it, a multiple of 8 */
+};
+
+struct call {
+    uint64_t function;
+    uint64_t number[NUMBERS]; /* what is given by value */
+    uint64_t given;           /* how many areas are only read; they come first */
+    struct area area[AREAS];  /* of no bytes where a function has fewer */
+};
+
+#ifdef MOVED
+uint64_t ionex_moved(uint64_t epoch, int64_t by, uint64_t *moved, size_t moved_len);
+#endif
+
+/* The k-th number; the k-th area as two arguments, and the first eight areas. */
+#define N(k) call->number[k]
+#define AREA(k) at[k], call->area[k].length
+#define EIGHT AREA(0), AREA(1), AREA(2), AREA(3), AREA(4), AREA(5), AREA(6), AREA(7)
+
+static uint64_t answer(const struct call *call, void *const *at)
+{
+    switch (call->function) {
+#ifdef READ
+    case FUNCTION_READ:
+        return ionex_read(EIGHT, AREA(8), AREA(9));
+#endif
+#ifdef WRITE
+    case FUNCTION_WRITE:
+        return ionex_write(EIGHT, AREA(8), AREA(9));
+#endif
+#ifdef ASK
+    case FUNCTION_ASK:
+        return ionex_ask(EIGHT, N(0), N(1), N(2), (int32_t)N(3), (int32_t)N(4), N(5), AREA(8));
+#endif
+#ifdef MOVED
+    case FUNCTION_MOVED:
+        return ionex_moved(N(0), (int64_t)N(1), AREA(0));
+#endif
+    default:
+        fprintf(stderr, "bridge: no function %d\n", (int)call->function);
+        exit(1);
+    }
+}
+
+/* Receives the areas of a call, makes it and sends what goes back; whether all of that went well. */
+static int serve(const struct call *call)
+{
+    size_t start[AREAS + 1] = {0};
+    for (int k = 0; k < AREAS; k++)
+        start[k + 1] = start[k] + call->area[k].bytes;
+    size_t all = start[AREAS], given = start[call->given];
+
+    char *areas = malloc(all);
+    if (!areas || fread(areas, 1, all, stdin) != all)
+        return 0;
+    void *at[AREAS];
+    for (int k = 0; k < AREAS; k++)
+        at[k] = areas + start[k];
+    uint64_t number = answer(call, at);
+    int sent = fwrite(&number, sizeof number, 1, stdout) == 1 &&
+               fwrite(areas + given, 1, all - given, stdout) == all - given && fflush(stdout) == 0;
+    free(areas);
+    return sent;
+}
+
+int main(void)
+{
+    struct call call;
+    while (fread(&call, sizeof call, 1, stdin) == 1)
+        if (!serve(&call))
+            return 1;
+    return 0;
+}

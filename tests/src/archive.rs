@@ -1,0 +1,15 @@
+//! The library's archive: which of its functions are linked, and how it is called. It is x86-64 code: another machine
+//! calls it through the bridge.
+
+#[cfg(not(target_arch = "x86_64"))]
+pub use crate::bridge::Archive;
+#[cfg(target_arch = "x86_64")]
+pub use crate::c::Archive;
+
+/// Each function of the boundary, and whether it comes from the archive.
+pub const FUNCTIONS: [(&str, bool); 4] = [
+    ("ionex_read", cfg!(feature = "read")),
+    ("ionex_ask", cfg!(feature = "ask")),
+    ("ionex_moved", cfg!(feature = "moved")),
+    ("ionex_write", cfg!(feature = "write")),
+];
