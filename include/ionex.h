@@ -57,7 +57,7 @@ enum ionex_answer {
      * and then nothing is written. */
     IONEX_SHORT_HEADER = 101, /* fewer than IONEX_HEADER numbers of header */
     IONEX_SHORT_TEXTS = 102,  /* fewer than IONEX_TEXTS bytes of texts */
-    IONEX_SHORT_RESULT = 103  /* too few numbers of place, count or value */
+    IONEX_SHORT_RESULT = 103  /* no room for place, count, value or moved */
 };
 
 /*
@@ -196,6 +196,15 @@ uint64_t ionex_ask(const int64_t *header, size_t header_len, /* IONEX_HEADER num
                    uint64_t kind, uint64_t method, uint64_t layer,
                    int32_t lat, int32_t lon, uint64_t second,
                    int32_t *value, size_t value_len); /* 1 number, else 103 */
+
+/*
+ * Moves an epoch, in seconds from 1900-01-01 00:00:00, by a number of seconds, backwards where it is negative.
+ *
+ *   0    moved[0] is the epoch that comes so much later.
+ *   7    the epoch, or what would come of it, lies outside the years 1900 to 2199; moved is as found.
+ */
+uint64_t ionex_moved(uint64_t epoch, int64_t by,
+                     uint64_t *moved, size_t moved_len); /* 1 number, else 103 */
 
 #ifdef __cplusplus
 }

@@ -24,10 +24,6 @@ struct call {
     struct area area[AREAS];  /* of no bytes where a function has fewer */
 };
 
-#ifdef MOVED
-uint64_t ionex_moved(uint64_t epoch, int64_t by, uint64_t *moved, size_t moved_len);
-#endif
-
 /* The k-th number; the k-th area as two arguments, and the first eight areas. */
 #define N(k) call->number[k]
 #define AREA(k) at[k], call->area[k].length

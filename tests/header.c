@@ -73,5 +73,9 @@ int main(int argc, char **argv)
     must(ask(IONEX_KIND_HEIGHT) == IONEX_DONE && value[0] == 50, "height asked for");
     must(ask(IONEX_KIND_RMS) == IONEX_NO_VALUE && value[0] == 50, "no RMS value");
 
+    uint64_t moved[1] = {9};
+    must(ionex_moved(epochs[0], 1, AREA(moved)) == IONEX_DONE && moved[0] == epochs[1], "an epoch moved");
+    must(ionex_moved(0, -1, AREA(moved)) == IONEX_OUT_OF_RANGE && moved[0] == epochs[1], "before 1900");
+
     return wrong;
 }

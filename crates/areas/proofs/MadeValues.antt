@@ -9,8 +9,8 @@ use lib.ListN.{length, replicate, length-append, length-replicate}
 use lib.IntN.{ℤ, pos, negℤ}
 use Rattle.kit.specs.Answer.{All}
 use Rattle.kit.specs.Parts.{neg-up, neg-dn, le-parts}
-use Rattle.fields.specs.Form as form
-use Rattle.fields.specs.Form.{Spells, Digit, numeral, sign, signed, pointed}
+use Rattle.forms.specs.Form as form
+use Rattle.forms.specs.Form.{Spells, Digit, numeral, sign, signed, pointed}
 use Rattle.layout.specs.Records.{Cells, c-blank, c-value, ValueRows, v-last, v-full}
 use Rattle.areas.specs.Formed.{Value}
 use Rattle.areas.proofs.ListLaws.{all-append}

@@ -11,7 +11,7 @@ use lib.ListN.{length, take, getD}
 use lib.Seq.{getD-take, length-take-le}
 use Rattle.kit.specs.Parts.{parts-le, abs-parts, one-zero}
 use Rattle.kit.specs.Answer.{All, pick-no}
-use Rattle.mapset.specs.Grid.{latitudes, longitudes, nodes, layers, rows, columns}
+use Rattle.mapset.specs.Grid.{latitudes, longitudes, layers, rows, columns}
 use Rattle.mapset.specs.Areas.{Present, Nowhere, nowhere?, blocks, values, Sound}
 use Rattle.mapset.specs.declared.Kind.{Kind}
 use Rattle.mapset.specs.declared.Kind.the-variants.{Tec as tec, Rms as rms, Height as height}

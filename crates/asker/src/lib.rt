@@ -9,7 +9,6 @@ use mapset::Header;
 use mapset::Texts;
 use mapset::Times;
 use mapset::axes;
-use mapset::soundness;
 pub use nodes::MilliKm;
 pub use nodes::MilliTecu;
 use nodes::Shape;

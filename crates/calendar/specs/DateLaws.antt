@@ -4,10 +4,11 @@ use Prim.Native.Nat.{ℕ, _+_, _*_, _-_, _/_, _%_, _≤_, _<_}
 use native.Mathlib.Omega.{arith}
 use lib.IntN.{ℤ, pos, negsuc, natAbs}
 use Rattle.kit.specs.Range.{Natural}
-use Rattle.calendar.specs.Sums.{sum, Place}
-use Rattle.calendar.specs.SumLaws.{place-once, place-found, place-below}
-use Rattle.calendar.specs.YearLaws.{all-years}
-use Rattle.calendar.specs.Calendar.{row, monthDays, yearDays, daysTo, second, Dated, DateAt, end}
+use Rattle.days.specs.Sums.{sum, Place}
+use Rattle.days.specs.SumLaws.{place-once, place-found, place-below}
+use Rattle.days.specs.YearLaws.{all-years}
+use Rattle.days.specs.Years.{row, monthDays, yearDays}
+use Rattle.calendar.specs.Calendar.{daysTo, second, Dated, DateAt, end}
 use Rattle.calendar.specs.Inner.{IsDate, secondOf}
 use Rattle.calendar.specs.declared.Epoch.{Epoch}
 

@@ -6,8 +6,9 @@ use native.Mathlib.Omega.{arith}
 use lib.IntN.{ℤ, pos, negsuc, natAbs}
 use Rattle.kit.specs.Answer.{ok, All, pick, pick-yes, pick-no}
 use Rattle.kit.specs.Range.{natural?}
-use Rattle.calendar.specs.YearLaws.{month-le}
-use Rattle.calendar.specs.Calendar.{row, monthDays, Number, Within, within, numbers, daysTo, second, Dated, first, wrongAt, dated, numbersOf, wrong, checked, recorded, toldTaken}
+use Rattle.days.specs.YearLaws.{month-le}
+use Rattle.days.specs.Years.{row, monthDays}
+use Rattle.calendar.specs.Calendar.{Number, Within, within, numbers, daysTo, second, Dated, first, wrongAt, dated, numbersOf, wrong, checked, recorded, toldTaken}
 use Rattle.calendar.specs.Inner.{IsDate, secondOf, datedOf, takenAs, clip}
 use Rattle.calendar.specs.declared.Epoch.{Epoch}
 use Rattle.calendar.specs.declared.Field.{Field}

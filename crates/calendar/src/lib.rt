@@ -1,16 +1,9 @@
 ghost use mathlib.Core.Path.{_≡_};
-ghost use Prim.Native.Nat.{_≤_, _<_};
+ghost use Prim.Native.Nat.{_<_};
 ghost use lib.IntN.{pos};
 ghost use Rattle.kit.specs.Range.{Natural};
-ghost use Rattle.calendar.specs.Sums.{sum, Place};
-ghost use Rattle.calendar.specs.Calendar.{row, monthDays, yearDays, columnOf, DateAt, Later, end, checked, recorded, The, toldChecked, toldTaken, toldWhen, toldFound};
+ghost use Rattle.calendar.specs.Calendar.{columnOf, DateAt, Later, end, checked, recorded, The, toldChecked, toldTaken, toldWhen, toldFound};
 ghost use Rattle.calendar.specs.Inner.{Decides, IsDate, secondOf, datedOf, Moment, clip};
-
-// The lengths of the months, in a common year and in a leap year.
-const MONTHS: [[u8; 12]; 2] = [
-    [31, 28, 31, 30, 31, 30, 31, 31, 30, 31, 30, 31],
-    [31, 29, 31, 30, 31, 30, 31, 31, 30, 31, 30, 31],
-];
 
 // The first second after 2199.
 const END: u64 = 9467107200;
@@ -71,7 +64,7 @@ impl Epoch {
         if !inside(month, 1, 12) {
             return Checked::Wrong(Field::Month);
         }
-        let last = month_days(leap_flag(year as u64), (month as u64) - 1);
+        let last = days::month_days(days::leap_flag(year as u64), (month as u64) - 1);
         if !inside(self.day, 1, last) {
             return Checked::Wrong(Field::Day);
         }
@@ -187,8 +180,8 @@ fn second_of(e: Epoch) -> u64
     ensures { λ r. ⌜ r ≡ secondOf e ⌝ }
 {
     let year = e.year as u64;
-    let years = days_to_year(year - 1900);
-    let months = days_to_month(leap_flag(year), (e.month as u64) - 1);
+    let years = days::days_to_year(year - 1900);
+    let months = days::days_to_month(days::leap_flag(year), (e.month as u64) - 1);
     let days = years + (months + ((e.day as u64) - 1));
     let clock = (e.hour as u64) * 3600 + ((e.minute as u64) * 60 + (e.second as u64));
     days * 86400 + clock
@@ -199,8 +192,8 @@ fn date_of(t: u64) -> Epoch
     requires { ⌜ t < end ⌝ }
     ensures { λ r. ⌜ DateAt r t ⌝ }
 {
-    let year = year_of(t / 86400);
-    let month = month_of(leap_flag(1900 + year.index), year.rest);
+    let year = days::year_of(t / 86400);
+    let month = days::month_of(days::leap_flag(1900 + year.index), year.rest);
     let clock = t % 86400;
     Epoch {
         year: (1900 + year.index) as u32,
@@ -230,105 +223,4 @@ fn shifted(s: u64, by: i64) -> When
     } else {
         When::Refused
     }
-}
-
-// ---- the walks through the years and through the months
-
-// A year or a month, counted from 0, and the days past its start.
-struct Spot {
-    index: u64,
-    rest: u64,
-}
-
-// 1 in a leap year, 0 in a common year.
-fn leap_flag(year: u64) -> usize
-    ensures { λ r. ⌜ r ≡ row year ⌝ }
-{
-    if year % 400 == 0 {
-        return 1;
-    }
-    if year % 100 == 0 {
-        return 0;
-    }
-    if year % 4 == 0 { 1 } else { 0 }
-}
-
-// The days of a month, counted from 0.
-fn month_days(leap: usize, month: u64) -> u64
-    requires { ⌜ (leap < 2) × (month < 12) ⌝ }
-    ensures { λ r. ⌜ r ≡ monthDays leap month ⌝ }
-{
-    MONTHS[leap][month as usize] as u64
-}
-
-// The days of a year, counted from 1900.
-fn year_days(k: u64) -> u64
-    requires { ⌜ k < 300 ⌝ }
-    ensures { λ r. ⌜ r ≡ yearDays k ⌝ }
-{
-    if leap_flag(1900 + k) == 1 { 366 } else { 365 }
-}
-
-// The days of the first n years from 1900.
-fn days_to_year(n: u64) -> u64
-    requires { ⌜ n < 300 ⌝ }
-    ensures { λ r. ⌜ r ≡ sum yearDays n ⌝ }
-{
-    let mut days: u64 = 0;
-    let mut k: u64 = 0;
-    while k < n {
-        days += year_days(k);
-        k += 1;
-    }
-    days
-}
-
-// The year of a day, counted from 1900-01-01.
-fn year_of(days: u64) -> Spot
-    requires { ⌜ days < sum yearDays 300 ⌝ }
-    ensures { λ r. ⌜ (r .index < 300) × Place yearDays days (r .index) (r .rest) ⌝ }
-{
-    let mut rest = days;
-    let mut k: u64 = 0;
-    while k < 299 {
-        let n = year_days(k);
-        if rest < n {
-            return Spot { index: k, rest };
-        }
-        rest -= n;
-        k += 1;
-    }
-    Spot { index: k, rest }
-}
-
-// The days of the first n months of a year.
-fn days_to_month(leap: usize, n: u64) -> u64
-    requires { ⌜ (leap < 2) × (n ≤ 12) ⌝ }
-    ensures { λ r. ⌜ r ≡ sum (monthDays leap) n ⌝ }
-{
-    let mut days: u64 = 0;
-    let mut k: u64 = 0;
-    while k < n {
-        days += month_days(leap, k);
-        k += 1;
-    }
-    days
-}
-
-// The month of a day of a year.
-fn month_of(leap: usize, days: u64) -> Spot
-    requires { ⌜ (leap < 2) × (days < sum (monthDays leap) 12) ⌝ }
-    ensures { λ r. ⌜ (r .index < 12) × Place (monthDays leap) days (r .index) (r .rest) ⌝ }
-{
-    let mut rest = days;
-    let mut k: u64 = 0;
-    while k < 11 {
-        let n = month_days(leap, k);
-        if rest < n {
-            return Spot { index: k, rest };
-        }
-        rest -= n;
-        k += 1;
-    }
-    Spot { index: k, rest }
 }

@@ -1,6 +1,6 @@
 // Where a place lies among the rows and columns of a grid.
 ghost use mathlib.Core.Path.{_≡_};
-ghost use Prim.Native.Nat.{ℕ, _*_, _<_, _^_};
+ghost use Prim.Native.Nat.{_*_, _<_, _^_};
 ghost use lib.IntN.{ℤ, pos, natAbs, _-ℤ_, _*ℤ_};
 ghost use Rattle.cells.specs.Place.{Turned};
 ghost use Rattle.cells.specs.Found.{IsWay, Located, RowFound, ColumnFound, CellFound};

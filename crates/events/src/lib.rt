@@ -10,9 +10,9 @@ ghost use Rattle.layout.specs.Layout.{Other};
 ghost use Rattle.areas.specs.Scan.{now as now-of, goes, on-start, on-epoch, exponent-in, second-of, epoch-in};
 ghost use Rattle.events.specs.Brings.{told, Goes, Opened, Takes};
 use calendar::Taken;
-use fields::Field;
-use fields::Found;
-use fields::Row;
+use forms::Field;
+use forms::Found;
+use forms::Row;
 use mapset::Kind;
 
 // Kind and number of the last map that began, how many of its blocks are done, the exponent in force, and how many TEC maps have their epoch.

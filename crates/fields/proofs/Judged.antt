@@ -11,13 +11,13 @@ use lib.IntN.{ℤ}
 use lib.Dec.{leb, eqb}
 use borrow.Author.Tests.{le-leb, leb-true, ne-eqb, eqb-true}
 use Rattle.kit.specs.Answer.{All}
-use Rattle.fields.specs.Form.{decimal, I, Digit, numeral, sign, signed, pointed, Spells}
-use Rattle.fields.specs.Read.{readField, isNumber}
-use Rattle.fields.specs.FieldLaws.{read-made, made-read}
-use Rattle.fields.specs.ShowLaws.{all-append, numeral-append, numeral-below}
-use Rattle.fields.specs.Bytes.{isDigit, mayPrecede, hasMinus}
-use Rattle.fields.specs.declared.Field.{Field}
-use Rattle.fields.specs.declared.Field.the-variants.{Number, Bad}
+use Rattle.forms.specs.Form.{decimal, I, Digit, numeral, sign, signed, pointed, Spells}
+use Rattle.forms.specs.Read.{readField, isNumber}
+use Rattle.forms.specs.FieldLaws.{read-made, made-read}
+use Rattle.forms.specs.ShowLaws.{all-append, numeral-append, numeral-below}
+use Rattle.forms.specs.Bytes.{isDigit, mayPrecede, hasMinus}
+use Rattle.forms.specs.declared.Field.{Field}
+use Rattle.forms.specs.declared.Field.the-variants.{Number, Bad}
 
 pub and-true : (x y : Bool) → (x && y) ≡ true → (x ≡ true) × (y ≡ true)
 and-true true y e = (refl, e)

@@ -3,5 +3,4 @@ pub mod Judged
 pub mod Steps
 pub mod Point
 pub mod Lines
-pub mod Written
 pub mod Threes

@@ -9,15 +9,15 @@ use lib.Seq.{take-suc-set}
 use lib.IntN.{ℤ}
 use borrow.Author.Tests.{eq-eqb, ne-eqb}
 use Rattle.kit.specs.Answer.{All}
-use Rattle.fields.specs.Form.{Form, decimal, Digit, sign, pointed, Spells}
-use Rattle.fields.specs.Read.{readField}
-use Rattle.fields.specs.Columns.{columns, further, firstNotBlank}
-use Rattle.fields.specs.FieldLaws.{made-read}
-use Rattle.fields.specs.ColumnLaws.{columns-whole, columns-first, columns-last}
-use Rattle.fields.specs.declared.Field.{Field}
-use Rattle.fields.specs.declared.Field.the-variants.{Number, Bad}
-use Rattle.fields.specs.declared.Found.{Found}
-use Rattle.fields.specs.declared.Found.the-variants.{At, Nowhere}
+use Rattle.forms.specs.Form.{Form, decimal, Digit, sign, pointed, Spells}
+use Rattle.forms.specs.Read.{readField}
+use Rattle.forms.specs.Columns.{columns, further, firstNotBlank}
+use Rattle.forms.specs.FieldLaws.{made-read}
+use Rattle.forms.specs.ColumnLaws.{columns-whole, columns-first, columns-last}
+use Rattle.forms.specs.declared.Field.{Field}
+use Rattle.forms.specs.declared.Field.the-variants.{Number, Bad}
+use Rattle.forms.specs.declared.Found.{Found}
+use Rattle.forms.specs.declared.Found.the-variants.{At, Nowhere}
 use Rattle.fields.proofs.Judged.{all-parts}
 
 -- ---- the last byte

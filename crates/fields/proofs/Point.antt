@@ -13,11 +13,11 @@ use lib.IntN.{ℤ}
 use lib.Dec.{eqb}
 use borrow.Author.Tests.{eq-eqb, eqb-true}
 use Rattle.kit.specs.Answer.{All}
-use Rattle.fields.specs.Form.{decimal, I, Digit, numeral, signed, pointed, dot}
-use Rattle.fields.specs.Read.{readField, isNumber}
-use Rattle.fields.specs.ShowLaws.{numeral-below}
-use Rattle.fields.specs.Bytes.{isDigit, hasMinus, Small}
-use Rattle.fields.specs.declared.Field.the-variants.{Number}
+use Rattle.forms.specs.Form.{decimal, I, Digit, numeral, signed, pointed, dot}
+use Rattle.forms.specs.Read.{readField, isNumber}
+use Rattle.forms.specs.ShowLaws.{numeral-below}
+use Rattle.forms.specs.Bytes.{isDigit, hasMinus, Small}
+use Rattle.forms.specs.declared.Field.the-variants.{Number}
 use Rattle.fields.proofs.Judged.{Parts, well, well-whole, well-digits, digits-well, whole-well, whole-below, and-true, digit-true, true-digit, judged, judged-parts, parts-number, int-judged}
 use Rattle.fields.proofs.Steps.{drop-next}
 

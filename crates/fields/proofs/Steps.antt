@@ -9,8 +9,8 @@ use native.Mathlib.Omega.{arith}
 use lib.ListN.{length, getD, drop, drop-of-length-le}
 use lib.Seq.{drop-cons}
 use lib.Dec.{eqb}
-use Rattle.fields.specs.Form.{numeral}
-use Rattle.fields.specs.Bytes.{isDigit, mayPrecede, hasMinus}
+use Rattle.forms.specs.Form.{numeral}
+use Rattle.forms.specs.Bytes.{isDigit, mayPrecede, hasMinus}
 use Rattle.fields.proofs.Judged.{well}
 
 pub drop-next : (f : List ℕ) (i : ℕ) → i < length f → drop i f ≡ getD f i 0 ∷ drop (i + 1) f

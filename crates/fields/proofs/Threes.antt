@@ -3,16 +3,16 @@ use mathlib.Core.Path.{_≡_, refl, _∙_}
 use mathlib.Core.List.{List}
 use Prim.Native.Nat.{ℕ}
 use lib.IntN.{ℤ}
-use Rattle.fields.specs.Form.{I}
-use Rattle.fields.specs.Read.{readField}
-use Rattle.fields.specs.Columns.{columns}
-use Rattle.fields.specs.Rows.{numberOr, threeAt, sixOf}
-use Rattle.fields.specs.declared.Field.{Field}
-use Rattle.fields.specs.declared.Field.the-variants.{Number, Bad}
-use Rattle.fields.specs.declared.Triple.{Triple}
-use Rattle.fields.specs.declared.Triple.the-variants.{Three, Amiss}
-use Rattle.fields.specs.declared.Row.{Row}
-use Rattle.fields.specs.declared.Row.the-variants.{Six, Wrong}
+use Rattle.forms.specs.Form.{I}
+use Rattle.forms.specs.Read.{readField}
+use Rattle.forms.specs.Columns.{columns}
+use Rattle.forms.specs.Rows.{numberOr, threeAt, sixOf}
+use Rattle.forms.specs.declared.Field.{Field}
+use Rattle.forms.specs.declared.Field.the-variants.{Number, Bad}
+use Rattle.forms.specs.declared.Triple.{Triple}
+use Rattle.forms.specs.declared.Triple.the-variants.{Three, Amiss}
+use Rattle.forms.specs.declared.Row.{Row}
+use Rattle.forms.specs.declared.Row.the-variants.{Six, Wrong}
 
 -- go on with the three numbers, or with their wrong column
 abbrev threeOr : Triple → (ℤ → ℤ → ℤ → Row) → Row

@@ -9,23 +9,24 @@ use native.Mathlib.Decide.{ℕ-discrete, decLe}
 use lib.Dec.{T, eqb, leb, eqb→eq, leb→le}
 use lib.IntN.{ℤ, pos, negsuc}
 use lib.ListN.{length}
-use Rattle.kit.specs.Answer.{Answer, ok, refused, All, need, bind, amap, pick, ×-dec, all-dec, same, sames, yields}
+use Rattle.kit.specs.Answer.{Answer, ok, refused, All, need, amap, pick, ×-dec, all-dec, same, sames, yields}
 use Rattle.kit.specs.Integer.{int?}
 use Rattle.kit.specs.Truth.{truth, truth-ok}
 use Rattle.kit.specs.Range.{within?, natural?}
-use Rattle.calendar.specs.Calendar.{Dated, dated, isLeap, monthDays, yearDays, second}
-use Rattle.calendar.specs.Sums.{sum}
+use Rattle.days.specs.Years.{isLeap, monthDays, yearDays}
+use Rattle.calendar.specs.Calendar.{Dated, dated, second}
+use Rattle.days.specs.Sums.{sum}
 use Rattle.calendar.specs.FieldLaws.{dated-of, dated-ok}
 use Rattle.calendar.specs.declared.Taken.{Taken}
 use Rattle.calendar.specs.declared.Taken.the-variants.{At, Wrong}
-use Rattle.fields.specs.Form.{I, Spells}
-use Rattle.fields.specs.Read.{readField, numberOf, formed?}
-use Rattle.fields.specs.FieldLaws.{read-made, made-read}
-use Rattle.fields.specs.declared.Field.{Field}
-use Rattle.fields.specs.declared.Field.the-variants.{Number, Bad}
+use Rattle.forms.specs.Form.{I, Spells}
+use Rattle.forms.specs.Read.{readField, numberOf, formed?}
+use Rattle.forms.specs.FieldLaws.{read-made, made-read}
+use Rattle.forms.specs.declared.Field.{Field}
+use Rattle.forms.specs.declared.Field.the-variants.{Number, Bad}
 use Rattle.mapset.specs.MapSet.{MapSet}
 use Rattle.layout.specs.Text.{pad}
-use Rattle.layout.specs.Records.{Cells, ValueRows, v-last}
+use Rattle.layout.specs.Records.{ValueRows, v-last}
 use Rattle.layout.specs.Labels.{bytes}
 use Rattle.layout.specs.Layout.{Makes}
 use Rattle.reading.specs.Feed.{Fault, Why, feed, split}

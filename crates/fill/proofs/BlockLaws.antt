@@ -9,8 +9,8 @@ use lib.IntN.{ℤ}
 use borrow.Rule.Slice.PartMut.{putMid}
 use Rattle.kit.specs.Answer.{yields}
 use Rattle.reading.specs.Feed.{split, feed}
-use Rattle.lines.specs.Blocks.{Okay}
-use Rattle.lines.specs.Blocks.{values, Filled}
+use Rattle.values.specs.Values.{Okay}
+use Rattle.blocks.specs.Blocks.{values, Filled}
 use Rattle.areas.specs.Scan.{values-ahead, brought}
 use Rattle.fill.specs.Rows.{rows-of, rows-from, Valued}
 use Rattle.fill.specs.Scan.{Resumes}

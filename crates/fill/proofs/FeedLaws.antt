@@ -14,8 +14,8 @@ use Rattle.reading.specs.Feed.{Fault, Why, why, on-line, Feed, over, bad, row, 
 use Rattle.reading.specs.Fields.{cells}
 use Rattle.reading.specs.Maps.{short, on-row}
 use Rattle.lines.specs.Lines.{Stands, Skips, Rows}
-use Rattle.lines.specs.Blocks.{Okay}
-use Rattle.lines.specs.Blocks.{values}
+use Rattle.values.specs.Values.{Okay}
+use Rattle.blocks.specs.Blocks.{values}
 use Rattle.lines.specs.declared.Line.the-variants.{Over, Bad}
 use Rattle.areas.specs.Scan.{Now, or-else, values-ahead, brought}
 use Rattle.fill.specs.Rows.{rows-of, rows-from, Valued}

@@ -8,7 +8,7 @@ use Rattle.layout.specs.Labels.{Label}
 use Rattle.reading.specs.Feed.{Feed, over, bad, row, split, feed}
 use Rattle.reading.specs.Fields.{label, cells}
 use Rattle.reading.specs.Maps.{on-row}
-use Rattle.lines.specs.Blocks.{Okay}
+use Rattle.values.specs.Values.{Okay}
 use Rattle.areas.specs.Scan.{at-first, turn}
 
 -- the rows that lines hand on, without their numbers

@@ -1,6 +1,6 @@
 // The second time over a text that is accepted: its values, exponents, epochs and marks are stored.
 ghost use mathlib.Core.Path.{_≡_};
-ghost use Prim.Native.Nat.{ℕ, _+_, _*_, _<_, _≤_};
+ghost use Prim.Native.Nat.{_+_, _*_, _<_, _≤_};
 ghost use lib.ListN.{length, drop};
 ghost use lib.Seq.{sets};
 ghost use Rattle.kit.specs.Answer.{All};
@@ -22,7 +22,7 @@ fn put_block(text: &[u8], at: usize, from: usize, columns: usize, area: &mut [i3
     ensures { λ r. ⌜ Resumes (now (text .entry)) at columns r × (now (area .exit) ≡ sets (now (area .entry)) from (values-ahead columns (rows-from (now (text .entry)) at))) ⌝ }
 {
     let e = from + columns;
-    lines::fill_block(text, at, 0, &mut area[from..e])
+    blocks::fill_block(text, at, 0, &mut area[from..e])
 }
 
 // ---- From one line to the next

@@ -1,6 +1,6 @@
 // The header of a text, from its start to END OF HEADER.
 ghost use mathlib.Core.Path.{_≡_};
-ghost use Prim.Native.Nat.{ℕ, suc, _≤_};
+ghost use Prim.Native.Nat.{suc, _≤_};
 ghost use native.Mathlib.Decide.{decLe};
 ghost use lib.ListN.{length, drop};
 ghost use lib.IntN.{negsuc};

@@ -15,16 +15,16 @@ use Rattle.mapset.specs.declared.Texts.{Texts}
 use Rattle.mapset.specs.Header.{Said, number, counts, says}
 use Rattle.mapset.specs.Header as said
 use Rattle.mapset.specs.Sound.{Count}
-use Rattle.fields.specs.Form.{I, F1}
-use Rattle.fields.specs.Show.{showField}
-use Rattle.fields.specs.ShowLaws.{show-width}
+use Rattle.forms.specs.Form.{I, F1}
+use Rattle.forms.specs.Show.{showField}
+use Rattle.forms.specs.ShowLaws.{show-width}
 use Rattle.layout.specs.Labels.{header-end, codes, bytes, name, version}
 use Rattle.layout.specs.Layout.{Slots}
 use Rattle.layout.specs.Names.{names}
 use Rattle.layout.proofs.Laws.{every-at}
 use Rattle.writer.specs.Canon.{row-of, columns-of, version-row, slot-row, slot-rows, head-rows, order}
-use Rattle.rows.specs.Rows.{row-at}
-use Rattle.rows.proofs.RowLaws.{field-next, longer}
+use Rattle.rowtext.specs.Rows.{row-at}
+use Rattle.rowtext.proofs.RowLaws.{field-next, longer}
 use Rattle.heading.specs.Header.{eight, twenties, four, sixty, letter-counts, if-stands, tenths-row, mapping-row, observables-row, counted-rows, system-rows, first-rows, middle-rows, systems-rows, last-rows}
 
 pub count-small : (b : Bool) (n : ℕ) → Count b n → n < 2 ^ 31

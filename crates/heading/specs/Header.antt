@@ -16,7 +16,7 @@ use Rattle.mapset.specs.declared.Texts.{Texts}
 use Rattle.layout.specs.Records.{Item, I, F, X, A}
 use Rattle.layout.specs.Labels.{letters}
 use Rattle.writer.specs.Canon.{version-row, date-of, six}
-use Rattle.rows.specs.Rows.{row-at, whole, three, six-whole}
+use Rattle.rowtext.specs.Rows.{row-at, whole, three, six-whole}
 
 abbrev pub eight : List Item
 eight = F 8 ∷ X 52 ∷ []

@@ -1,9 +1,7 @@
 // The header of canonical text: the version record, the records in the order of 01's table, END OF HEADER.
 ghost use mathlib.Core.Path.{_≡_};
-ghost use mathlib.Core.List.{[], _∷_, _++_};
-ghost use Prim.Native.Nat.{ℕ, _+_, _<_, _≤_, _^_};
-ghost use lib.ListN.{length};
-ghost use lib.IntN.{pos};
+ghost use mathlib.Core.List.{[], _∷_};
+ghost use Prim.Native.Nat.{_<_, _^_};
 ghost use Rattle.mapset.specs.Header.{says};
 ghost use Rattle.mapset.specs.Sound.{HeaderSays, SystemsSay, ModelSays};
 ghost use Rattle.layout.specs.Labels.{header-end};
@@ -43,10 +41,10 @@ fn version_row(code: usize) -> [u8; 80]
     ensures { λ r. ⌜ r ≡ canon.version-row code ⌝ }
 {
     let text = CODES[code];
-    let mut row = rows::blank_row(0);
-    fields::put_tenths(&mut row, 0, 8, 11);
-    rows::put_text(&mut row, 20, b"IONOSPHERE MAPS");
-    rows::put_text(&mut row, 40, &text);
+    let mut row = rowtext::blank_row(0);
+    numerals::put_tenths(&mut row, 0, 8, 11);
+    rowtext::put_text(&mut row, 20, b"IONOSPHERE MAPS");
+    rowtext::put_text(&mut row, 40, &text);
     row
 }
 
@@ -56,10 +54,10 @@ fn program_row(t: Texts) -> [u8; 80]
     let program = t.program;
     let agency = t.agency;
     let date = t.date;
-    let mut row = rows::blank_row(1);
-    rows::put_text(&mut row, 0, &program);
-    rows::put_text(&mut row, 20, &agency);
-    rows::put_text(&mut row, 40, &date);
+    let mut row = rowtext::blank_row(1);
+    rowtext::put_text(&mut row, 0, &program);
+    rowtext::put_text(&mut row, 20, &agency);
+    rowtext::put_text(&mut row, 40, &date);
     row
 }
 
@@ -67,8 +65,8 @@ fn mapping_row(t: Texts) -> [u8; 80]
     ensures { λ r. ⌜ r ≡ said.mapping-row t ⌝ }
 {
     let mapping = t.mapping;
-    let mut row = rows::blank_row(8);
-    rows::put_text(&mut row, 2, &mapping);
+    let mut row = rowtext::blank_row(8);
+    rowtext::put_text(&mut row, 2, &mapping);
     row
 }
 
@@ -76,8 +74,8 @@ fn observables_row(t: Texts) -> [u8; 80]
     ensures { λ r. ⌜ r ≡ said.observables-row t ⌝ }
 {
     let observables = t.observables;
-    let mut row = rows::blank_row(10);
-    rows::put_text(&mut row, 0, &observables);
+    let mut row = rowtext::blank_row(10);
+    rowtext::put_text(&mut row, 0, &observables);
     row
 }
 
@@ -86,8 +84,8 @@ fn tenths_row(k: usize, n: u32) -> [u8; 80]
     requires { ⌜ (k < 32) × (n < 2 ^ 31) ⌝ }
     ensures { λ r. ⌜ r ≡ said.tenths-row k n ⌝ }
 {
-    let mut row = rows::blank_row(k);
-    fields::put_tenths(&mut row, 0, 8, n as i32);
+    let mut row = rowtext::blank_row(k);
+    numerals::put_tenths(&mut row, 0, 8, n as i32);
     row
 }
 
@@ -96,10 +94,10 @@ fn system_row(j: usize, s: System) -> [u8; 80]
     requires { ⌜ (j < 7) × (s .stations < 2 ^ 31) × (s .satellites < 2 ^ 31) ⌝ }
     ensures { λ r. ⌜ r ≡ said.system-row j s ⌝ }
 {
-    let mut row = rows::blank_row(13);
+    let mut row = rowtext::blank_row(13);
     row[5] = LETTERS[j];
-    fields::put_int(&mut row, 6, 6, s.stations as i32);
-    fields::put_int(&mut row, 12, 6, s.satellites as i32);
+    numerals::put_int(&mut row, 6, 6, s.stations as i32);
+    numerals::put_int(&mut row, 12, 6, s.satellites as i32);
     row
 }
 
@@ -124,7 +122,7 @@ fn put_axis(out: &mut [u8], at: usize, k: usize, a: Axis) -> usize
     requires { ⌜ (k < 32) × Room at (said.axis-row k a ∷ []) ⌝ }
     ensures { λ r. ⌜ Put (now (out .entry)) at (said.axis-row k a ∷ []) (now (out .exit)) r ⌝ }
 {
-    let row = rows::three_row(k, a.first, a.last, a.step);
+    let row = rowtext::three_row(k, a.first, a.last, a.step);
     rows::put_line(out, at, &row)
 }
 
@@ -199,7 +197,7 @@ fn put_last(out: &mut [u8], at: usize, model: Model, grid: Grid) -> usize
     requires { ⌜ ModelSays model × Room at (said.last-rows model grid) ⌝ }
     ensures { λ r. ⌜ Put (now (out .entry)) at (said.last-rows model grid) (now (out .exit)) r ⌝ }
 {
-    let end = rows::blank_row(22);
+    let end = rowtext::blank_row(22);
     let a = put_tenths(out, at, 14, model.radius);
     let b = put_count(out, a, 15, model.dimension);
     let c = put_axis(out, b, 16, grid.heights);

@@ -1,13 +1,8 @@
 // The value at a place and second, and as other languages ask for it.
-ghost use mathlib.Core.Path.{_≡_};
-ghost use Prim.Native.Nat.{_≤_};
-ghost use lib.ListN.{length};
 ghost use Rattle.mapset.specs.Sound.{areas};
-ghost use Rattle.areas.specs.Stores.{front};
-ghost use Rattle.asker.specs.Ask.{question, Answers, told, number, tecu};
-ghost use Rattle.ionex.specs.AskExported.{told-number, told-value, asks, AskCrosses};
+ghost use Rattle.asker.specs.Ask.{question, Answers, told};
+ghost use Rattle.crossing.specs.AskExported.{asks, AskCrosses};
 use asker::Asked;
-use asker::Why;
 use mapset::Header;
 use mapset::Texts;
 use numbers::given;
@@ -47,44 +42,6 @@ pub fn ask(
         lon,
         second,
     )
-}
-
-// 01's number of a refusal.
-fn number_of(why: Why) -> u64
-    ensures { λ r. ⌜ r ≡ number why ⌝ }
-{
-    match why {
-        Why::Unknown => 23,
-        Why::Unsound => 31,
-        Why::OutOfTime => 20,
-        Why::OutOfPlace => 21,
-        Why::NoValue => 22,
-    }
-}
-
-fn put_value(out: &mut [i32], v: i32)
-    requires { ⌜ 1 ≤ length (now out) ⌝ }
-    ensures { λ _. ⌜ now (out .exit) ≡ front (told-value (tecu v)) (now (out .entry)) ⌝ }
-{
-    out[0] = v;
-}
-
-// An answer crosses: its number, and its value if it has one.
-fn put_answer(answer: Asked, out: &mut [i32]) -> u64
-    requires { ⌜ 1 ≤ length (now out) ⌝ }
-    ensures { λ r. ⌜ (r ≡ told-number (told answer)) × (now (out .exit) ≡ front (told-value (told answer)) (now (out .entry))) ⌝ }
-{
-    match answer {
-        Asked::Tecu(v) => {
-            put_value(out, v.0);
-            0
-        }
-        Asked::Km(v) => {
-            put_value(out, v.0);
-            0
-        }
-        Asked::Refused(why) => number_of(why),
-    }
 }
 
 // A question about a map set: 0, with the value; or 01's number.
@@ -135,5 +92,5 @@ pub extern "C" fn ionex_ask(
         lon,
         second,
     );
-    put_answer(answer, value)
+    crossing::put_answer(answer, value)
 }

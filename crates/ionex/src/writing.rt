@@ -1,12 +1,10 @@
 // A map set as canonical text, and as other languages have it written.
 ghost use mathlib.Core.Path.{_≡_};
 ghost use mathlib.Core.List.{List};
-ghost use Prim.Native.Nat.{ℕ, _≤_};
-ghost use lib.ListN.{length};
+ghost use Prim.Native.Nat.{ℕ};
 ghost use Rattle.mapset.specs.Sound.{areas};
-ghost use Rattle.areas.specs.Stores.{front};
-ghost use Rattle.output.specs.Write.{Told, done, told, written};
-ghost use Rattle.ionex.specs.WriteExported.{told-number, told-count, crossed, write-crossed};
+ghost use Rattle.output.specs.Write.{Told, told, written};
+ghost use Rattle.crossing.specs.WriteExported.{crossed, write-crossed};
 use mapset::Header;
 use mapset::Texts;
 use numbers::given;
@@ -39,31 +37,6 @@ pub fn write(
     )
 }
 
-fn put_count(out: &mut [u64], n: u64)
-    requires { ⌜ 1 ≤ length (now out) ⌝ }
-    ensures { λ _. ⌜ now (out .exit) ≡ front (told-count (done n)) (now (out .entry)) ⌝ }
-{
-    out[0] = n;
-}
-
-// An answer crosses: its number, and the bytes written or needed.
-fn put_written(answer: Written, count: &mut [u64]) -> u64
-    requires { ⌜ 1 ≤ length (now count) ⌝ }
-    ensures { λ r. ⌜ (r ≡ told-number (told answer)) × (now (count .exit) ≡ front (told-count (told answer)) (now (count .entry))) ⌝ }
-{
-    match answer {
-        Written::Bytes(n) => {
-            put_count(count, n);
-            0
-        }
-        Written::Short(n) => {
-            put_count(count, n);
-            30
-        }
-        Written::Unsound => 31,
-    }
-}
-
 // A map set as canonical text: 0, with the bytes written; 30, with the bytes needed; or 31.
 #[no_mangle]
 pub extern "C" fn ionex_write(
@@ -92,5 +65,5 @@ pub extern "C" fn ionex_write(
     let h = given::header_in(header);
     let x = given::texts_in(texts);
     let answer = write(h, x, tec, rms, height, exponents, epochs, marks, out);
-    put_written(answer, count)
+    crossing::put_written(answer, count)
 }

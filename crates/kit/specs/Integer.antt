@@ -7,7 +7,6 @@ use native.Mathlib.Omega.{arith}
 use lib.Dec.{T}
 use lib.IntN.{ℤ, pos, negsuc}
 use lib.Signed.{ltZ, leZ, _≤ℤ_, _<ℤ_}
-use Rattle.kit.specs.Answer.{×-dec}
 
 unfoldable pub int? : (a b : ℤ) → Dec (a ≡ b)
 int? (pos m) (pos n) = go (ℕ-discrete m n)

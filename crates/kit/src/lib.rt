@@ -1,7 +1,7 @@
 ghost use mathlib.Core.Path.{_≡_};
 ghost use mathlib.Core.Bool.{cond};
-ghost use Prim.Native.Nat.{ℕ, _<_, _^_};
-ghost use lib.IntN.{ℤ, pos, negℤ, natAbs};
+ghost use Prim.Native.Nat.{_<_, _^_};
+ghost use lib.IntN.{pos, negℤ, natAbs};
 ghost use lib.Signed.{ltZ};
 
 // Whether x is below 0.

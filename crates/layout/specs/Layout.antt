@@ -4,7 +4,7 @@ use mathlib.Core.Bool.{Bool, true, false}
 use mathlib.Core.Logic.{_⊎_}
 use mathlib.Core.Option.{Option, none, some}
 use mathlib.Core.List.{List, [], _∷_, _++_}
-use Prim.Native.Nat.{ℕ, zero, suc, _+_, _-_, _*_, _/_, _%_, _≤_, _<_}
+use Prim.Native.Nat.{ℕ, suc, _+_, _-_, _*_, _/_, _%_, _≤_, _<_}
 use lib.IntN.{ℤ, pos, negsuc, _+ℤ_, _*ℤ_}
 use lib.ListN.{length, getD, set, drop}
 use Rattle.kit.specs.Answer.{All}
@@ -20,7 +20,7 @@ use Rattle.mapset.specs.Areas.{Follows}
 use Rattle.mapset.specs.MapSet.{Block, TecMap, OtherMap, Maps, MapSet}
 use Rattle.layout.specs.Text.{Ended, Laid}
 use Rattle.layout.specs.Records.{Vals, ValueRows}
-use Rattle.layout.specs.Labels.{Label, version, description, comment, system, exponent, aux-start, aux-end, header-end, epoch, block, file-end, head, start, end, name, items, content, layout, codes, letters, Rec}
+use Rattle.layout.specs.Labels.{version, description, comment, system, exponent, aux-start, aux-end, header-end, epoch, block, file-end, head, start, end, name, items, content, layout, codes, letters, Rec}
 
 -- ---- 01, 'Maps'
 

@@ -4,8 +4,8 @@ use Prim.Native.Nat.{ℕ, _≤_}
 use mathlib.Core.List.{List, [], _∷_, _++_}
 use lib.ListN.{length, replicate}
 use lib.IntN.{ℤ}
-use Rattle.fields.specs.Form as form
-use Rattle.fields.specs.Form.{Spells}
+use Rattle.forms.specs.Form as form
+use Rattle.forms.specs.Form.{Spells}
 
 -- an item of a layout, as 01 writes it: Iw, Fw.1, wX, Aw, and w columns that are not looked at
 pub data Item : Type 0 where

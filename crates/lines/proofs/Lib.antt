@@ -2,6 +2,3 @@ pub mod Passing
 pub mod Firsts
 pub mod Parts
 pub mod QuickLines
-pub mod ValueLaws
-pub mod QuickRows
-pub mod BlockLaws

@@ -1,20 +1,17 @@
 -- The fast way over a line: a run of printable bytes, and an LF right behind it.
 use mathlib.Core.Path.{_≡_, refl, sym, ap, _∙_}
 use mathlib.Core.Bool.{Bool, true, false, _&&_}
-use mathlib.Core.List.{List, [], _∷_}
-use Prim.Native.Nat.{ℕ, zero, suc, _+_, _-_, _≤_, _<_}
+use mathlib.Core.List.{List}
+use Prim.Native.Nat.{ℕ, _+_, _-_, _≤_, _<_}
 use native.Mathlib.Omega.{arith}
 use native.Mathlib.Decide.{ℕ-discrete}
 use lib.Dec.{leb}
 use lib.ListN.{length, getD, take, drop, length-drop}
 use lib.Seq.{drop-drop, length-take-le}
 use borrow.Author.Tests.{leb-true}
-use Rattle.kit.specs.Answer.{All}
 use Rattle.kit.specs.Range.{Within}
-use Rattle.lines.specs.Lines.{passing, not-lf?, printable?, blank?, look-of, Spans, Skips, Rows}
+use Rattle.lines.specs.Lines.{passing, not-lf?, printable?, blank?, Spans, Skips, Rows}
 use Rattle.lines.specs.Quick.{Sixteen, Ahead}
-use Rattle.lines.specs.declared.Look.the-variants.{Blank, Full}
-use Rattle.lines.specs.declared.Span.{Span}
 use Rattle.lines.proofs.Passing.{passing-le, passing-all, passing-step, passing-end, passing-skip, passing-before, passing-is, passing-full}
 use Rattle.lines.proofs.Firsts.{spans-empty, spans-lf, look-full, look-blank, stand-skip, stand-row}
 use Rattle.lines.proofs.Parts.{rest-of}

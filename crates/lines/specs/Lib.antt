@@ -1,6 +1,3 @@
 -- What the code answers of a text from a line's start on, by what `reading` says of it.
 pub mod Lines
-pub mod Blocks
-pub mod RunLaws
-pub mod Inner
 pub mod Quick

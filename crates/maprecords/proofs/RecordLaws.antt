@@ -6,18 +6,18 @@ use native.Mathlib.Omega.{arith}
 use lib.ListN.{length}
 use lib.IntN.{ℤ}
 use Rattle.kit.specs.Answer.{Answer, ok, refused, bind, amap}
-use Rattle.fields.specs.Form as form
+use Rattle.forms.specs.Form as form
 use Rattle.calendar.specs.Calendar.{dated}
-use Rattle.fields.specs.Read.{readField}
-use Rattle.fields.specs.Columns.{columns}
-use Rattle.fields.specs.Rows.{threeAt, sixOf, numberOr}
-use Rattle.fields.specs.declared.Field.{Field}
-use Rattle.fields.specs.declared.Field.the-variants.{Number, Bad}
-use Rattle.fields.specs.declared.Found.{Found}
-use Rattle.fields.specs.declared.Found.the-variants.{At, Nowhere}
-use Rattle.fields.specs.declared.Triple.the-variants.{Three, Amiss}
-use Rattle.fields.specs.declared.Row.{Row}
-use Rattle.fields.specs.declared.Row.the-variants.{Six, Wrong}
+use Rattle.forms.specs.Read.{readField}
+use Rattle.forms.specs.Columns.{columns}
+use Rattle.forms.specs.Rows.{threeAt, sixOf, numberOr}
+use Rattle.forms.specs.declared.Field.{Field}
+use Rattle.forms.specs.declared.Field.the-variants.{Number, Bad}
+use Rattle.forms.specs.declared.Found.{Found}
+use Rattle.forms.specs.declared.Found.the-variants.{At, Nowhere}
+use Rattle.forms.specs.declared.Triple.the-variants.{Three, Amiss}
+use Rattle.forms.specs.declared.Row.{Row}
+use Rattle.forms.specs.declared.Row.the-variants.{Six, Wrong}
 use Rattle.layout.specs.Text.{pad}
 use Rattle.layout.specs.Records.{Vals, I, X}
 use Rattle.layout.specs.Labels.{exponent, epoch, block, file-end, layout}

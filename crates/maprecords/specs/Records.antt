@@ -1,10 +1,10 @@
 -- What the records of the maps hold, as the code has it.
 use Prim.Native.Nat.{ℕ}
 use Rattle.kit.specs.Answer.{Answer, ok, refused}
-use Rattle.fields.specs.declared.Field.{Field}
-use Rattle.fields.specs.declared.Found.{Found}
-use Rattle.fields.specs.declared.Triple.{Triple}
-use Rattle.fields.specs.declared.Triple.the-variants.{Three, Amiss}
+use Rattle.forms.specs.declared.Field.{Field}
+use Rattle.forms.specs.declared.Found.{Found}
+use Rattle.forms.specs.declared.Triple.{Triple}
+use Rattle.forms.specs.declared.Triple.the-variants.{Three, Amiss}
 use Rattle.layout.specs.Records.{Vals}
 use Rattle.layout.specs.Labels.{exponent, block, layout}
 use Rattle.reading.specs.Feed.{Fault, fault}

@@ -10,15 +10,15 @@ ghost use Rattle.reading.specs.Fields as R;
 ghost use Rattle.reading.specs.Maps.{date, on-date};
 ghost use Rattle.reading.specs.ScanLaws.{blank-to};
 ghost use Rattle.maprecords.specs.Records.{told-one, told-dated, told-opening, numbers-of};
-ghost use Rattle.fields.specs.Form.{F1};
-ghost use Rattle.fields.specs.Read.{readField};
-ghost use Rattle.fields.specs.Columns.{columns};
-ghost use Rattle.fields.specs.Rows.{threeAt};
+ghost use Rattle.forms.specs.Form.{F1};
+ghost use Rattle.forms.specs.Read.{readField};
+ghost use Rattle.forms.specs.Columns.{columns};
+ghost use Rattle.forms.specs.Rows.{threeAt};
 use calendar::Taken;
-use fields::Field;
-use fields::Found;
-use fields::Row;
-use fields::Triple;
+use forms::Field;
+use forms::Found;
+use forms::Row;
+use forms::Triple;
 
 // A record's one number, or the column where it is ill-formed.
 pub enum One {

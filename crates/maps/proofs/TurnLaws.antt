@@ -20,11 +20,11 @@ use Rattle.reading.specs.declared.Open.{Open}
 use Rattle.reading.specs.declared.Place.{Place}
 use Rattle.reading.specs.declared.Place.the-variants.{Ended, Between, Early, Inside}
 use Rattle.lines.specs.Lines.{Stands, Skips, Rows}
-use Rattle.lines.specs.Blocks.{values, Done, Judged}
-use Rattle.lines.specs.RunLaws.{in-front, resumed, run-values}
-use Rattle.lines.specs.declared.Block.{Block}
+use Rattle.blocks.specs.Blocks.{values, Done, Judged}
+use Rattle.blocks.specs.RunLaws.{in-front, resumed, run-values}
+use Rattle.blocks.specs.declared.Block.{Block}
 use Rattle.lines.specs.declared.Line.the-variants.{Over, Bad}
-use Rattle.lines.proofs.BlockLaws.{short-at}
+use Rattle.blocks.proofs.BlockLaws.{short-at}
 use Rattle.mapbounds.specs.Steps.{force-of, past-of, first-of, moved}
 use Rattle.maps.specs.Turns.{told, told-after, from, ended-with, grow, Room, Fits, After, Goes, Turned, Keeps, Running}
 use Rattle.mapbounds.specs.declared.Past.{Past}

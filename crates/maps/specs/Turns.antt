@@ -14,7 +14,7 @@ use Rattle.reading.specs.Feed.{Why, why, split, feed}
 use Rattle.reading.specs.Maps.{Todo, finish, run}
 use Rattle.reading.specs.declared.Place.{Place}
 use Rattle.reading.specs.declared.Place.the-variants.{Ended, Between, Early, Inside}
-use Rattle.lines.specs.Blocks.{values, Done}
+use Rattle.blocks.specs.Blocks.{values, Done}
 use Rattle.mapbounds.specs.Steps.{force-of}
 use Rattle.mapbounds.specs.declared.Past.{Past}
 use Rattle.mapbounds.specs.declared.Next.{Next}

@@ -7,8 +7,8 @@ ghost use Rattle.mapset.specs.Grid.{Limits};
 ghost use Rattle.reading.specs.Feed.{split, feed};
 ghost use Rattle.reading.specs.Maps.{run};
 ghost use Rattle.mapbounds.specs.Steps.{force-of};
-ghost use Rattle.maps.specs.Turns.{told, from, ended-with, After, Turned, Fits, Keeps};
-use lines::Block;
+ghost use Rattle.maps.specs.Turns.{told, ended-with, After, Turned, Fits, Keeps};
+use blocks::Block;
 use lines::Line;
 use mapbounds::Move;
 use mapbounds::Next;
@@ -35,7 +35,7 @@ fn values_after(text: &[u8], at: usize, lines: u64, next: Next) -> Turn
     requires { ⌜ (at ≤ length (now text)) × (lines ≤ at) ⌝ }
     ensures { λ r. ⌜ After (now (text .entry)) at lines next r ⌝ }
 {
-    match lines::judge_block(text, at, lines, next.due) {
+    match blocks::judge_block(text, at, lines, next.due) {
         Block::Good(to, passed) => Turn::On(to, passed, next),
         Block::Refused(number, line, column) => Turn::Halt(number, line, column),
     }

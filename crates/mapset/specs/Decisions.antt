@@ -1,11 +1,10 @@
 -- The rules of the header, of the grid and of the epochs are decided.
-use mathlib.Core.Path.{_≡_}
-use Prim.Native.Nat.{ℕ, _+_, _*_, _%_, _≤_, _<_}
+use Prim.Native.Nat.{ℕ, _+_, _*_, _%_}
 use native.Mathlib.Decide.{ℕ-discrete, decLe, decLt}
 use lib.IntN.{ℤ, pos, negsuc, natAbs, _-ℤ_}
 use Rattle.kit.specs.Answer.{×-dec, ⊎-dec, ¬-dec}
 use Rattle.kit.specs.Integer.{int?, le?, lt?, between?}
-use Rattle.mapset.specs.Grid.{Line, heights, latitudes, longitudes, End, Step, Multiple, Together, nodes, layers, rows, columns, Limits}
+use Rattle.mapset.specs.Grid.{Line, heights, latitudes, longitudes, End, Step, Multiple, Together, layers, rows, columns, Limits}
 use Rattle.mapset.specs.Header.{Dimension}
 use Rattle.mapset.specs.Areas.{Follows}
 use Rattle.mapset.specs.declared.Axis.{Axis}

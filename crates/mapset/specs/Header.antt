@@ -1,12 +1,12 @@
 -- 01, 'Header records': what each record of a header says, and what is accepted. No text stands here.
 use mathlib.Core.Path.{_≡_}
-use mathlib.Core.Bool.{Bool, true, false, cond}
+use mathlib.Core.Bool.{Bool, true, false}
 use mathlib.Core.Logic.{_⊎_}
 use mathlib.Core.Option.{Option, none, some}
 use mathlib.Core.List.{List, [], _∷_}
-use Prim.Native.Nat.{ℕ, _≤_, _<_}
+use Prim.Native.Nat.{ℕ, _<_}
 use lib.ListN.{length}
-use lib.IntN.{ℤ, pos}
+use lib.IntN.{pos}
 use Rattle.kit.specs.Answer.{All}
 use Rattle.kit.specs.Range.{Within}
 use Rattle.calendar.specs.Calendar.{end}

@@ -1,5 +1,4 @@
 -- An axis judged: the rules of Grid as decisions, in the order in which they are told.
-use native.Mathlib.Decide.{ℕ-discrete}
 use lib.IntN.{pos}
 use Rattle.kit.specs.Answer.{pick, ×-dec, ⊎-dec}
 use Rattle.kit.specs.Integer.{le?, lt?}

@@ -3,7 +3,7 @@ use mathlib.Core.Path.{_≡_}
 use mathlib.Core.Bool.{Bool, true, false}
 use mathlib.Core.Logic.{_⊎_}
 use mathlib.Core.List.{List, [], _∷_}
-use Prim.Native.Nat.{ℕ, _+_, _*_, _≤_, _<_}
+use Prim.Native.Nat.{ℕ, _*_, _≤_, _<_}
 use native.Mathlib.Decide.{ℕ-discrete, decLe, decLt}
 use lib.ListN.{length, take}
 use lib.IntN.{ℤ}
@@ -13,7 +13,7 @@ use Rattle.kit.specs.Truth.{dec-by}
 use Rattle.calendar.specs.Calendar.{end}
 use Rattle.mapset.specs.Grid.{Line, heights, latitudes, longitudes, AxisRules, Limits}
 use Rattle.mapset.specs.Header.{Written, Dimension}
-use Rattle.mapset.specs.Areas.{Areas, blocks, values, value-need, Follows, Run}
+use Rattle.mapset.specs.Areas.{Areas, blocks, values, value-need, Run}
 use Rattle.mapset.specs.declared.Kind.the-variants as K
 use Rattle.mapset.specs.Decisions.{end?, step?, together?, dimension?, limits?, follows?}
 use Rattle.mapset.specs.declared.Axis.{Axis}
@@ -25,7 +25,7 @@ use Rattle.mapset.specs.declared.System.{System}
 use Rattle.mapset.specs.declared.Systems.{Systems}
 use Rattle.mapset.specs.declared.Header.{Header}
 use Rattle.mapset.specs.declared.Texts.{Texts}
-use Rattle.mapset.specs.declared.soundness.Lengths.{Lengths}
+use Rattle.mapset.specs.declared.Lengths.{Lengths}
 
 -- ---- the groups of a header
 

@@ -1,8 +1,8 @@
 // The three axes of a grid, judged as document 01 judges them, and the limits of the grid.
 ghost use mathlib.Core.Path.{_≡_};
-ghost use Prim.Native.Nat.{ℕ, _%_};
+ghost use Prim.Native.Nat.{_%_};
 ghost use native.Mathlib.Decide.{ℕ-discrete};
-ghost use lib.IntN.{ℤ, natAbs, _-ℤ_};
+ghost use lib.IntN.{natAbs, _-ℤ_};
 ghost use lib.Signed.{ltZ};
 ghost use Rattle.kit.specs.Truth.{truth};
 ghost use Rattle.mapset.specs.Grid.{heights, latitudes, longitudes};

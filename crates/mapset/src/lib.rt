@@ -2,7 +2,6 @@
 // The field of a starred record that does not stand holds 0.
 
 pub mod axes;
-pub mod soundness;
 
 // The version record: version in tenths, type, and the code's place in 01's list.
 pub struct Version {
@@ -87,4 +86,12 @@ pub struct Texts {
     pub date: [u8; 20],
     pub mapping: [u8; 4],
     pub observables: [u8; 60],
+}
+
+// The lengths of the areas that hold a number for each node or block.
+pub struct Lengths {
+    pub tec: usize,
+    pub rms: usize,
+    pub height: usize,
+    pub exponents: usize,
 }

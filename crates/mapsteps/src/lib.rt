@@ -201,8 +201,8 @@ fn end_file(header: Header, past: Past, epochs: &[u64], line: &[u8]) -> Move
     ensures { λ r. ⌜ r ≡ moved (now (epochs .entry)) (M.on-file header Place.Between (force-of past (now (epochs .entry))) (pad (now (line .entry)))) ⌝ }
 {
     match fields::first_not_blank(line, 0, 60) {
-        fields::Found::At(column) => Move::Stop(6, column as u64),
-        fields::Found::Nowhere => {
+        forms::Found::At(column) => Move::Stop(6, column as u64),
+        forms::Found::Nowhere => {
             if epochs.len() as u64 != header.times.maps as u64 {
                 return Move::Stop(9, 0);
             }

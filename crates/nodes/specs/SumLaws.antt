@@ -16,7 +16,6 @@ use Rattle.kit.specs.Integer.{Between}
 use Rattle.mapset.specs.Areas.{Present, present?}
 use Rattle.mapset.specs.declared.Kind.{Kind}
 use Rattle.mapset.specs.declared.Kind.the-variants.{Tec as tec, Rms as rms, Height as height}
-use Rattle.rounding.specs.Round.{rounded}
 use Rattle.nodes.specs.Value.{IsValue, thousandths, is-value?, worth, kind-of, value, Term, Valued, valued?, mean, or-zero, corner, corners, spread, terms, weighted, weight}
 use Rattle.nodes.specs.Sums.{power-of, plain, in-node, bare, add-value, add-all, Room, Small, Ready, summed}
 use Rattle.cells.specs.declared.Cell.{Cell}

@@ -1,6 +1,6 @@
 // The nodes that a question looks at: their values, their weights, and the weighted sum.
 ghost use mathlib.Core.Path.{_≡_};
-ghost use Prim.Native.Nat.{ℕ, _+_, _*_, _≤_, _<_};
+ghost use Prim.Native.Nat.{_+_, _*_, _≤_, _<_};
 ghost use lib.IntN.{ℤ, pos, natAbs, _+ℤ_, _*ℤ_};
 ghost use lib.ListN.{getD};
 ghost use Rattle.kit.specs.Truth.{truth};

@@ -1,5 +1,5 @@
 -- A number that its field holds, or the largest that it can hold.
-use mathlib.Core.Path.{_≡_, refl, sym, _∙_}
+use mathlib.Core.Path.{_≡_, refl}
 use mathlib.Core.Logic.{⊎-elim}
 use mathlib.Core.Bool.{Bool, true, false, cond}
 use Prim.Native.Nat.{ℕ, _≤_, _<_}
@@ -10,8 +10,8 @@ use lib.Signed.{ltZ}
 use mir.Syntax.{w32}
 use mir.Val.{SFits}
 use borrow.Author.Tests.{lt-ltb, le-ltb, ltb-false}
-use Rattle.kit.specs.Parts.{up, dn, abs-parts, one-zero, lt-false, size-fits}
-use Rattle.numbers.specs.Given.{bounded, axis-number, stands-of}
+use Rattle.kit.specs.Parts.{abs-parts, one-zero, lt-false, size-fits}
+use Rattle.numbers.specs.Given.{bounded, axis-number}
 
 module _ (high : ℕ) (z : ℤ) where
   pub bounded-below : ltZ z (pos 0) ≡ true → high ≡ bounded high z

@@ -7,7 +7,7 @@ use lib.Dec.{ltb}
 use lib.IntN.{ℤ, pos, negsuc, natAbs}
 use lib.ListN.{getD, drop}
 use lib.Signed.{ltZ}
-use Rattle.fields.specs.Columns.{columns}
+use Rattle.forms.specs.Columns.{columns}
 use Rattle.mapset.specs.declared.Version.{Version}
 use Rattle.mapset.specs.declared.Times.{Times}
 use Rattle.mapset.specs.declared.Model.{Model}

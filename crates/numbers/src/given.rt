@@ -1,10 +1,9 @@
 // The header record and texts that a caller's numbers and bytes stand for.
 ghost use mathlib.Core.Path.{_≡_};
 ghost use Prim.Native.Nat.{_+_, _≤_};
-ghost use lib.IntN.{pos, negsuc};
 ghost use lib.ListN.{length};
 ghost use lib.Signed.{ltZ};
-ghost use Rattle.fields.specs.Columns.{columns};
+ghost use Rattle.forms.specs.Columns.{columns};
 ghost use Rattle.numbers.specs.Given.{bounded, axis-number, stands-of, nth, count-at, version-of, times-of, model-of, axis-at, grid-of, counted-at, system-at, systems-of, header-of, texts-of};
 use mapset::Axis;
 use mapset::Counted;

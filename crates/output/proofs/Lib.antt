@@ -1,5 +1,2 @@
-pub mod BlockLaws
-pub mod SlotLaws
-pub mod PartLaws
-pub mod RowsLaws
+mod RowsLaws
 pub mod Short

@@ -27,9 +27,10 @@ use Rattle.valid.specs.Groups.{Long}
 use Rattle.valid.proofs.Whole.{count, values-are, exponents-are}
 use Rattle.writer.specs.Canon.{row-of, date-of, six, block-rows, in-force, other-rows, tec-rows, map-rows, version-row, order, head-rows, canon-rows}
 use Rattle.heading.proofs.Laws.{head-rest}
-use Rattle.output.specs.KindRows.{epoch-rows, first-map, one-map, slot-map, slot-force, kind-rows, kind-force, area-rows, area-force, all-rows}
-use Rattle.output.proofs.BlockLaws.{blocks-append}
-use Rattle.output.proofs.SlotLaws.{map-there, force-there}
+use Rattle.onemap.specs.OneMap.{epoch-rows, one-map, slot-map, slot-force}
+use Rattle.allmaps.specs.KindRows.{first-map, kind-rows, kind-force, area-rows, area-force, all-rows}
+use Rattle.onemap.proofs.BlockLaws.{blocks-append}
+use Rattle.onemap.proofs.SlotLaws.{map-there, force-there}
 
 -- ---- a map, and what follows it
 map-then : (q : Kind) (h : Header) (i t : ℕ) (k : ℤ) (bs : List Block) (rest : List (List ℕ))

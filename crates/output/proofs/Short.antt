@@ -31,9 +31,10 @@ use Rattle.writer.specs.Canon.{version-row, slot-rows, order, head-rows, canon-
 use Rattle.writer.specs.RowLaws.{GoodRow}
 use Rattle.writer.specs.Made.{rows-good}
 use Rattle.rows.specs.Put.{Room}
-use Rattle.output.specs.KindRows.{first-map, epoch-rows, one-map, slot-map, slot-force, kind-rows, part-exponents, part-values, area-rows, area-force, all-rows}
-use Rattle.output.specs.Ready.{Fine}
-use Rattle.output.proofs.BlockLaws.{few-blocks}
+use Rattle.onemap.specs.OneMap.{epoch-rows, one-map, slot-map, slot-force}
+use Rattle.allmaps.specs.KindRows.{first-map, kind-rows, part-exponents, part-values, area-rows, area-force, all-rows}
+use Rattle.onemap.specs.Ready.{Fine}
+use Rattle.onemap.proofs.BlockLaws.{few-blocks}
 use Rattle.output.proofs.RowsLaws.{canon-are}
 
 -- ---- a line has at most 81 bytes

@@ -1,29 +1,29 @@
 -- Which numbers a row can be refused with: 3 or 6 where the version record is due, and 4 to 9 after it.
-use mathlib.Core.Path.{_≡_, refl, sym}
-use mathlib.Core.Bool.{Bool, true, false, _&&_}
+use mathlib.Core.Path.{_≡_, refl}
+use mathlib.Core.Bool.{Bool, _&&_}
 use lib.Dec.{T, leb}
 use mathlib.Core.Logic.{_⊎_, inl, inr}
 use mathlib.Core.Option.{Option, none, some}
 use Prim.Native.Nat.{ℕ, zero, suc, _+_}
 use mathlib.Core.List.{List, [], _∷_}
-use lib.ListN.{getD, take, drop}
+use lib.ListN.{take, drop}
 use lib.IntN.{ℤ}
 use Rattle.kit.specs.Answer.{Answer, ok, refused, need, bind, amap, get, pick}
 use Rattle.calendar.specs.declared.Taken.{Taken}
 use Rattle.calendar.specs.declared.Taken.the-variants.{At, Wrong}
-use Rattle.fields.specs.declared.Field.{Field}
-use Rattle.fields.specs.declared.Field.the-variants.{Number, Bad}
+use Rattle.forms.specs.declared.Field.{Field}
+use Rattle.forms.specs.declared.Field.the-variants.{Number, Bad}
 use Rattle.mapset.specs.declared.Kind.{Kind}
 use Rattle.mapset.specs.declared.Kind.the-variants.{Tec, Rms, Height}
 use Rattle.mapset.specs.declared.Header.{Header}
 use Rattle.mapset.specs.Header.{Content, count, tenths, epoch as an-epoch, axis, program, mapping, observables, system as a-system, Said}
 use Rattle.layout.specs.Records.{Item, I, F, X, A, U, Vals}
-use Rattle.layout.specs.Labels.{Label, version, description, comment, system, exponent, aux-start, aux-end, header-end, epoch, block, file-end, head, start, end, items, content, layout, letters}
+use Rattle.layout.specs.Labels.{Label, version, description, comment, system, exponent, aux-start, aux-end, header-end, epoch, block, file-end, head, start, end, items, content, layout}
 use Rattle.layout.specs.Layout.{Force, Slots, Mode, plain, aux}
 use Rattle.reading.specs.Feed.{Fault, fault}
-use Rattle.reading.specs.Fields.{label, number, blank, scan, fields, cells}
-use Rattle.reading.specs.Maps.{Step, on-date, loose, on-comment, on-exponent, start-tec, start-other, start-map, on-start, end-map, on-end, epoch-tec, epoch-other, on-epoch, open-block, on-block, on-file, taken, step, on-row}
-use Rattle.reading.specs.Head.{meant, place, Turn, once, on-system, on-end as on-header-end, at-head, head-step}
+use Rattle.reading.specs.Fields.{number, blank, scan, fields, cells}
+use Rattle.reading.specs.Maps.{Step, on-date, loose, on-comment, on-exponent, start-tec, start-other, start-map, on-start, end-map, on-end, epoch-tec, epoch-other, on-epoch, open-block, on-block, on-file, taken, step}
+use Rattle.reading.specs.Head.{meant, once, on-system, on-end as on-header-end, at-head, head-step}
 use Rattle.reading.specs.Read.{code-of}
 use Rattle.reading.specs.declared.Place.{Place}
 use Rattle.reading.specs.declared.Place.the-variants.{Ended, Between, Early, Inside}

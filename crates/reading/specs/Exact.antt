@@ -5,22 +5,21 @@ use Prim.Native.Nat.{ℕ, zero, suc, _<_}
 use native.Mathlib.Omega.{arith}
 use native.Mathlib.Decide.{ℕ-discrete}
 use mathlib.Core.Option.{Option, none, some}
-use mathlib.Core.List.{List, [], _∷_, _++_}
-use lib.ListN.{length, getD, drop, replicate}
-use lib.IntN.{ℤ, pos, negsuc}
-use Rattle.kit.specs.Answer.{Answer, ok, refused, need, bind, get, pick, same, sames, All, need-yes, Yields, y-ok, y-no, yields, need-yields, get-yields, bind-yields, yields-map}
+use mathlib.Core.List.{List, [], _∷_}
+use lib.ListN.{length, getD, replicate}
+use lib.IntN.{pos, negsuc}
+use Rattle.kit.specs.Answer.{ok, refused, bind, get, pick, same, sames, All, need-yes, Yields, y-ok, y-no, yields, need-yields, get-yields, bind-yields, yields-map}
 use Rattle.kit.specs.Lists.{below}
-use Rattle.mapset.specs.Header.{VersionRules, Said, says}
+use Rattle.mapset.specs.Header.{Said, says}
 use Rattle.mapset.specs.MapSet.{MapSet}
-use Rattle.layout.specs.Records.{Vals}
-use Rattle.layout.specs.Labels.{version, name, codes, layout, Rec}
-use Rattle.layout.specs.Layout.{plain, Heads, Rows, rows-of, Makes, makes}
-use Rattle.reading.specs.Feed.{Fault, fault, Why, on-line, Feed, over, bad, row, feed, split}
+use Rattle.layout.specs.Labels.{version, codes, Rec}
+use Rattle.layout.specs.Layout.{plain, Rows, rows-of, Makes, makes}
+use Rattle.reading.specs.Feed.{Why, on-line, Feed, over, bad, row, feed, split}
 use Rattle.reading.specs.Fields.{fields}
 use Rattle.reading.specs.Maps.{short}
-use Rattle.reading.specs.Head.{place, heading}
+use Rattle.reading.specs.Head.{place}
 use Rattle.reading.specs.Read.{nothing-yet, code-of, begin, read}
-use Rattle.reading.specs.LineLaws.{Carries, c-over, c-row, carries, clean, laid, ended, split-of, Sized, sized}
+use Rattle.reading.specs.LineLaws.{Carries, c-row, carries, clean, laid, ended, split-of, Sized, sized}
 use Rattle.reading.specs.RecordLaws.{rec-name, rec-fields, named-rec}
 use Rattle.reading.specs.MapLaws.{on-line-yields}
 use Rattle.reading.specs.SlotLaws.{unjoined, empty, fit-none}

@@ -1,11 +1,11 @@
 -- The lines of a text, and the rows that they hand on: 01's refusals 1 and 2, and blank lines.
 use mathlib.Core.Path.{_≡_}
-use Prim.Native.Nat.{ℕ, zero, suc, _≤_}
-use mathlib.Core.List.{List, [], _∷_, _++_}
+use Prim.Native.Nat.{ℕ, suc}
+use mathlib.Core.List.{List, [], _∷_}
 use native.Mathlib.Decide.{ℕ-discrete, decLe}
 use lib.ListN.{length}
 use Rattle.kit.specs.Answer.{Answer, ok, refused, pick, ×-dec, all-dec}
-use Rattle.kit.specs.Range.{Within, within?}
+use Rattle.kit.specs.Range.{within?}
 use Rattle.layout.specs.Text.{pad}
 
 -- a refusal of one line: 01's number, and the column

@@ -1,16 +1,15 @@
 -- A row's label and fields: 01's refusals 4 and 6.
-use mathlib.Core.Path.{_≡_}
 use Prim.Native.Nat.{ℕ, zero, suc, _+_, _-_}
 use mathlib.Core.Option.{Option, none, some}
-use mathlib.Core.List.{List, [], _∷_, _++_}
+use mathlib.Core.List.{List, [], _∷_}
 use native.Mathlib.Decide.{ℕ-discrete}
 use lib.ListN.{take, drop}
 use lib.IntN.{ℤ}
 use Rattle.kit.specs.Answer.{Answer, ok, refused, need, amap, pick, same, all-dec}
-use Rattle.fields.specs.Form as form
-use Rattle.fields.specs.Read.{readField}
-use Rattle.fields.specs.declared.Field.{Field}
-use Rattle.fields.specs.declared.Field.the-variants.{Number, Bad}
+use Rattle.forms.specs.Form as form
+use Rattle.forms.specs.Read.{readField}
+use Rattle.forms.specs.declared.Field.{Field}
+use Rattle.forms.specs.declared.Field.the-variants.{Number, Bad}
 use Rattle.layout.specs.Records.{Item, I, F, X, A, U, Vals}
 use Rattle.layout.specs.Labels.{Label, name, layout, labels}
 use Rattle.reading.specs.Feed.{Fault, fault}

@@ -3,11 +3,11 @@ use mathlib.Core.Path.{_≡_, refl}
 use mathlib.Core.Bool.{Bool, true, false}
 use mathlib.Core.Option.{Option, none, some}
 use mathlib.Core.List.{List, [], _∷_}
-use Prim.Native.Nat.{ℕ, zero, suc, _+_}
+use Prim.Native.Nat.{ℕ, suc, _+_}
 use native.Mathlib.Omega.{arith}
 use native.Mathlib.Decide.{ℕ-discrete}
-use lib.ListN.{getD, set, drop, replicate}
-use lib.IntN.{ℤ, pos, negsuc, natAbs}
+use lib.ListN.{getD, set, drop}
+use lib.IntN.{ℤ, pos, natAbs}
 use Rattle.kit.specs.Answer.{Answer, ok, refused, need, bind, amap, get, pick, same}
 use Rattle.kit.specs.Range.{natural?}
 use Rattle.mapset.specs.declared.Axis.{Axis}

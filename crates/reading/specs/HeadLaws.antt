@@ -2,32 +2,31 @@
 use mathlib.Core.Path.{_≡_, refl, sym, ap, _∙_}
 use mathlib.Core.Option.{Option, none, some}
 use mathlib.Core.List.{List, [], _∷_, _++_, append-assoc}
-use Prim.Native.Nat.{ℕ, zero, suc, _+_, _≤_, _<_}
+use Prim.Native.Nat.{ℕ, suc, _+_, _<_}
 use native.Mathlib.Omega.{arith}
 use native.Mathlib.Decide.{ℕ-discrete}
-use lib.ListN.{length, getD, set, drop, replicate, length-set}
-use lib.IntN.{ℤ, pos, negsuc, natAbs}
-use Rattle.kit.specs.Answer.{Answer, ok, refused, need, bind, amap, get, pick, same, sames, All, need-yes, pick-yes, pick-no, pick-elim, pick-yields, Yields, y-ok, y-no, yields, need-yields, get-yields, bind-yields, amap-yields, yields-map}
+use lib.ListN.{length, getD, set, drop, length-set}
+use lib.IntN.{ℤ, pos, natAbs}
+use Rattle.kit.specs.Answer.{ok, bind, amap, get, pick, same, need-yes, pick-yes, pick-no, pick-elim, pick-yields, Yields, y-ok, y-no, yields, need-yields, get-yields, bind-yields, amap-yields, yields-map}
 use Rattle.kit.specs.Lists.{below}
 use Rattle.kit.specs.Range.{Natural}
 use Rattle.calendar.specs.DateLaws.{dated-below}
-use Rattle.mapset.specs.declared.Axis.{Axis}
 use Rattle.mapset.specs.declared.Header.{Header}
 use Rattle.mapset.specs.declared.Texts.{Texts}
 use Rattle.mapset.specs.Grid.{Limits}
-use Rattle.mapset.specs.Header.{Content, count, tenths, epoch as an-epoch, axis, program, mapping, observables, system as a-system, starred, Said, number, along, words, counts, Accepts, a-count, a-tenths, a-epoch, a-axis, a-program, a-mapping, a-observables, a-system as accepts-system, says, VersionRules, Fillers, Dimension}
+use Rattle.mapset.specs.Header.{Content, count, tenths, epoch as an-epoch, axis, program, mapping, observables, system as a-system, starred, Said, number, counts, Accepts, a-count, a-tenths, a-epoch, a-axis, a-program, a-mapping, a-observables, a-system as accepts-system, says, VersionRules, Fillers, Dimension}
 use Rattle.mapset.specs.MapSet.{MapSet, Maps}
 use Rattle.layout.specs.Text.{Printable}
 use Rattle.layout.specs.Records.{Vals, Fields, f-blank, f-text}
 use Rattle.layout.specs.Labels.{Label, version, description, comment, system, exponent, aux-start, aux-end, header-end, epoch, block, file-end, head, start, end, name, items, content, layout, letters, Rec, rec}
-use Rattle.layout.specs.Layout.{Force, maps, Writes, Slots, Shows, s-count, s-tenths, s-epoch, s-axis, s-program, s-mapping, s-observables, Mode, plain, aux, Heads, h-description, h-comment, h-exponent, h-field, h-system, h-aux, h-skip, h-back, h-end}
-use Rattle.reading.specs.Feed.{Fault, fault, Why, on-line, Feed, over, bad, row}
+use Rattle.layout.specs.Layout.{Force, maps, Slots, Shows, s-count, s-tenths, s-epoch, s-axis, s-program, s-mapping, s-observables, Mode, plain, aux, Heads, h-description, h-comment, h-exponent, h-field, h-system, h-aux, h-skip, h-back, h-end}
+use Rattle.reading.specs.Feed.{Why, on-line, Feed, over, bad, row}
 use Rattle.reading.specs.Fields.{label, fields}
-use Rattle.reading.specs.Maps.{date, on-date, short, run}
-use Rattle.reading.specs.Head.{axis-of, meant, next, place, none?, Complete, made, made-texts, Turn, more, done, once, on-system, on-end, at-head, head-step, heading}
-use Rattle.reading.specs.LineLaws.{Carries, c-over, c-row, Sized}
-use Rattle.reading.specs.RecordLaws.{Known, known-head, known-heads, known-maps, rec-label, rec-name, rec-fields, named-rec, row-rec, label-head, AllWritten, rec-written}
-use Rattle.reading.specs.MapLaws.{on-date-of, on-date-yields, on-line-yields, not-negative, runs, Wrote, wrote-rows, written}
+use Rattle.reading.specs.Maps.{short, run}
+use Rattle.reading.specs.Head.{axis-of, meant, next, place, Complete, made, made-texts, Turn, more, done, once, on-system, on-end, at-head, head-step, heading}
+use Rattle.reading.specs.LineLaws.{Carries, c-row, Sized}
+use Rattle.reading.specs.RecordLaws.{known-head, known-heads, known-maps, rec-label, rec-name, rec-fields, named-rec, row-rec, label-head, AllWritten, rec-written}
+use Rattle.reading.specs.MapLaws.{on-date-of, on-date-yields, on-line-yields, runs, Wrote, wrote-rows, written}
 use Rattle.reading.specs.SlotLaws.{Joined, taken, full, untaken, rest-none, FitAll, fit-set, made-says, texts-says, complete-says, says-made, made-filled, system-content}
 use Rattle.reading.specs.declared.Place.the-variants.{Between}
 

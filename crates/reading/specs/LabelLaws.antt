@@ -11,8 +11,8 @@ use lib.ListN.{length, getD, drop, length-append, length-drop, length-replicate}
 use lib.Seq.{take-all}
 use borrow.Author.Tests.{eq-eqb, eqb-true}
 use Rattle.kit.specs.Answer.{pick, pick-yes, pick-no, same, sames}
-use Rattle.fields.specs.Columns.{columns}
-use Rattle.fields.specs.ColumnLaws.{columns-padded, columns-first}
+use Rattle.forms.specs.Columns.{columns}
+use Rattle.forms.specs.ColumnLaws.{columns-padded, columns-first}
 use Rattle.layout.specs.Text.{pad}
 use Rattle.layout.specs.Labels.{Label, version, aux-end, name, labels}
 use Rattle.layout.specs.Names.{holds, place-of, names, number-of}

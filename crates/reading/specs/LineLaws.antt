@@ -1,6 +1,6 @@
 -- The text's lines and their rows are the only ones.
-use mathlib.Core.Path.{_≡_, refl, sym, ap, _∙_}
-use Prim.Native.Nat.{ℕ, zero, suc, _+_, _-_, _≤_}
+use mathlib.Core.Path.{_≡_, refl, ap, _∙_}
+use Prim.Native.Nat.{ℕ, zero, suc, _+_, _-_}
 use native.Mathlib.Omega.{arith}
 use mathlib.Core.List.{List, [], _∷_, _++_}
 use native.Mathlib.Decide.{ℕ-discrete, decLe}
@@ -8,7 +8,7 @@ use lib.ListN.{length, replicate, length-append, length-replicate}
 use Rattle.kit.specs.Answer.{×-dec, pick, pick-yes, pick-no, pick-elim, All, all-dec}
 use Rattle.kit.specs.Lists.{all-append}
 use Rattle.kit.specs.Range.{Within, within?}
-use Rattle.fields.specs.Columns.{Blank}
+use Rattle.forms.specs.Columns.{Blank}
 use Rattle.layout.specs.Text.{Ended, none, last, lf, crlf, Printable, Clean, pad, Laid, blank, line}
 use Rattle.reading.specs.Feed.{Why, front, Opens, opens?, split, Feed, over, bad, row, feed}
 

@@ -1,18 +1,15 @@
 -- The maps: what the rules write is read, and what is read the rules write.
-use mathlib.Core.Path.{_≡_, refl, sym, ap, _∙_}
+use mathlib.Core.Path.{_≡_, refl, sym, _∙_}
 use mathlib.Core.Bool.{Bool, true, false}
 use mathlib.Core.Logic.{_⊎_, inl, inr, ⊎-elim}
-use Prim.Native.Nat.{ℕ, zero, suc, _+_, _-_, _*_, _/_, _%_, _≤_, _<_}
+use Prim.Native.Nat.{ℕ, zero, suc, _+_, _-_, _≤_, _<_}
 use native.Mathlib.Omega.{arith}
-use native.Mathlib.Decide.{ℕ-discrete, decLe, decLt}
-use mathlib.Core.Option.{Option, none, some}
+use mathlib.Core.Option.{some}
 use mathlib.Core.List.{List, [], _∷_, _++_, append-nil}
 use lib.ListN.{length, getD, length-append}
-use lib.IntN.{ℤ, pos, negsuc, natAbs}
-use Rattle.kit.specs.Answer.{Answer, ok, refused, need, bind, amap, get, ×-dec, need-yes, Yields, y-ok, y-no, yields, need-yields, get-yields, bind-yields, amap-yields, yields-map}
-use Rattle.kit.specs.Range.{Natural, natural?}
-use Rattle.kit.specs.Integer.{int?}
-use Rattle.calendar.specs.Calendar.{Dated, dated}
+use lib.IntN.{ℤ, pos, natAbs}
+use Rattle.kit.specs.Answer.{Answer, ok, bind, amap, get, need-yes, Yields, y-ok, y-no, yields, need-yields, get-yields, bind-yields, amap-yields, yields-map}
+use Rattle.kit.specs.Range.{Natural}
 use Rattle.calendar.specs.FieldLaws.{dated-of, dated-ok}
 use Rattle.calendar.specs.declared.Taken.{Taken}
 use Rattle.calendar.specs.declared.Taken.the-variants.{At, Wrong}
@@ -20,17 +17,15 @@ use Rattle.mapset.specs.declared.Kind.{Kind}
 use Rattle.mapset.specs.declared.Kind.the-variants.{Tec, Rms, Height}
 use Rattle.mapset.specs.declared.Header.{Header}
 use Rattle.mapset.specs.Grid.{columns}
-use Rattle.mapset.specs.MapSet.{Block, TecMap, OtherMap, Maps}
-use Rattle.layout.specs.Text.{Printable}
+use Rattle.mapset.specs.MapSet.{Maps}
 use Rattle.layout.specs.Records.{Vals, Cells, ValueRows, v-last, v-full}
 use Rattle.layout.specs.Labels.{Label, version, description, comment, system, exponent, aux-start, aux-end, header-end, epoch, block, file-end, head, start, end, layout, Rec}
 use Rattle.layout.specs.Layout.{Force, under, with-epoch, last-of, with-last, one-more, one-tec, Other, Left, nothing, maps, early, blocks, Loose, Exponent, Date, DateOf, InTime, per-map, Opens, Writes, w-end, w-comment, w-exponent, w-tec, w-epoch, w-other, w-again, w-block, w-close, w-file}
-use Rattle.reading.specs.Feed.{Fault, fault, Why, on-line, Feed, over, bad, row}
+use Rattle.reading.specs.Feed.{Fault, on-line, Feed, over, bad, row}
 use Rattle.reading.specs.Fields.{label, fields, cells}
-use Rattle.reading.specs.Maps.{Todo, Next, Step, goes, stays, date, on-date, exponent?, kind?, true?, in-time?, height?, loose, on-comment, on-exponent, start-tec, start-other, start-map, on-start, end-map, on-end, epoch-tec, settled, epoch-other, on-epoch, one-less, open-block, on-block, on-file, taken, step, short, finish, on-row, run}
+use Rattle.reading.specs.Maps.{Todo, Next, Step, goes, stays, date, on-date, loose, on-comment, on-exponent, start-tec, start-other, start-map, on-start, end-map, on-end, epoch-tec, settled, epoch-other, on-epoch, open-block, on-block, on-file, taken, step, short, finish, on-row, run}
 use Rattle.reading.specs.LineLaws.{Carries, c-over, c-row, Sized}
-use Rattle.reading.specs.RecordLaws.{Known, known-maps, rec-label, rec-fields, row-rec, cells-of, cells-yields}
-use Rattle.reading.specs.declared.Open.{Open}
+use Rattle.reading.specs.RecordLaws.{known-maps, rec-label, rec-fields, row-rec, cells-of, cells-yields}
 use Rattle.reading.specs.declared.Place.{Place}
 use Rattle.reading.specs.declared.Place.the-variants.{Ended, Between, Early, Inside}
 

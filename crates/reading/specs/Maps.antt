@@ -1,7 +1,7 @@
 -- 01, 'Maps', read row by row. On one row the order is 4, 5, 6, 9, 8, 7: each test is a `need`, and they stand in that order.
 use mathlib.Core.Path.{_≡_, refl}
 use mathlib.Core.Bool.{Bool, true, false}
-use Prim.Native.Nat.{ℕ, zero, suc, _+_, _-_, _*_, _/_, _%_, _≤_, _<_}
+use Prim.Native.Nat.{ℕ, zero, suc, _+_, _-_, _/_, _%_}
 use mathlib.Core.List.{List, [], _∷_, _++_}
 use native.Mathlib.Omega.{arith}
 use native.Mathlib.Decide.{ℕ-discrete, decLe, decLt}
@@ -18,7 +18,7 @@ use Rattle.mapset.specs.declared.Kind.the-variants.{Tec, Rms, Height}
 use Rattle.mapset.specs.declared.Header.{Header}
 use Rattle.mapset.specs.Grid.{rows, columns}
 use Rattle.mapset.specs.Decisions.{follows?}
-use Rattle.mapset.specs.MapSet.{Block, TecMap, OtherMap, Maps}
+use Rattle.mapset.specs.MapSet.{Block, TecMap, Maps}
 use Rattle.layout.specs.Labels.{Label, version, description, comment, system, exponent, aux-start, aux-end, header-end, epoch, block, file-end, head, start, end}
 use Rattle.layout.specs.Layout.{Force, under, with-epoch, last-of, with-last, one-more, one-tec, Exponent, Date, After, InTime, per-map, node, Height-of}
 use Rattle.reading.specs.Feed.{Fault, fault, Why, why, on-line, Feed, over, bad, row}

@@ -3,28 +3,28 @@ use mathlib.Core.Path.{_≡_, refl, sym, ap, _∙_}
 use Prim.Native.Nat.{ℕ, zero, suc, _+_, _-_, _*_, _≤_, _<_}
 use native.Mathlib.Omega.{arith}
 use native.Mathlib.Decide.{ℕ-discrete, decLt}
-use mathlib.Core.Option.{Option, none, some}
+use mathlib.Core.Option.{some}
 use mathlib.Core.List.{List, [], _∷_, _++_}
-use lib.ListN.{length, replicate, take, drop, getD, length-append, length-replicate, length-drop, take-append-drop}
+use lib.ListN.{length, replicate, take, drop, length-append, length-replicate, length-drop, take-append-drop}
 use lib.Seq.{take-at, drop-at, length-take-le}
 use lib.IntN.{ℤ}
-use Rattle.kit.specs.Answer.{Answer, ok, refused, need, amap, pick, same, sames, all-dec, ×-dec, All, need-yes, pick-elim, Yields, y-ok, y-no, yields, need-yields, amap-yields, yields-map}
+use Rattle.kit.specs.Answer.{Answer, ok, amap, pick, same, sames, all-dec, ×-dec, All, need-yes, pick-elim, Yields, y-ok, y-no, yields, need-yields, amap-yields, yields-map}
 use Rattle.kit.specs.Lists.{below, all-front, all-behind}
 use Rattle.kit.specs.Truth.{decided}
-use Rattle.fields.specs.Form as form
-use Rattle.fields.specs.Form.{Form, Spells}
-use Rattle.fields.specs.Read.{readField}
-use Rattle.fields.specs.Columns.{Blank}
-use Rattle.fields.specs.FieldLaws.{read-made, made-read, spells-width}
-use Rattle.fields.specs.declared.Field.{Field}
-use Rattle.fields.specs.declared.Field.the-variants.{Number, Bad}
+use Rattle.forms.specs.Form as form
+use Rattle.forms.specs.Form.{Form, Spells}
+use Rattle.forms.specs.Read.{readField}
+use Rattle.forms.specs.Columns.{Blank}
+use Rattle.forms.specs.FieldLaws.{read-made, made-read, spells-width}
+use Rattle.forms.specs.declared.Field.{Field}
+use Rattle.forms.specs.declared.Field.the-variants.{Number, Bad}
 use Rattle.mapset.specs.declared.Kind.{Kind}
 use Rattle.mapset.specs.declared.Kind.the-variants.{Tec, Rms, Height}
 use Rattle.mapset.specs.Header.{Content, count, tenths, epoch as an-epoch, axis, program, mapping, observables, system as a-system, Written}
 use Rattle.layout.specs.Text.{Printable}
 use Rattle.layout.specs.Records.{Item, I, F, X, A, U, Vals, Fields, f-end, f-int, f-tenths, f-blank, f-text, f-unread, Cells, c-blank, c-value}
 use Rattle.layout.specs.Labels.{Label, version, description, comment, system, exponent, aux-start, aux-end, header-end, epoch, block, file-end, head, start, end, name, items, content, layout, labels, Rec, rec}
-use Rattle.reading.specs.Feed.{Fault, fault}
+use Rattle.reading.specs.Feed.{Fault}
 use Rattle.reading.specs.Fields.{lookup, label, number, blank, scan, fields, cells}
 
 -- ---- blanks

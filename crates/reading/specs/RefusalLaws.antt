@@ -4,18 +4,18 @@ use mathlib.Core.Logic.{_⊎_, inl, inr, ⊎-elim}
 use Prim.Native.Nat.{ℕ, zero, suc, _+_, _≤_, _<_}
 use native.Mathlib.Omega.{arith}
 use native.Mathlib.Decide.{ℕ-discrete, decLe}
-use mathlib.Core.List.{List, [], _∷_, _++_}
+use mathlib.Core.List.{List, [], _∷_}
 use mathlib.Core.Bool.{Bool, true, false, _&&_}
 use lib.IntN.{ℤ}
 use lib.Dec.{T, leb, leb→le}
 use lib.ListN.{length, take, drop, getD}
-use Rattle.kit.specs.Answer.{Answer, ok, refused, bind, amap, pick, all-dec, All, pick-yes, pick-no, Yields, y-ok, y-no, yields, amap-yields}
+use Rattle.kit.specs.Answer.{Answer, ok, refused, bind, amap, all-dec, All, pick-yes, pick-no, Yields, y-ok, y-no, yields, amap-yields}
 use Rattle.kit.specs.Range.{Within, within?}
-use Rattle.fields.specs.Columns.{Blank}
+use Rattle.forms.specs.Columns.{Blank}
 use Rattle.mapset.specs.declared.Header.{Header}
 use Rattle.layout.specs.Text.{Printable, Clean, pad}
 use Rattle.layout.specs.Layout.{Force, Slots, Mode}
-use Rattle.reading.specs.Feed.{Fault, Why, why, on-line, Feed, over, bad, row, bad-column, feed}
+use Rattle.reading.specs.Feed.{Fault, Why, why, on-line, over, bad, row, bad-column, feed}
 use Rattle.reading.specs.Maps.{short}
 use Rattle.reading.specs.Head.{Turn, more, done}
 use Rattle.reading.specs.LineLaws.{feed-blank, feed-row}

@@ -1,22 +1,22 @@
 -- Refusals, in 01's words; no state of a reader stands here. The lines of a text t are `split t` (`LineLaws.ended`: with their ends they are t).
 use mathlib.Core.Path.{_≡_, refl, sym, ap, _∙_}
 use mathlib.Core.Logic.{_⊎_, inl, inr, ⊎-elim}
-use Prim.Native.Nat.{ℕ, zero, suc, _+_, _≤_, _<_}
+use Prim.Native.Nat.{ℕ, suc, _+_, _≤_, _<_}
 use native.Mathlib.Omega.{arith}
 use mathlib.Core.List.{List, [], _∷_, _++_}
 use lib.ListN.{length, take, drop, getD}
 use lib.Seq.{drop-cons, take-length}
 use native.Mathlib.Decide.{decLe}
-use Rattle.kit.specs.Answer.{Answer, ok, refused, All, pick, all-dec, pick-yes, pick-no}
+use Rattle.kit.specs.Answer.{Answer, ok, refused, All, all-dec, pick-yes, pick-no}
 use Rattle.kit.specs.Range.{Within, within?}
-use Rattle.fields.specs.Columns.{Blank}
+use Rattle.forms.specs.Columns.{Blank}
 use Rattle.mapset.specs.MapSet.{MapSet}
-use Rattle.layout.specs.Text.{Printable, Clean}
+use Rattle.layout.specs.Text.{Printable}
 use Rattle.reading.specs.Feed.{Why, why, split, bad, bad-column, feed}
 use Rattle.reading.specs.Maps.{short}
 use Rattle.reading.specs.Read.{begin, read}
-use Rattle.reading.specs.Machine.{State, first, from, from-bad}
-use Rattle.reading.specs.RefusalLaws.{Sort, long, dirty, blank, shown, sort, Cause, too-long, bad-byte, by-row, Told, Cut, Refusal, refusal, reaches, not-short}
+use Rattle.reading.specs.Machine.{first, from, from-bad}
+use Rattle.reading.specs.RefusalLaws.{Cause, too-long, bad-byte, by-row, Refusal, refusal, reaches}
 
 -- a text of these lines
 unfoldable pub reads : List (List ℕ) → Answer Why MapSet

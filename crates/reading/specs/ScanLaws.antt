@@ -9,12 +9,12 @@ use lib.ListN.{length, take, drop}
 use lib.Seq.{drop-drop, take-take, take-nil}
 use borrow.Author.Tests.{eq-eqb, ne-eqb}
 use Rattle.kit.specs.Answer.{Answer, ok, refused, need, need-yes, need-no, amap, pick-yes, pick-no, all-dec}
-use Rattle.fields.specs.Form as form
-use Rattle.fields.specs.Read.{readField}
-use Rattle.fields.specs.Columns.{columns, further, firstNotBlank}
-use Rattle.fields.specs.ColumnLaws.{columns-padded}
-use Rattle.fields.specs.declared.Found.{Found}
-use Rattle.fields.specs.declared.Found.the-variants.{At, Nowhere}
+use Rattle.forms.specs.Form as form
+use Rattle.forms.specs.Read.{readField}
+use Rattle.forms.specs.Columns.{columns, further, firstNotBlank}
+use Rattle.forms.specs.ColumnLaws.{columns-padded}
+use Rattle.forms.specs.declared.Found.{Found}
+use Rattle.forms.specs.declared.Found.the-variants.{At, Nowhere}
 use Rattle.layout.specs.Text.{pad}
 use Rattle.layout.specs.Records.{Item, I, F, X, A, U, Vals}
 use Rattle.reading.specs.Feed.{Fault, fault}

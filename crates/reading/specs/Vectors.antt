@@ -9,9 +9,10 @@ use native.Mathlib.Decide.{ℕ-discrete, decLe, decLt}
 use Rattle.kit.specs.Answer.{ok, refused, need, bind, amap, get, pick, ×-dec, ⊎-dec, ¬-dec, all-dec, same, sames}
 use Rattle.kit.specs.Integer.{int?, le?, lt?, between?}
 use Rattle.kit.specs.Range.{within?, natural?}
-use Rattle.calendar.specs.Calendar.{dated, second, isLeap, monthDays, yearDays}
-use Rattle.calendar.specs.Sums.{sum}
-use Rattle.fields.specs.Read.{readField, numberOf, formed?}
+use Rattle.days.specs.Years.{isLeap, monthDays, yearDays}
+use Rattle.calendar.specs.Calendar.{dated, second}
+use Rattle.days.specs.Sums.{sum}
+use Rattle.forms.specs.Read.{readField, numberOf, formed?}
 use Rattle.mapset.specs.Decisions.{×₃-dec, ×₄-dec, end?, step?, multiple?, together?, limits?, dimension?, follows?}
 use Rattle.mapset.specs.declared.System.{System}
 use Rattle.mapset.specs.MapSet.{Block, MapSet}

@@ -16,19 +16,19 @@ use Rattle.kit.specs.Answer.{Answer, ok, refused, need, need-yes, need-no, bind
 use Rattle.kit.specs.Range.{natural?}
 use Rattle.kit.specs.Truth.{truth, fails, tells}
 use Rattle.kit.specs.Parts.{lt-true, lt-false}
-use Rattle.fields.specs.Form as form
-use Rattle.fields.specs.Read.{readField}
-use Rattle.fields.specs.Columns.{columns, further, firstNotBlank}
-use Rattle.fields.specs.ColumnLaws.{columns-padded}
-use Rattle.fields.specs.Rows.{threeAt, sixOf, numberOr}
-use Rattle.fields.specs.declared.Field.{Field}
-use Rattle.fields.specs.declared.Field.the-variants.{Number, Bad}
-use Rattle.fields.specs.declared.Found.{Found}
-use Rattle.fields.specs.declared.Found.the-variants.{At, Nowhere}
-use Rattle.fields.specs.declared.Triple.{Triple}
-use Rattle.fields.specs.declared.Triple.the-variants.{Three, Amiss}
-use Rattle.fields.specs.declared.Row.{Row}
-use Rattle.fields.specs.declared.Row.the-variants.{Six, Wrong}
+use Rattle.forms.specs.Form as form
+use Rattle.forms.specs.Read.{readField}
+use Rattle.forms.specs.Columns.{columns, further, firstNotBlank}
+use Rattle.forms.specs.ColumnLaws.{columns-padded}
+use Rattle.forms.specs.Rows.{threeAt, sixOf, numberOr}
+use Rattle.forms.specs.declared.Field.{Field}
+use Rattle.forms.specs.declared.Field.the-variants.{Number, Bad}
+use Rattle.forms.specs.declared.Found.{Found}
+use Rattle.forms.specs.declared.Found.the-variants.{At, Nowhere}
+use Rattle.forms.specs.declared.Triple.{Triple}
+use Rattle.forms.specs.declared.Triple.the-variants.{Three, Amiss}
+use Rattle.forms.specs.declared.Row.{Row}
+use Rattle.forms.specs.declared.Row.the-variants.{Six, Wrong}
 use Rattle.mapset.specs.Grid.{Line}
 use Rattle.mapset.specs.declared.Axis.{Axis}
 use Rattle.mapset.specs.declared.axes.Judged.the-variants as J

@@ -5,12 +5,12 @@ use lib.ListN.{take}
 use lib.IntN.{ℤ, pos, natAbs}
 use Rattle.kit.specs.Answer.{Answer, ok, refused, need, bind, amap}
 use Rattle.kit.specs.Range.{natural?}
-use Rattle.fields.specs.Form as form
-use Rattle.fields.specs.Read.{readField}
-use Rattle.fields.specs.Columns.{columns, further, firstNotBlank}
-use Rattle.fields.specs.declared.Field.{Field}
-use Rattle.fields.specs.declared.Found.{Found}
-use Rattle.fields.specs.declared.Found.the-variants.{At, Nowhere}
+use Rattle.forms.specs.Form as form
+use Rattle.forms.specs.Read.{readField}
+use Rattle.forms.specs.Columns.{columns, further, firstNotBlank}
+use Rattle.forms.specs.declared.Field.{Field}
+use Rattle.forms.specs.declared.Found.{Found}
+use Rattle.forms.specs.declared.Found.the-variants.{At, Nowhere}
 use Rattle.mapset.specs.declared.Axis.{Axis}
 use Rattle.mapset.specs.declared.axes.Judged.{Judged}
 use Rattle.mapset.specs.declared.axes.Judged.the-variants as J

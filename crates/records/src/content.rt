@@ -1,6 +1,6 @@
 // The records of a header by themselves: what their columns 1 to 60 say.
 ghost use mathlib.Core.Path.{_≡_};
-ghost use Prim.Native.Nat.{ℕ, _≤_, _<_};
+ghost use Prim.Native.Nat.{_≤_, _<_};
 ghost use lib.ListN.{length};
 ghost use Rattle.kit.specs.Truth.{truth};
 ghost use Rattle.kit.specs.Range.{natural?};
@@ -17,10 +17,10 @@ use super::Three;
 use super::Two;
 use super::Value;
 use calendar::Taken;
-use fields::Field;
-use fields::Found;
-use fields::Row;
-use fields::Triple;
+use forms::Field;
+use forms::Found;
+use forms::Row;
+use forms::Triple;
 use mapset::Axis;
 use mapset::axes::Judged;
 use mapset::axes::Line;

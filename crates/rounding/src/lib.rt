@@ -1,6 +1,6 @@
 // Whole-number arithmetic with a sign: a weighted sum, and its one rounding.
 ghost use mathlib.Core.Path.{_≡_};
-ghost use Prim.Native.Nat.{ℕ, _+_, _*_, _<_, _≤_, _^_};
+ghost use Prim.Native.Nat.{_+_, _*_, _<_, _≤_, _^_};
 ghost use lib.IntN.{ℤ, pos, natAbs, _+ℤ_, _*ℤ_};
 ghost use Rattle.rounding.specs.Round.{roundAbs, rounded};
 

@@ -1,26 +1,31 @@
--- The rows of a block: EXPONENT or none, and the values 16 by 16. The labels of map records by their place.
+-- The rows of a block: EXPONENT or none, and the values 16 by 16.
 -- ---- EXPONENT
 use mathlib.Core.Path.{_≡_, refl, sym, ap, _∙_}
 use mathlib.Core.Bool.{true, false}
 use mathlib.Core.List.{List, [], _∷_}
-use Prim.Native.Nat.{ℕ, zero, suc, _+_, _-_, _/_, _%_, _≤_, _<_, _^_}
-use native.Mathlib.Nat.{mod-le, div-le-self}
+use Prim.Native.Nat.{ℕ, zero, suc, _+_, _-_, _≤_, _<_}
 use native.Mathlib.Omega.{arith}
-use native.Mathlib.Decide.{decLe}
+use native.Mathlib.Decide.{ℕ-discrete, decLe}
+use lib.Dec.{eqb}
 use lib.IntN.{ℤ}
 use lib.ListN.{length, take, drop, length-drop}
 use lib.Seq.{drop-drop, take-all}
+use mir.Syntax.{Width}
+use mir.Val.{SFits, ofZ}
+use mir.Facts.{toZ-ofZ}
 use Rattle.kit.specs.Answer.{pick, pick-yes, pick-no}
 use Rattle.kit.specs.Integer.{int?}
-use Rattle.kit.specs.Truth.{truth, truth-true, truth-false}
-use Rattle.mapset.specs.declared.Grid.{Grid}
-use Rattle.mapset.specs.Grid.{rows}
-use Rattle.layout.specs.Labels.{block}
-use Rattle.layout.specs.Layout.{node}
+use Rattle.kit.specs.Parts.{from-bits}
+use Rattle.kit.specs.Truth.{truth, truth-true, truth-false, truth-same, eq-tells}
 use Rattle.layout.specs.Names.{names}
 use Rattle.writer.specs.Canon.{row-of, value-row, value-rows, exponent-rows}
-use Rattle.writer.specs.RoomLaws.{Wide}
-use Rattle.rows.specs.Rows.{row-at, whole, opening-of, Placed}
+use Rattle.rowtext.specs.Rows.{row-at, whole}
+
+-- equal bits, equal numbers
+pub same-bits : (w : Width) (x y : ℤ) → SFits w x → SFits w y → eqb (ofZ w x) (ofZ w y) ≡ truth (int? x y)
+same-bits w x y f g =
+    eq-tells (ofZ w x) (ofZ w y)
+    ∙ truth-same (ℕ-discrete (ofZ w x) (ofZ w y)) (int? x y) (λ e. from-bits w x (ofZ w y) f e ∙ toZ-ofZ g) (λ e. ap (ofZ w) e)
 
 pub exponent-none : (k e : ℤ) → truth (int? k e) ≡ true → exponent-rows k e ≡ []
 exponent-none k e t = pick-yes (int? k e) [] _ (truth-true (int? k e) t)
@@ -59,23 +64,6 @@ values-more zs h = by (length zs) refl
     by (suc n) e =
         unfold value-rows in pick-no (decLe (length zs) 16) (value-row zs ∷ []) (value-row (take 16 zs) ∷ value-rows n (drop 16 zs)) (λ k. omega arith)
         ∙ ap (λ rs. value-row (take 16 zs) ∷ rs) (enough n (length (drop 16 zs)) (drop 16 zs) (rw length-drop (omega arith)) (omega arith))
-
--- ---- the opening
-
-module _ (g : Grid) (d n : ℕ) (e : n ≡ rows g) where
-  pub latitude-placed : Placed g d → (d % n < 2 ^ 31) × Wide (node (g .latitudes) (d % n))
-  latitude-placed p = rw e (omega (arith, mod-le d (rows g), p .few), p .latitude)
-
-  pub height-placed : Placed g d → (d / n < 2 ^ 31) × Wide (node (g .heights) (d / n))
-  height-placed p = rw e (omega (arith, div-le-self d (rows g), p .few), p .height)
-
-  pub opening-filled : (r : List ℕ) (x y z u v : ℤ) → r ≡ row-of block (x, (y, (z, (u, (v, tt)))))
-      → x ≡ node (g .latitudes) (d % n) → y ≡ g .longitudes .first → z ≡ g .longitudes .last → u ≡ g .longitudes .step → v ≡ node (g .heights) (d / n)
-      → r ≡ row-of block (opening-of g d)
-  opening-filled r x y z u v q a b c s h =
-      let k : x ≡ node (g .latitudes) (d % rows g) = rw e at a in
-      let l : v ≡ node (g .heights) (d / rows g) = rw e at h in
-      q ∙ (λ i. row-of block (k i, (b i, (c i, (s i, (l i, tt))))))
 
 -- ---- the values after the first i
 

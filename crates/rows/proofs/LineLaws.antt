@@ -7,10 +7,10 @@ use native.Mathlib.Numerals.{add-one, sub-one}
 use native.Mathlib.Omega.{arith}
 use native.Mathlib.Decide.{ℕ-discrete}
 use lib.ListN.{length, take, drop, set, getD, length-append, length-drop}
-use lib.Seq.{take-suc, take-suc-set, drop-cons, drop-drop, set-at, length-take-le}
+use lib.Seq.{take-suc, drop-cons, drop-drop, set-at, length-take-le}
 use Rattle.kit.specs.Answer.{pick, pick-yes, pick-no, all-dec}
 use Rattle.kit.specs.Lists.{all-append, all-front, all-behind}
-use Rattle.fields.specs.Columns.{Blank}
+use Rattle.forms.specs.Columns.{Blank}
 use Rattle.writer.specs.Canon.{trimmed, lines-of}
 use Rattle.rows.specs.Put.{Put}
 
@@ -44,14 +44,6 @@ module _ (row : List ℕ) where
   ends-here zero p h e = absurd (omega arith)
   ends-here (suc n) p h e =
       rw (take-suc row n 0 h) (shown-end (take n row) (getD row n 0) (λ k. e (rw sub-one k)))
-
--- ---- bytes copied
-
-pub copy-next : (from to : List ℕ) (i : ℕ) → i < length to → i < length from → take i to ≡ take i from → take (i + 1) (set to i (getD from i 0)) ≡ take (i + 1) from
-copy-next from to i h k e = rw (add-one, take-suc-set to i (getD from i 0) h, take-suc from i 0 k, e)
-
-pub part-put : (line text q : List ℕ) (a n : ℕ) → q ≡ text → take a line ++ (q ++ drop (a + n - a) (drop a line)) ≡ take a line ++ (text ++ drop (a + n) line)
-part-put line text q a n e = let d : a + n - a ≡ n = omega arith in rw (e, d, drop-drop)
 
 -- ---- the line
 

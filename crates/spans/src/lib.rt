@@ -1,6 +1,5 @@
 // Which maps a second falls between.
-ghost use mathlib.Core.Path.{_≡_};
-ghost use Prim.Native.Nat.{ℕ, _+_, _≤_, _<_};
+ghost use Prim.Native.Nat.{_+_, _≤_, _<_};
 ghost use lib.ListN.{length};
 ghost use Rattle.spans.specs.Time.{epoch, Uses};
 ghost use Rattle.spans.specs.Spans.{Regular, Before, Spanned};

@@ -1,6 +1,6 @@
 // The stores of the second scan, each of one area, and what stands there before them.
 ghost use mathlib.Core.Path.{_≡_};
-ghost use Prim.Native.Nat.{ℕ, _+_, _-_, _*_, _<_, _≤_};
+ghost use Prim.Native.Nat.{_+_, _-_, _*_, _<_, _≤_};
 ghost use lib.ListN.{length, set, getD, replicate};
 ghost use lib.IntN.{pos, negsuc};
 ghost use Rattle.areas.specs.Stores.{first-of, before, with-mark, fill};

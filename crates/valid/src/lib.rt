@@ -17,7 +17,6 @@ use mapset::Header;
 use mapset::Kind;
 use mapset::Texts;
 use mapset::axes;
-use mapset::soundness;
 
 // Whether each value is from low to high.
 fn all_between(low: i32, high: i32, values: &[i32]) -> bool

@@ -4,7 +4,7 @@ use Prim.Native.Nat.{ℕ}
 use lib.IntN.{ℤ, pos}
 use Rattle.kit.specs.Answer.{Answer, ok, refused, need, get, same}
 use Rattle.kit.specs.Integer.{int?}
-use Rattle.fields.specs.Columns.{columns}
+use Rattle.forms.specs.Columns.{columns}
 use Rattle.layout.specs.Labels.{codes}
 use Rattle.reading.specs.Feed.{Fault, fault}
 use Rattle.reading.specs.Head.{place}

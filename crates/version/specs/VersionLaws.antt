@@ -12,14 +12,14 @@ use Rattle.kit.specs.Answer.{Answer, ok, refused, need, need-yes, need-no, bind
 use Rattle.kit.specs.Integer.{int?, between?}
 use Rattle.kit.specs.Parts.{up, dn, eq-parts, parts-le, le-parts}
 use Rattle.kit.specs.Truth.{truth, truth-same}
-use Rattle.fields.specs.Form as form
-use Rattle.fields.specs.Read.{readField}
-use Rattle.fields.specs.Columns.{columns}
-use Rattle.fields.specs.ColumnLaws.{columns-first}
-use Rattle.fields.specs.declared.Field.{Field}
-use Rattle.fields.specs.declared.Field.the-variants.{Number, Bad}
-use Rattle.fields.specs.declared.Found.{Found}
-use Rattle.fields.specs.declared.Found.the-variants.{At, Nowhere}
+use Rattle.forms.specs.Form as form
+use Rattle.forms.specs.Read.{readField}
+use Rattle.forms.specs.Columns.{columns}
+use Rattle.forms.specs.ColumnLaws.{columns-first}
+use Rattle.forms.specs.declared.Field.{Field}
+use Rattle.forms.specs.declared.Field.the-variants.{Number, Bad}
+use Rattle.forms.specs.declared.Found.{Found}
+use Rattle.forms.specs.declared.Found.the-variants.{At, Nowhere}
 use Rattle.layout.specs.Text.{pad}
 use Rattle.layout.specs.Labels.{version, name, layout, codes}
 use Rattle.layout.specs.Names.{holds, place-of, names, number-of}

@@ -1,9 +1,7 @@
 -- 01, 'Canonical text', as a definition on map sets: rows of 80 columns, and the text of lines that end at their last non-blank byte.
-use mathlib.Core.Path.{_≡_}
-use mathlib.Core.Bool.{Bool, true, false}
 use mathlib.Core.Option.{Option, none, some}
 use mathlib.Core.List.{List, [], _∷_, _++_}
-use Prim.Native.Nat.{ℕ, zero, suc, _+_, _-_, _*_, _/_, _%_, _≤_, _<_}
+use Prim.Native.Nat.{ℕ, zero, suc, _+_, _-_, _*_, _/_, _%_, _<_}
 use native.Mathlib.Decide.{ℕ-discrete, decLe, decLt}
 use lib.IntN.{ℤ, pos, negsuc}
 use lib.ListN.{length, getD, set, take, drop, replicate}
@@ -12,8 +10,8 @@ use Rattle.kit.specs.Integer.{int?}
 use Rattle.calendar.specs.Calendar.{end as after-2199}
 use Rattle.calendar.specs.DateLaws.{exactly-one}
 use Rattle.calendar.specs.declared.Epoch.{Epoch}
-use Rattle.fields.specs.Form as form
-use Rattle.fields.specs.Show.{showField}
+use Rattle.forms.specs.Form as form
+use Rattle.forms.specs.Show.{showField}
 use Rattle.mapset.specs.declared.Kind.{Kind}
 use Rattle.mapset.specs.declared.Kind.the-variants.{Tec, Rms, Height}
 use Rattle.mapset.specs.declared.Header.{Header}

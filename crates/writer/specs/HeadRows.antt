@@ -4,23 +4,23 @@ use mathlib.Core.Option.{Option, none, some}
 use mathlib.Core.List.{List, [], _∷_, _++_}
 use Prim.Native.Nat.{ℕ, zero, suc, _+_, _-_, _≤_, _<_}
 use native.Mathlib.Omega.{arith}
-use native.Mathlib.Decide.{ℕ-discrete, decLe, decLt}
-use lib.IntN.{ℤ, pos, negsuc, natAbs}
+use native.Mathlib.Decide.{ℕ-discrete, decLt}
+use lib.IntN.{ℤ}
 use lib.ListN.{length, getD, set, replicate, length-set}
 use lib.Seq.{getD-set-same, getD-set-other, set-getD}
-use Rattle.kit.specs.Answer.{All, pick, pick-elim, all-dec, ×-dec}
+use Rattle.kit.specs.Answer.{All, pick-elim}
 use Rattle.kit.specs.Lists.{below}
 use Rattle.kit.specs.Range.{Within}
-use Rattle.calendar.specs.Calendar.{Dated, DateAt, monthDays, row, end as after-2199}
+use Rattle.days.specs.Years.{row}
+use Rattle.calendar.specs.Calendar.{DateAt, end as after-2199}
 use Rattle.calendar.specs.DateLaws.{exactly-one}
-use Rattle.calendar.specs.YearLaws.{month-le}
+use Rattle.days.specs.YearLaws.{month-le}
 use Rattle.calendar.specs.declared.Epoch.{Epoch}
-use Rattle.mapset.specs.Grid.{Line}
-use Rattle.mapset.specs.Header.{Content, count, tenths, epoch as an-epoch, axis, program, mapping, observables, system as a-system, contents, Said, number, along, words, counts, Accepts, a-count, a-tenths, a-epoch, a-axis, a-program, a-mapping, a-observables, a-system as accepts-system, says, Stand, stand-end, stand-some, stand-none}
+use Rattle.mapset.specs.Header.{Content, count, tenths, epoch as an-epoch, axis, program, mapping, observables, system as a-system, contents, Said, counts, Accepts, a-count, a-tenths, a-epoch, a-axis, a-program, a-mapping, a-observables, a-system as accepts-system, says, Stand, stand-end, stand-some, stand-none}
 use Rattle.mapset.specs.MapSet.{MapSet}
 use Rattle.layout.specs.Records.{Vals}
-use Rattle.layout.specs.Labels.{Label, head, system, items, content, layout, letters, Rec}
-use Rattle.layout.specs.Layout.{Date, DateOf, Slots, systems, Shows, s-count, s-tenths, s-epoch, s-axis, s-program, s-mapping, s-observables, Mode, plain, Heads, h-field, h-system}
+use Rattle.layout.specs.Labels.{head, system, items, content, layout, letters}
+use Rattle.layout.specs.Layout.{Slots, systems, Shows, s-count, s-tenths, s-epoch, s-axis, s-program, s-mapping, s-observables, plain, Heads, h-field, h-system}
 use Rattle.reading.specs.RecordLaws.{known-head, known-heads}
 use Rattle.reading.specs.SlotLaws.{Fit, fit, fit-no, FitAll, system-content}
 use Rattle.reading.specs.HeadLaws.{no-system}

@@ -1,31 +1,29 @@
 -- Every map set that obeys the rules makes its canonical text.
-use mathlib.Core.Path.{_≡_, refl, sym, ap, subst, _∙_}
-use mathlib.Core.Logic.{_↔_}
+use mathlib.Core.Path.{_≡_, refl, ap, _∙_}
 use mathlib.Core.Option.{Option, none, some}
 use mathlib.Core.List.{List, [], _∷_, _++_}
 use Prim.Native.Nat.{ℕ, zero, suc, _≤_, _<_}
 use native.Mathlib.Omega.{arith}
 use native.Mathlib.Decide.{ℕ-discrete, decLe, decLt}
-use lib.IntN.{ℤ, pos, negsuc}
-use lib.ListN.{length, getD, replicate, length-append, length-replicate}
-use Rattle.kit.specs.Answer.{Answer, ok, All, pick, same, sames, ×-dec, all-dec}
+use lib.IntN.{pos, negsuc}
+use lib.ListN.{length, getD, replicate}
+use Rattle.kit.specs.Answer.{ok, All, pick, same, sames, ×-dec, all-dec}
 use Rattle.kit.specs.Lists.{all-append, all-at, below}
 use Rattle.kit.specs.Truth.{decided}
 use Rattle.kit.specs.Range.{Within, within?}
-use Rattle.fields.specs.Form as form
-use Rattle.fields.specs.Show.{showField}
-use Rattle.fields.specs.ShowLaws.{show-spells}
+use Rattle.forms.specs.Form as form
+use Rattle.forms.specs.Show.{showField}
+use Rattle.forms.specs.ShowLaws.{show-spells}
 use Rattle.calendar.specs.Calendar.{end as after-2199}
-use Rattle.mapset.specs.declared.Kind.the-variants.{Tec, Rms, Height}
-use Rattle.mapset.specs.declared.Header.{Header}
-use Rattle.mapset.specs.Header.{Content, count, epoch as an-epoch, axis, contents, Said, number, along, Accepts, a-count, a-epoch, a-axis, says, HeaderRules}
+use Rattle.mapset.specs.declared.Kind.the-variants.{Rms, Height}
+use Rattle.mapset.specs.Header.{count, epoch as an-epoch, axis, Said, number, along, a-count, a-epoch, a-axis, says}
 use Rattle.mapset.specs.declared.Axis.{Axis}
 use Rattle.mapset.specs.Grid.{Line, AxisRules}
-use Rattle.mapset.specs.MapSet.{TecMap, OtherMap, Maps, MapSet}
+use Rattle.mapset.specs.MapSet.{TecMap, OtherMap, MapSet}
 use Rattle.layout.specs.Text.{Printable}
 use Rattle.layout.specs.Records.{Fields, f-end, f-tenths, f-blank, f-text, f-unread}
 use Rattle.layout.specs.Labels.{version, header-end, file-end, layout, bytes, name, codes, Rec, rec}
-use Rattle.layout.specs.Layout.{Force, one-more, one-tec, maps, Writes, w-end, w-file, plain, Heads, h-end, Rows, rows-of, Makes, makes}
+use Rattle.layout.specs.Layout.{Force, one-more, one-tec, maps, w-end, w-file, plain, Heads, h-end, rows-of, Makes, makes}
 use Rattle.reading.specs.Fields.{lookup}
 use Rattle.reading.specs.Read.{read}
 use Rattle.reading.specs.Exact.{read-made}
@@ -33,10 +31,10 @@ use Rattle.reading.specs.LineLaws.{spaces}
 use Rattle.reading.specs.RecordLaws.{Known, known-heads, known-maps}
 use Rattle.reading.specs.SlotLaws.{Fit, fit, FitAll}
 use Rattle.areas.specs.Formed.{Formed}
-use Rattle.writer.specs.Canon.{row-of, version-row, order, head-rows, other-rows, tec-rows, map-rows, canon-rows, trimmed, lines-of, canon}
+use Rattle.writer.specs.Canon.{row-of, version-row, order, head-rows, other-rows, map-rows, canon-rows, canon}
 use Rattle.writer.specs.RowLaws.{GoodRow, spells-print, rec-good, rec-length, name-print, row-is, row-good}
 use Rattle.writer.specs.TextLaws.{laid-out, ended-by-lf}
-use Rattle.writer.specs.HeadRows.{heads-put, says-fit, all-clear}
+use Rattle.writer.specs.HeadRows.{heads-put, says-fit}
 use Rattle.writer.specs.MapRows.{Axes, Wrote, with-others, with-tecs, others-put, tecs-put}
 
 -- ---- the maps

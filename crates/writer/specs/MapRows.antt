@@ -1,27 +1,26 @@
 -- The maps of canonical text are written by the rules.
-use mathlib.Core.Path.{_≡_, refl, sym, ap, subst, _∙_}
+use mathlib.Core.Path.{_≡_, refl, ap, _∙_}
 use mathlib.Core.Bool.{Bool, true, false}
-use mathlib.Core.Logic.{_⊎_, inl, inr, ⊎-elim}
-use mathlib.Core.List.{List, [], _∷_, _++_, map, append-assoc}
-use Prim.Native.Nat.{ℕ, zero, suc, _+_, _-_, _*_, _/_, _%_, _≤_, _<_}
+use mathlib.Core.Logic.{inr}
+use mathlib.Core.List.{List, [], _∷_, _++_, map}
+use Prim.Native.Nat.{ℕ, suc, _+_, _-_, _/_, _%_, _≤_, _<_}
 use native.Mathlib.Omega.{arith}
 use native.Mathlib.Nat.{mod-lt, div-lt-iff-lt-mul}
-use native.Mathlib.Decide.{decLe}
-use lib.IntN.{ℤ, pos, negsuc}
-use lib.ListN.{length, getD, length-append}
-use Rattle.kit.specs.Answer.{All, pick, pick-elim}
+use lib.IntN.{ℤ, pos}
+use lib.ListN.{length, length-append}
+use Rattle.kit.specs.Answer.{All, pick-elim}
 use Rattle.kit.specs.Integer.{int?}
 use Rattle.kit.specs.Lists.{all-append}
 use Rattle.calendar.specs.Calendar.{end as after-2199}
 use Rattle.mapset.specs.declared.Kind.{Kind}
 use Rattle.mapset.specs.declared.Kind.the-variants.{Tec, Rms, Height}
 use Rattle.mapset.specs.declared.Header.{Header}
-use Rattle.mapset.specs.Grid.{heights, latitudes, longitudes, AxisRules, nodes, rows, layers, columns}
-use Rattle.mapset.specs.MapSet.{Block, TecMap, OtherMap, Maps, MapSet}
-use Rattle.mapset.specs.Areas.{Run, EpochRules}
-use Rattle.layout.specs.Records.{Vals, ValueRows}
-use Rattle.layout.specs.Labels.{exponent, epoch, block, file-end, start, end, layout, Rec}
-use Rattle.layout.specs.Layout.{Force, under, with-epoch, last-of, with-last, one-more, one-tec, Other, Left, nothing, maps, early, blocks, Loose, Exponent, InTime, per-map, node, Opens, Writes, w-end, w-exponent, w-tec, w-epoch, w-other, w-block, w-close, w-file}
+use Rattle.mapset.specs.Grid.{heights, latitudes, longitudes, AxisRules, rows, layers, columns}
+use Rattle.mapset.specs.MapSet.{Block, TecMap, OtherMap, Maps}
+use Rattle.mapset.specs.Areas.{Run}
+use Rattle.layout.specs.Records.{Vals}
+use Rattle.layout.specs.Labels.{exponent, epoch, block, start, end, layout}
+use Rattle.layout.specs.Layout.{Force, under, with-epoch, last-of, with-last, one-more, one-tec, Other, Left, maps, blocks, Loose, Exponent, InTime, per-map, Opens, Writes, w-exponent, w-tec, w-epoch, w-other, w-block, w-close}
 use Rattle.reading.specs.RecordLaws.{known-maps}
 use Rattle.areas.proofs.MadeMaps.{Onward, getD-last}
 use Rattle.areas.specs.Formed.{Value, BlockRules, MapRules, Rising}

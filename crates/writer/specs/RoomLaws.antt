@@ -1,19 +1,17 @@
 -- What a map set may say has room in its fields.
-use mathlib.Core.Path.{_≡_, refl, sym, ap, _∙_}
-use mathlib.Core.Logic.{_⊎_, inl, inr, ⊎-elim}
-use mathlib.Core.List.{List, [], _∷_}
-use Prim.Native.Nat.{ℕ, zero, suc, _+_, _-_, _*_, _/_, _%_, _^_, _≤_, _<_}
+use mathlib.Core.Path.{_≡_, refl, ap, _∙_}
+use mathlib.Core.Logic.{_⊎_, ⊎-elim}
+use Prim.Native.Nat.{ℕ, _+_, _-_, _*_, _/_, _≤_, _<_}
 use native.Mathlib.Omega.{arith}
 use native.Mathlib.Nat.{mul-le-mul-right, div-mul-le-self}
-use lib.IntN.{ℤ, pos, negsuc, natAbs, _+ℤ_, _-ℤ_, _*ℤ_}
+use lib.IntN.{ℤ, pos, negsuc, natAbs, _-ℤ_, _*ℤ_}
 use mathlib.Core.Bool.{Bool, true, false}
-use lib.Signed.{ltZ, _≤ℤ_, _<ℤ_}
+use lib.Signed.{ltZ, _<ℤ_}
 use lib.Dec.{T, leb→le}
-use Rattle.kit.specs.Answer.{All}
 use Rattle.kit.specs.Integer.{Between}
 use Rattle.kit.specs.Parts.{up, dn, add-parts, scale-up, scale-dn, sub-parts2, parts-le, le-parts, lt-true, abs-parts, one-zero}
-use Rattle.fields.specs.Form as form
-use Rattle.fields.specs.Show.{Room}
+use Rattle.forms.specs.Form as form
+use Rattle.forms.specs.Show.{Room}
 use Rattle.mapset.specs.declared.Axis.{Axis}
 use Rattle.mapset.specs.Grid.{Line, heights, latitudes, longitudes, End, Step, AxisRules, nodes}
 use Rattle.layout.specs.Layout.{node}

@@ -1,24 +1,24 @@
 -- The rows of canonical text: each is its record, of 80 printable columns, and not blank.
-use mathlib.Core.Path.{_≡_, refl, sym, ap, _∙_}
+use mathlib.Core.Path.{_≡_, refl, ap, _∙_}
 use mathlib.Core.Bool.{Bool, true, false}
-use mathlib.Core.Option.{Option, none, some}
+use mathlib.Core.Option.{none}
 use mathlib.Core.List.{List, [], _∷_, _++_, append-assoc}
-use Prim.Native.Nat.{ℕ, zero, suc, _+_, _-_, _*_, _≤_, _<_}
+use Prim.Native.Nat.{ℕ, zero, suc, _+_, _-_, _*_, _≤_}
 use native.Mathlib.Omega.{arith}
 use native.Mathlib.Decide.{ℕ-discrete, decLe}
-use lib.IntN.{ℤ, pos, negsuc}
+use lib.IntN.{ℤ}
 use lib.ListN.{length, replicate, take, drop, length-append, length-replicate, length-drop, take-append-drop}
 use lib.Seq.{length-take-le}
 use Rattle.kit.specs.Answer.{All, pick-elim, pick, ×-dec, all-dec, same, sames}
 use Rattle.kit.specs.Lists.{all-append, all-front, all-behind}
 use Rattle.kit.specs.Truth.{decided}
-use Rattle.kit.specs.Range.{Within, within?}
-use Rattle.fields.specs.Form as form
-use Rattle.fields.specs.Form.{Form, Digit, sign, pointed, Spells}
-use Rattle.fields.specs.Show.{showField, Room}
-use Rattle.fields.specs.ShowLaws.{show-spells}
-use Rattle.fields.specs.FieldLaws.{spells-width}
-use Rattle.fields.specs.Columns.{Blank}
+use Rattle.kit.specs.Range.{within?}
+use Rattle.forms.specs.Form as form
+use Rattle.forms.specs.Form.{Form, Digit, sign, pointed, Spells}
+use Rattle.forms.specs.Show.{showField, Room}
+use Rattle.forms.specs.ShowLaws.{show-spells}
+use Rattle.forms.specs.FieldLaws.{spells-width}
+use Rattle.forms.specs.Columns.{Blank}
 use Rattle.mapset.specs.Header.{Written}
 use Rattle.layout.specs.Text.{Printable}
 use Rattle.layout.specs.Records.{Item, I, F, X, A, U, Vals, Fields, f-end, f-int, f-tenths, f-blank, f-text, f-unread, Cells, c-blank, c-value, ValueRows, v-last, v-full}

@@ -1,15 +1,15 @@
 -- Good rows, trimmed and ended by LF, are laid out and ended as the rules have it.
 use mathlib.Core.Path.{_≡_, refl, sym, ap, _∙_}
 use mathlib.Core.List.{List, [], _∷_, _++_, map}
-use Prim.Native.Nat.{ℕ, zero, suc, _+_, _-_, _≤_}
+use Prim.Native.Nat.{ℕ, _+_, _-_}
 use native.Mathlib.Omega.{arith}
 use native.Mathlib.Decide.{ℕ-discrete}
 use lib.ListN.{length, replicate, length-append, length-replicate}
-use Rattle.kit.specs.Answer.{All, pick, all-dec, pick-elim}
+use Rattle.kit.specs.Answer.{All, all-dec, pick-elim}
 use Rattle.kit.specs.Lists.{all-append, all-front}
 use Rattle.kit.specs.Range.{Within}
-use Rattle.fields.specs.Columns.{Blank}
-use Rattle.layout.specs.Text.{Ended, none, lf, Printable, Clean, pad, Laid, line}
+use Rattle.forms.specs.Columns.{Blank}
+use Rattle.layout.specs.Text.{Ended, none, lf, Clean, pad, Laid, line}
 use Rattle.reading.specs.RecordLaws.{spaces-blank, blank-spaces}
 use Rattle.writer.specs.Canon.{trimmed, lines-of}
 use Rattle.writer.specs.RowLaws.{GoodRow}

@@ -1,7 +1,7 @@
 -- `calendar::date_of` meets its contract.
 use native.Mathlib.Omega.{arith}
 use Prim.Native.Nat.{_+_}
-use Rattle.calendar.specs.YearLaws.{row-two, all-years}
+use Rattle.days.specs.YearLaws.{row-two, all-years}
 use Rattle.calendar.specs.DateLaws.{in-months, date-made}
 use borrow.Author.Needs.{needs}
 use Rattle.calendar.proofs.date_of.Statement.{statement}

@@ -2,9 +2,10 @@
 use native.Mathlib.Omega.{arith}
 use mathlib.Core.Path.{_≡_, ap, _∙_}
 use Prim.Native.Nat.{ℕ, _+_, _*_, _-_, _<_}
-use Rattle.calendar.specs.Sums.{sum}
-use Rattle.calendar.specs.Calendar.{row, monthDays, yearDays, second, end}
-use Rattle.calendar.specs.YearLaws.{row-two}
+use Rattle.days.specs.Sums.{sum}
+use Rattle.days.specs.Years.{row, monthDays, yearDays}
+use Rattle.calendar.specs.Calendar.{second, end}
+use Rattle.days.specs.YearLaws.{row-two}
 use Rattle.calendar.specs.DateLaws.{below-end}
 use Rattle.calendar.specs.declared.Epoch.{Epoch}
 use borrow.Author.Needs.{needs}

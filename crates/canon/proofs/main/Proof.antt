@@ -17,6 +17,27 @@ array-share-prefix-text c = search needs
 slice-aggregate-answer : tie.Need-slice-aggregate-answer
 slice-aggregate-answer c = search needs
 
+slice-aggregate-answer-2 : tie.Need-slice-aggregate-answer-2
+slice-aggregate-answer-2 c = search needs
+
+slice-aggregate-answer-3 : tie.Need-slice-aggregate-answer-3
+slice-aggregate-answer-3 c = search needs
+
+slice-aggregate-answer-4 : tie.Need-slice-aggregate-answer-4
+slice-aggregate-answer-4 c = search needs
+
+slice-aggregate-answer-5 : tie.Need-slice-aggregate-answer-5
+slice-aggregate-answer-5 c = search needs
+
+slice-aggregate-answer-6 : tie.Need-slice-aggregate-answer-6
+slice-aggregate-answer-6 c = search needs
+
+slice-aggregate-answer-7 : tie.Need-slice-aggregate-answer-7
+slice-aggregate-answer-7 c = search needs
+
+slice-aggregate-answer-8 : tie.Need-slice-aggregate-answer-8
+slice-aggregate-answer-8 c = search needs
+
 answer-requires : tie.Need-answer-requires
 answer-requires c κs = search needs
 
@@ -24,7 +45,7 @@ array-share-prefix-out : tie.Need-array-share-prefix-out
 array-share-prefix-out c = search needs
 
 slice-aggregate-write-all : tie.Need-slice-aggregate-write-all
-slice-aggregate-write-all c = sym (length-take-le _ _ (c .before .answer .ensures .within))
+slice-aggregate-write-all c = sym (length-take-le _ _ (c .before .before .before .before .before .before .before .before .answer .ensures .within))
 
 write-all-requires : tie.Need-write-all-requires
 write-all-requires c κs = search needs
@@ -40,6 +61,13 @@ main-spec =
     read-full-requires
     array-share-prefix-text
     slice-aggregate-answer
+    slice-aggregate-answer-2
+    slice-aggregate-answer-3
+    slice-aggregate-answer-4
+    slice-aggregate-answer-5
+    slice-aggregate-answer-6
+    slice-aggregate-answer-7
+    slice-aggregate-answer-8
     answer-requires
     array-share-prefix-out
     slice-aggregate-write-all

@@ -2,7 +2,7 @@
 use mathlib.Core.Path.{_≡_, refl, sym, _∙_}
 use Prim.Native.Nat.{_+_, _-_}
 use native.Mathlib.Omega.{arith}
-use Rattle.fields.specs.Columns.{columns, further, firstNotBlank}
+use Rattle.forms.specs.Columns.{columns, further, firstNotBlank}
 use Rattle.fields.proofs.Lines.{found-here, blank-here, none-left}
 use Rattle.fields.proofs.first_not_blank.Statement.{statement}
 use Rattle.fields.proofs.first_not_blank.Tie as tie

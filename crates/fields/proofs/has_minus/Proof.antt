@@ -4,7 +4,7 @@ use mathlib.Core.Bool.{_||_}
 use Prim.Native.Nat.{_≤_, _-_}
 use native.Mathlib.Omega.{arith}
 use lib.ListN.{length, drop}
-use Rattle.fields.specs.Bytes.{hasMinus}
+use Rattle.forms.specs.Bytes.{hasMinus}
 use Rattle.fields.proofs.Steps.{minus-next, minus-end}
 use Rattle.fields.proofs.has_minus.Statement.{statement}
 use Rattle.fields.proofs.has_minus.Tie as tie

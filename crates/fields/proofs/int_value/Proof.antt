@@ -2,7 +2,7 @@
 use mathlib.Core.Path.{ap, _∙_}
 use mir.Facts.{toZ-ofZ}
 use borrow.Author.Needs.{needs}
-use Rattle.fields.specs.declared.Field.the-variants.{Number}
+use Rattle.forms.specs.declared.Field.the-variants.{Number}
 use Rattle.fields.proofs.Judged.{int-number, int-below}
 use Rattle.fields.proofs.int_value.Statement.{statement}
 use Rattle.fields.proofs.int_value.Tie as tie

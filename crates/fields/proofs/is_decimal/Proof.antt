@@ -5,8 +5,8 @@ use Prim.Native.Nat.{ℕ, _+_}
 use native.Mathlib.Omega.{arith}
 use lib.Seq.{length-take-le}
 use borrow.Author.Needs.{needs}
-use Rattle.fields.specs.Form.{I}
-use Rattle.fields.specs.Read.{readField, isNumber}
+use Rattle.forms.specs.Form.{I}
+use Rattle.forms.specs.Read.{readField, isNumber}
 use Rattle.fields.proofs.Point.{pointAt, to-end, decimal-short, decimal-judged}
 use Rattle.fields.proofs.is_decimal.Statement.{statement}
 use Rattle.fields.proofs.is_decimal.Tie as tie

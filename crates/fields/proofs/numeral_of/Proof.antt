@@ -3,7 +3,7 @@ use mathlib.Core.Path.{_≡_, refl, sym, _∙_}
 use Prim.Native.Nat.{_≤_, _-_, _+_, _*_, _^_}
 use native.Mathlib.Omega.{arith}
 use lib.ListN.{length, drop}
-use Rattle.fields.specs.Form.{numeral}
+use Rattle.forms.specs.Form.{numeral}
 use Rattle.fields.proofs.Steps.{numeral-next, numeral-end, tens-next, tens-small}
 use Rattle.fields.proofs.numeral_of.Statement.{statement}
 use Rattle.fields.proofs.numeral_of.Tie as tie

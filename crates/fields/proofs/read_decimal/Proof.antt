@@ -7,9 +7,9 @@ use lib.ListN.{length}
 use lib.Seq.{length-take-le}
 use mir.Facts.{toZ-ofZ}
 use borrow.Author.Needs.{needs}
-use Rattle.fields.specs.Form.{decimal}
-use Rattle.fields.specs.Read.{readField, isNumber}
-use Rattle.fields.specs.declared.Field.the-variants.{Number}
+use Rattle.forms.specs.Form.{decimal}
+use Rattle.forms.specs.Read.{readField, isNumber}
+use Rattle.forms.specs.declared.Field.the-variants.{Number}
 use Rattle.fields.proofs.Judged.{bad-of}
 use Rattle.fields.proofs.Point.{to-end, decimal-long, decimal-number, decimal-small}
 use Rattle.fields.proofs.read_decimal.Statement.{statement}

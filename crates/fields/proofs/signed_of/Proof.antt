@@ -6,8 +6,8 @@ use mir.Val.{toZ, ofZ, SFits}
 use mir.Facts.{toZ-ofZ}
 use borrow.Author.Needs.{needs}
 use Rattle.kit.specs.Parts.{size-fits}
-use Rattle.fields.specs.Form.{signed}
-use Rattle.fields.specs.ShowLaws.{signed-size}
+use Rattle.forms.specs.Form.{signed}
+use Rattle.forms.specs.ShowLaws.{signed-size}
 use Rattle.fields.proofs.signed_of.Statement.{statement}
 use Rattle.fields.proofs.signed_of.Tie as tie
 

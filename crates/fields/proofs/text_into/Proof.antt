@@ -4,7 +4,7 @@ use Prim.Native.Nat.{_≤_, _-_}
 use native.Mathlib.Omega.{arith}
 use lib.ListN.{length, take, length-set}
 use lib.Seq.{take-length}
-use Rattle.fields.specs.Columns.{columns}
+use Rattle.forms.specs.Columns.{columns}
 use Rattle.fields.proofs.Lines.{put-next}
 use Rattle.fields.proofs.text_into.Statement.{statement}
 use Rattle.fields.proofs.text_into.Tie as tie

@@ -2,7 +2,7 @@
 use mathlib.Core.Path.{sym, _∙_}
 use mir.Facts.{toZ-ofZ}
 use borrow.Author.Needs.{needs}
-use Rattle.fields.specs.Rows.{threeAt}
+use Rattle.forms.specs.Rows.{threeAt}
 use Rattle.fields.proofs.three_numbers.Statement.{statement}
 use Rattle.fields.proofs.three_numbers.Tie as tie
 

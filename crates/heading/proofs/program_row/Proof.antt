@@ -6,7 +6,7 @@ use lib.ListN.{length, getD}
 use borrow.Author.Needs.{needs}
 use Rattle.layout.specs.Labels.{name}
 use Rattle.layout.specs.Names.{names}
-use Rattle.rows.specs.Rows.{row-at}
+use Rattle.rowtext.specs.Rows.{row-at}
 use Rattle.heading.proofs.Laws.{twenties-filled}
 use Rattle.heading.proofs.program_row.Statement.{statement}
 use Rattle.heading.proofs.program_row.Tie as tie

@@ -4,7 +4,7 @@ use borrow.Author.Needs.{needs}
 use Rattle.layout.specs.Names.{names}
 use Rattle.writer.specs.Canon.{columns-of}
 use Rattle.rows.specs.PutLaws.{room-first, room-next, put-next}
-use Rattle.rows.specs.Rows.{row-at}
+use Rattle.rowtext.specs.Rows.{row-at}
 use Rattle.heading.specs.Header.{last-rows}
 use Rattle.heading.proofs.put_last.Statement.{statement}
 use Rattle.heading.proofs.put_last.Tie as tie

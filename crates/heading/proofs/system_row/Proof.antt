@@ -8,7 +8,7 @@ use mir.Syntax.{w32}
 use mir.Facts.{toZ-pos}
 use borrow.Author.Needs.{needs}
 use Rattle.layout.specs.Names.{names}
-use Rattle.rows.specs.Rows.{row-at}
+use Rattle.rowtext.specs.Rows.{row-at}
 use Rattle.heading.proofs.Laws.{system-filled}
 use Rattle.heading.proofs.system_row.Statement.{statement}
 use Rattle.heading.proofs.system_row.Tie as tie

@@ -6,7 +6,7 @@ use mir.Syntax.{w32}
 use mir.Facts.{toZ-pos}
 use borrow.Author.Needs.{needs}
 use Rattle.layout.specs.Names.{names}
-use Rattle.rows.specs.Rows.{row-at}
+use Rattle.rowtext.specs.Rows.{row-at}
 use Rattle.heading.proofs.Laws.{eight-filled}
 use Rattle.heading.proofs.tenths_row.Statement.{statement}
 use Rattle.heading.proofs.tenths_row.Tie as tie

@@ -1,12 +1,12 @@
 -- `kit::magnitude` meets its contract.
 use borrow.Author.Needs.{needs}
 use native.Mathlib.Omega.{arith}
-use mathlib.Core.Path.{_≡_, ap, _∙_}
+use mathlib.Core.Path.{_≡_}
 use mathlib.Core.Logic.{⊎-elim}
-use Prim.Native.Nat.{_<_, _^_, _+_, _≤_}
+use Prim.Native.Nat.{_<_}
 use lib.IntN.{ℤ, pos, natAbs, _-ℤ_}
 use mir.Syntax.{w64}
-use mir.Val.{toZ, ofZ, SFits, Fits}
+use mir.Val.{toZ, ofZ, SFits}
 use mir.Facts.{toZ-ofZ}
 use Rattle.kit.specs.Parts.{up, dn, sub-parts2, abs-parts, fits-parts, one-zero, lt-true, lt-false, nonneg-parts}
 use Rattle.kit.proofs.magnitude.Statement.{statement}

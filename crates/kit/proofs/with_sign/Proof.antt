@@ -2,12 +2,11 @@
 use borrow.Author.Needs.{needs}
 use native.Mathlib.Omega.{arith}
 use mathlib.Core.Path.{_≡_, refl, _∙_}
-use Prim.Native.Nat.{_<_, _^_}
-use lib.IntN.{ℤ, pos, negℤ, _-ℤ_, +ℤ-idl}
+use lib.IntN.{pos, negℤ, _-ℤ_, +ℤ-idl}
 use mir.Syntax.{w64}
-use mir.Val.{toZ, ofZ, SFits}
+use mir.Val.{toZ, SFits}
 use mir.Facts.{toZ-ofZ, toZ-pos}
-use Rattle.kit.specs.Parts.{up, dn, fits-parts, neg-up, neg-dn}
+use Rattle.kit.specs.Parts.{fits-parts, neg-up, neg-dn}
 use Rattle.kit.proofs.with_sign.Statement.{statement}
 use Rattle.kit.proofs.with_sign.Tie as tie
 use Rattle.kit.proofs.with_sign.Reads as reads

@@ -1,9 +1,8 @@
-use mathlib.Core.Path.{_≡_, refl, sym, _∙_}
+use mathlib.Core.Path.{_≡_, refl}
 use Prim.Native.Nat.{_+_, _-_, _≤_}
 use native.Mathlib.Omega.{arith}
-use borrow.Author.Needs.{needs}
 use mathlib.Core.Bool.{_&&_}
-use lib.ListN.{drop, length}
+use lib.ListN.{drop}
 use Rattle.layout.specs.Names.{holds}
 use Rattle.layout.proofs.Laws.{whole-next, whole-end}
 use Rattle.layout.proofs.has_whole.Statement.{statement}

@@ -1,11 +1,10 @@
-use mathlib.Core.Path.{_≡_, _∙_, sym, ap, refl}
-use mathlib.Core.List.{List, []}
+use mathlib.Core.Path.{_≡_, _∙_, sym}
+use mathlib.Core.List.{List}
 use Prim.Native.Nat.{ℕ, _+_, _-_, _≤_, _<_}
 use native.Mathlib.Omega.{arith}
-use borrow.Author.Needs.{needs}
-use lib.ListN.{drop, getD, length, drop-of-length-le}
+use lib.ListN.{drop, length, drop-of-length-le}
 use Rattle.layout.specs.Labels.{name}
-use Rattle.layout.specs.Names.{holds, names, number-of, place-of}
+use Rattle.layout.specs.Names.{names, number-of, place-of}
 use Rattle.layout.proofs.Laws.{place-of-next, place-of-here, label-length}
 use Rattle.layout.proofs.search.Statement.{statement}
 use Rattle.layout.proofs.search.Tie as tie

@@ -1,6 +1,5 @@
 use Prim.Native.Nat.{_≤_, _-_}
 use native.Mathlib.Omega.{arith}
-use mathlib.Core.Path.{_≡_}
 use Rattle.lines.proofs.QuickLines.{So, so-next, so-end}
 use Rattle.lines.proofs.all_printable.Statement.{statement}
 use Rattle.lines.proofs.all_printable.Tie as tie

@@ -13,8 +13,8 @@ use Rattle.valid.proofs.Whole.{sound-long}
 use Rattle.writer.specs.Canon.{row-of, version-row, order, head-rows, canon-rows}
 use Rattle.rows.specs.Put.{Leads}
 use Rattle.rows.specs.PutLaws.{room-front, leads-self, leads-on}
-use Rattle.output.specs.KindRows.{all-rows}
-use Rattle.output.proofs.SlotLaws.{leads-same}
+use Rattle.allmaps.specs.KindRows.{all-rows}
+use Rattle.onemap.proofs.SlotLaws.{leads-same}
 use Rattle.output.proofs.RowsLaws.{canon-are}
 use Rattle.output.proofs.Short.{valid-fine}
 use Rattle.output.proofs.put_text.Statement.{statement}

@@ -3,7 +3,7 @@ use native.Mathlib.Omega.{arith}
 use borrow.Author.Needs.{needs}
 use Rattle.layout.specs.Names.{names}
 use Rattle.writer.specs.Canon.{row-of}
-use Rattle.rows.specs.Rows.{row-at}
+use Rattle.rowtext.specs.Rows.{row-at}
 use Rattle.rows.proofs.put_epoch.Statement.{statement}
 use Rattle.rows.proofs.put_epoch.Tie as tie
 

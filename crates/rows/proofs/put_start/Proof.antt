@@ -4,7 +4,7 @@ use mir.Facts.{toZ-ofZ}
 use borrow.Author.Needs.{needs}
 use Rattle.layout.specs.Names.{names}
 use Rattle.writer.specs.Canon.{row-of}
-use Rattle.rows.specs.Rows.{row-at}
+use Rattle.rowtext.specs.Rows.{row-at}
 use Rattle.rows.proofs.put_start.Statement.{statement}
 use Rattle.rows.proofs.put_start.Tie as tie
 

@@ -11,7 +11,6 @@ use lib.Seq.{length-take-le}
 use denote.Ref.{now}
 use Rattle.kit.specs.Answer.{×-dec, all-dec}
 use Rattle.kit.specs.Truth.{truth, both}
-use Rattle.mapset.specs.Grid.{columns}
 use Rattle.mapset.specs.declared.Kind.{Kind}
 use Rattle.mapset.specs.declared.Kind.the-variants as K
 use Rattle.mapset.specs.Areas.{Areas, blocks}

@@ -8,9 +8,10 @@ use lib.IntN.{pos}
 use lib.ListN.{drop}
 use Rattle.kit.specs.Answer.{ok, pick-yes, pick-no}
 use Rattle.kit.specs.Range.{Natural}
-use Rattle.calendar.specs.Calendar.{row, monthDays, first, numbersOf, wrong, checked}
+use Rattle.days.specs.Years.{row, monthDays}
+use Rattle.calendar.specs.Calendar.{first, numbersOf, wrong, checked}
 use Rattle.calendar.specs.Inner.{Decides}
-use Rattle.calendar.specs.YearLaws.{row-two}
+use Rattle.days.specs.YearLaws.{row-two}
 use Rattle.calendar.specs.declared.Epoch.{Epoch}
 use Rattle.calendar.proofs.Epoch.first_wrong.Statement.{statement}
 use Rattle.calendar.proofs.Epoch.first_wrong.Tie as tie

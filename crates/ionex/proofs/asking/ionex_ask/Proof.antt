@@ -1,13 +1,13 @@
 use native.Mathlib.Omega.{arith}
 use mir.Facts.{toZ-ofZ}
-use Rattle.ionex.specs.AskExported.{header-short, texts-short, value-short, answered}
+use Rattle.crossing.specs.AskExported.{header-short, texts-short, value-short, answered}
 use borrow.Author.Needs.{needs}
 use Rattle.ionex.proofs.asking.ionex_ask.Statement.{statement}
 use Rattle.ionex.proofs.asking.ionex_ask.Tie as tie
 use Rattle.ionex.proofs.asking.ionex_ask.Reads as reads
 use Rattle.ionex.proofs.asking.ionex_ask.Lts as lts
 use Rattle.ionex.proofs.asking.ask.Reads as ask-reads
-use Rattle.ionex.proofs.asking.put_answer.Reads as put-answer-reads
+use Rattle.crossing.proofs.put_answer.Reads as put-answer-reads
 use Rattle.numbers.proofs.given.header_in.Reads as header-in-reads
 use Rattle.numbers.proofs.given.texts_in.Reads as texts-in-reads
 

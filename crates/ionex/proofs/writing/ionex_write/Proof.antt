@@ -1,12 +1,12 @@
 use native.Mathlib.Omega.{arith}
 use Rattle.mapset.specs.Sound.{areas}
-use Rattle.ionex.proofs.WriteLaws.{write-header, write-texts, write-count, write-answer}
+use Rattle.crossing.proofs.WriteLaws.{write-header, write-texts, write-count, write-answer}
 use borrow.Author.Needs.{needs}
 use Rattle.ionex.proofs.writing.ionex_write.Statement.{statement}
 use Rattle.ionex.proofs.writing.ionex_write.Tie as tie
 use Rattle.ionex.proofs.writing.ionex_write.Reads as reads
 use Rattle.ionex.proofs.writing.ionex_write.Lts as lts
-use Rattle.ionex.proofs.writing.put_written.Reads as put-written-reads
+use Rattle.crossing.proofs.put_written.Reads as put-written-reads
 use Rattle.ionex.proofs.writing.write.Reads as write-reads
 use Rattle.numbers.proofs.given.header_in.Reads as header-in-reads
 use Rattle.numbers.proofs.given.texts_in.Reads as texts-in-reads

@@ -1,7 +1,7 @@
 use borrow.Author.Needs.{needs}
 use mathlib.Core.Path.{_≡_, sym, ap, _∙_}
 use Prim.Native.Nat.{_%_}
-use lib.IntN.{ℤ, natAbs}
+use lib.IntN.{natAbs}
 use native.Mathlib.Decide.{ℕ-discrete}
 use mir.Syntax.{w32}
 use mir.Val.{toZ, ofZ}

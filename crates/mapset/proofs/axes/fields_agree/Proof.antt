@@ -1,5 +1,5 @@
 use borrow.Author.Needs.{needs}
-use mathlib.Core.Path.{_≡_, refl}
+use mathlib.Core.Path.{refl}
 use Rattle.mapset.proofs.axes.fields_agree.Statement.{statement}
 use Rattle.mapset.proofs.axes.fields_agree.Tie as tie
 use Rattle.mapset.proofs.axes.fields_agree.Reads as reads

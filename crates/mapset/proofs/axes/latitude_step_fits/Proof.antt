@@ -1,6 +1,6 @@
 use borrow.Author.Needs.{needs}
 use mathlib.Core.Path.{_≡_, sym, ap, _∙_}
-use lib.IntN.{ℤ, natAbs}
+use lib.IntN.{natAbs}
 use mir.Facts.{toZ-ofZ}
 use Rattle.mapset.specs.JudgedLaws.{still, stepped}
 use Rattle.mapset.proofs.axes.latitude_step_fits.Statement.{statement}

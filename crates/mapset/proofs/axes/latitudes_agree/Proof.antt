@@ -1,5 +1,5 @@
 use borrow.Author.Needs.{needs}
-use mathlib.Core.Path.{_≡_, sym, _∙_}
+use mathlib.Core.Path.{sym, _∙_}
 use Rattle.kit.specs.Truth.{truth-true, truth-false}
 use Rattle.mapset.specs.JudgedLaws.{latitudes-toward, latitudes-loose}
 use Rattle.mapset.proofs.axes.latitudes_agree.Statement.{statement}

@@ -1,9 +1,7 @@
 use borrow.Author.Needs.{needs}
-use mathlib.Core.Path.{_≡_, sym, ap, ap₂, _∙_}
 use native.Mathlib.Omega.{arith}
 use native.Mathlib.Nat.{mul-le-mul}
-use Prim.Native.Nat.{_*_, _≤_}
-use Rattle.mapset.specs.Grid.{layers, rows, columns}
+use Prim.Native.Nat.{_≤_}
 use Rattle.mapset.specs.JudgedLaws.{too-many-rows, too-many-columns, too-many-layers, within-limits}
 use Rattle.mapset.proofs.axes.limits_hold.Statement.{statement}
 use Rattle.mapset.proofs.axes.limits_hold.Tie as tie

@@ -1,5 +1,5 @@
 use borrow.Author.Needs.{needs}
-use mathlib.Core.Path.{_≡_, refl, _∙_}
+use mathlib.Core.Path.{refl}
 use mir.Facts.{toZ-ofZ}
 use Rattle.mapset.specs.Decisions.{step?}
 use Rattle.mapset.proofs.axes.step_fits.Statement.{statement}

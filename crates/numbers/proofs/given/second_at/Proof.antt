@@ -1,11 +1,9 @@
 use mathlib.Core.Path.{_≡_, ap, _∙_}
-use native.Mathlib.Omega.{arith}
 use lib.ListN.{getD}
 use lib.IntN.{pos}
 use mir.Syntax.{w64}
 use mir.Val.{toZ, ofZ}
 use Rattle.numbers.specs.Given.{bounded}
-use Rattle.numbers.proofs.GivenLaws.{bounded-le}
 use borrow.Author.Needs.{needs}
 use Rattle.numbers.proofs.given.second_at.Statement.{statement}
 use Rattle.numbers.proofs.given.second_at.Tie as tie

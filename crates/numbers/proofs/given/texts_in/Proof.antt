@@ -2,7 +2,7 @@ use mathlib.Core.Path.{_≡_, sym, ap, _∙_}
 use Prim.Native.Nat.{_-_}
 use lib.ListN.{length, take, drop, length-drop}
 use lib.Seq.{take-length}
-use Rattle.fields.specs.Columns.{columns}
+use Rattle.forms.specs.Columns.{columns}
 use Rattle.numbers.specs.Given.{texts-of}
 use borrow.Author.Needs.{needs}
 use Rattle.numbers.proofs.given.texts_in.Statement.{statement}

@@ -1,5 +1,5 @@
 use mathlib.Core.Path.{sym, ap, _∙_}
-use Rattle.fields.specs.declared.Field.{Field}
+use Rattle.forms.specs.declared.Field.{Field}
 use Rattle.records.specs.RecordLaws.{tenths-is}
 use borrow.Author.Needs.{needs}
 use Rattle.records.proofs.content.tenths_record.Statement.{statement}

@@ -1,5 +1,5 @@
 use mathlib.Core.Path.{sym, ap, _∙_}
-use Rattle.fields.specs.declared.Field.{Field}
+use Rattle.forms.specs.declared.Field.{Field}
 use Rattle.records.specs.RecordLaws.{version-is}
 use borrow.Author.Needs.{needs}
 use Rattle.records.proofs.content.version_record.Statement.{statement}

@@ -1,0 +1,2 @@
+mod KindLaws
+mod PartLaws

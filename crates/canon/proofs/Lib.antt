@@ -1,3 +1,0 @@
-pub mod LineLaws
-pub mod DigitLaws
-pub mod PrintedLaws

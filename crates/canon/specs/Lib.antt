@@ -1,4 +1,0 @@
--- What the program prints.
-pub mod Lines
-pub mod Printed
-pub mod Exactly

@@ -1,0 +1,5 @@
+-- What crosses to other languages.
+pub mod ReadExported
+pub mod WriteExported
+pub mod AskExported
+pub mod MoveExported

@@ -1,0 +1,57 @@
+-- Reading as it crosses to other languages: a number, the six areas, and three areas of the call's own.
+use mathlib.Core.Path.{_≡_, sym, _∙_}
+use mathlib.Core.List.{List, []}
+use Prim.Native.Nat.{ℕ, _<_}
+use native.Mathlib.Decide.{decLe}
+use lib.IntN.{ℤ}
+use lib.ListN.{length}
+use Rattle.kit.specs.Answer.{pick}
+use Rattle.mapset.specs.declared.Texts.{Texts}
+use Rattle.mapset.specs.Areas.{Areas}
+use Rattle.areas.specs.Stores.{front}
+use Rattle.outcome.specs.Outcome.{Told, accepted, at-place, eleven, Outcome, outcome, told-number, told-place}
+use Rattle.outcome.specs.declared.Reading.{Reading}
+use Rattle.outcome.specs.declared.Reading.the-variants.{Accepted, Refused}
+use Rattle.numbers.specs.Numbers.{numbers, text-bytes}
+
+-- the header record and its texts; nothing on a refusal
+abbrev pub told-header : Told → List ℤ
+told-header (accepted h) = numbers h
+told-header (at-place k l c) = []
+told-header (eleven a n) = []
+
+abbrev pub told-texts : Told → Texts → List ℕ
+told-texts (accepted h) x = text-bytes x
+told-texts (at-place k l c) x = []
+told-texts (eleven a n) x = []
+
+-- the epochs of an accepted header are numbers of 63 bits
+abbrev pub Small : Reading → Type 0
+Small (Accepted h) = (h .times .first < 9223372036854775808) × (h .times .last < 9223372036854775808)
+Small (Refused w) = Unit {0}
+
+-- the number answered, and what is then in the areas
+pub record Crossed : Type 0 where
+  pub number : ℕ
+  pub areas : Areas
+  pub header : List ℤ
+  pub texts : List ℕ
+  pub place : List ℕ
+
+abbrev pub crossed : ℕ → Areas → List ℤ → List ℕ → List ℕ → Crossed
+crossed k l h x p = record { number = k; areas = l; header = h; texts = x; place = p }
+
+unfoldable pub crosses : Outcome → List ℤ → List ℕ → List ℕ → Crossed
+crosses o h x p =
+    crossed (told-number (o .told)) (o .areas) (front (told-header (o .told)) h) (front (told-texts (o .told) (o .texts)) x) (front (told-place (o .told)) p)
+
+-- an area of the call's own that is too short is told before the text is looked at, and nothing is written
+unfoldable pub read-crossed : List ℕ → Areas → List ℤ → List ℕ → List ℕ → Crossed
+read-crossed t l h x p =
+    pick (decLe 44 (length h))
+    (pick (decLe 124 (length x)) (pick (decLe 2 (length p)) (crosses (outcome t l) h x p) (crossed 103 l h x p)) (crossed 102 l h x p))
+    (crossed 101 l h x p)
+
+-- no second answer
+pub ionex-read-once : (t : List ℕ) (l : Areas) (h : List ℤ) (x p : List ℕ) (a b : Crossed) → a ≡ read-crossed t l h x p → b ≡ read-crossed t l h x p → a ≡ b
+ionex-read-once t l h x p a b e f = e ∙ sym f

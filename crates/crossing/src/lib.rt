@@ -1,0 +1,137 @@
+// An answer as it crosses to other languages: its number, and what it brings in areas of the call's own.
+ghost use mathlib.Core.Path.{_≡_};
+ghost use mathlib.Core.List.{[], _∷_};
+ghost use Prim.Native.Nat.{_≤_};
+ghost use lib.ListN.{length};
+ghost use Rattle.areas.specs.Stores.{front};
+ghost use Rattle.outcome.specs.Outcome.{told-number as read-number, told-place, told as told-read};
+ghost use Rattle.output.specs.Write.{done, told as told-written};
+ghost use Rattle.asker.specs.Ask.{told as told-asked, number, tecu};
+ghost use Rattle.calendar.specs.Calendar.{toldWhen};
+ghost use Rattle.crossing.specs.ReadExported.{told-header, told-texts, Small};
+ghost use Rattle.crossing.specs.WriteExported.{told-number as write-number, told-count};
+ghost use Rattle.crossing.specs.AskExported.{told-number as ask-number, told-value};
+ghost use Rattle.crossing.specs.MoveExported.{told-number as move-number, told-moved};
+use asker::Asked;
+use asker::Why;
+use calendar::When;
+use outcome::ReadOut;
+use outcome::Reading;
+use output::Written;
+
+// ---- Reading
+
+fn put_place(out: &mut [u64], first: u64, second: u64)
+    requires { ⌜ 2 ≤ length (now out) ⌝ }
+    ensures { λ _. ⌜ now (out .exit) ≡ front (first ∷ second ∷ []) (now (out .entry)) ⌝ }
+{
+    out[0] = first;
+    out[1] = second;
+}
+
+// A reading crosses: its number; the header record and its texts, or the place.
+pub fn put_reading(r: ReadOut, header: &mut [i64], texts: &mut [u8], place: &mut [u64]) -> u64
+    requires { ⌜ (44 ≤ length (now header)) × ((124 ≤ length (now texts)) × ((2 ≤ length (now place)) × Small (r .answer))) ⌝ }
+    ensures { λ n. ⌜ (n ≡ read-number (told-read (r .answer)))
+        × ((now (header .exit) ≡ front (told-header (told-read (r .answer))) (now (header .entry)))
+        × ((now (texts .exit) ≡ front (told-texts (told-read (r .answer)) (r .texts)) (now (texts .entry)))
+        × (now (place .exit) ≡ front (told-place (told-read (r .answer))) (now (place .entry))))) ⌝ }
+{
+    let answer = r.answer;
+    let x = r.texts;
+    match answer {
+        Reading::Accepted(h) => {
+            numbers::put_header(header, h);
+            numbers::put_texts(texts, x);
+            0
+        }
+        Reading::Refused(reason) => {
+            let w = outcome::refusal_of(reason);
+            put_place(place, w.first, w.second);
+            w.number
+        }
+    }
+}
+
+// ---- Writing
+
+fn put_count(out: &mut [u64], n: u64)
+    requires { ⌜ 1 ≤ length (now out) ⌝ }
+    ensures { λ _. ⌜ now (out .exit) ≡ front (told-count (done n)) (now (out .entry)) ⌝ }
+{
+    out[0] = n;
+}
+
+// An answer crosses: its number, and the bytes written or needed.
+pub fn put_written(answer: Written, count: &mut [u64]) -> u64
+    requires { ⌜ 1 ≤ length (now count) ⌝ }
+    ensures { λ r. ⌜ (r ≡ write-number (told-written answer)) × (now (count .exit) ≡ front (told-count (told-written answer)) (now (count .entry))) ⌝ }
+{
+    match answer {
+        Written::Bytes(n) => {
+            put_count(count, n);
+            0
+        }
+        Written::Short(n) => {
+            put_count(count, n);
+            30
+        }
+        Written::Unsound => 31,
+    }
+}
+
+// ---- Asking
+
+// 01's number of a refusal.
+fn number_of(why: Why) -> u64
+    ensures { λ r. ⌜ r ≡ number why ⌝ }
+{
+    match why {
+        Why::Unknown => 23,
+        Why::Unsound => 31,
+        Why::OutOfTime => 20,
+        Why::OutOfPlace => 21,
+        Why::NoValue => 22,
+    }
+}
+
+fn put_value(out: &mut [i32], v: i32)
+    requires { ⌜ 1 ≤ length (now out) ⌝ }
+    ensures { λ _. ⌜ now (out .exit) ≡ front (told-value (tecu v)) (now (out .entry)) ⌝ }
+{
+    out[0] = v;
+}
+
+// An answer crosses: its number, and its value if it has one.
+pub fn put_answer(answer: Asked, out: &mut [i32]) -> u64
+    requires { ⌜ 1 ≤ length (now out) ⌝ }
+    ensures { λ r. ⌜ (r ≡ ask-number (told-asked answer)) × (now (out .exit) ≡ front (told-value (told-asked answer)) (now (out .entry))) ⌝ }
+{
+    match answer {
+        Asked::Tecu(v) => {
+            put_value(out, v.0);
+            0
+        }
+        Asked::Km(v) => {
+            put_value(out, v.0);
+            0
+        }
+        Asked::Refused(why) => number_of(why),
+    }
+}
+
+// ---- Moving an epoch
+
+// An epoch moved crosses: its number, and the epoch if there is one.
+pub fn put_moved(when: When, out: &mut [u64]) -> u64
+    requires { ⌜ 1 ≤ length (now out) ⌝ }
+    ensures { λ r. ⌜ (r ≡ move-number (toldWhen when)) × (now (out .exit) ≡ front (told-moved (toldWhen when)) (now (out .entry))) ⌝ }
+{
+    match when {
+        When::At(t) => {
+            out[0] = t;
+            0
+        }
+        When::Refused => 7,
+    }
+}

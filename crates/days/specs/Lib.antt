@@ -1,0 +1,5 @@
+-- The root of the definitions and the laws.
+pub mod Sums
+pub mod Years
+pub mod SumLaws
+pub mod YearLaws

@@ -1,0 +1,92 @@
+use mathlib.Core.Path.{_≡_, subst}
+use mathlib.Core.List.{List}
+use Prim.Native.Nat.{ℕ}
+use mir.Syntax.{w32}
+use mir.Val.{toZ, ofZ}
+use Rattle.mapset.specs.declared.Texts.{Texts}
+use Rattle.fill.specs.Scan.{six}
+use Rattle.judging.specs.Scanned.{Judges}
+use Rattle.judging.specs.declared.Judged.{Judged}
+use Rattle.judging.proofs.JudgeLaws.{one-to-ten}
+use Rattle.input.proofs.StoreLaws.{outcome-refused}
+use borrow.Author.Needs.{needs}
+use Rattle.input.proofs.read_text.Statement.{statement}
+use Rattle.input.proofs.read_text.Tie as tie
+use Rattle.input.proofs.read_text.Reads as reads
+use Rattle.input.proofs.read_text.Lts as lts
+use Rattle.judging.proofs.judge.Reads as judge-reads
+use Rattle.outcome.proofs.reason_of.Reads as reason-of-reads
+use Rattle.outcome.proofs.refused.Reads as refused-reads
+use Rattle.input.proofs.store.Reads as store-reads
+
+-- what the first scan says, by its answer
+judged : (t : List ℕ) (x : Texts) (a b : Judged) → Judges t a x → a ≡ b → Judges t b x
+judged t x a b j e = subst (λ z. Judges t z x) e j
+
+exponent-of : (c : tie.After-known-told2) → toZ w32 (ofZ w32 (c .before .answer2 .given .0 .1 .0)) ≡ c .before .answer2 .given .0 .1 .0
+exponent-of c = search needs
+
+judge-requires : tie.Need-judge-requires
+judge-requires c κs = search needs
+
+enum-known-answer : tie.Need-enum-known-answer
+enum-known-answer c = search needs
+
+reason-of-requires : tie.Need-reason-of-requires
+reason-of-requires c κs = one-to-ten (c .before .before .before .before .before .before .before .before .args .text .now) _ (judged _ _ _ _ (c .before .before .before .before .judge .ensures) (c .before .answer .given .1))
+
+refused-requires : tie.Need-refused-requires
+refused-requires c κs = search needs
+
+enum-known-answer-2 : tie.Need-enum-known-answer-2
+enum-known-answer-2 c = search needs
+
+store-requires : tie.Need-store-requires
+store-requires c κs = rw (exponent-of (c .before .before .before .before .before .before)) (judged _ _ _ _ (c .before .before .before .before .before .before .before .before .before .before .judge .ensures) (c .before .before .before .before .before .before .before .answer2 .given .1))
+
+returns : tie.Need-returns
+returns c =
+    let s = c .before .before .before .before .before .before .before .before .before .before in
+    let l = six (s .args .tec .now) (s .args .rms .now) (s .args .height .now) (s .args .exponents .now) (s .args .epochs .now) (s .args .marks .now) in
+    let f = c .refused .ensures in
+    rw (f .0, f .1, c .before .reason-of .ensures) (outcome-refused (s .args .text .now) l _ _ _ (judged _ _ _ _ (c .before .before .before .before .before .before .judge .ensures) (c .before .before .before .answer .given .1)))
+
+same-length : tie.Need-same-length
+same-length c = search needs
+
+same-length-2 : tie.Need-same-length-2
+same-length-2 c = search needs
+
+same-length-3 : tie.Need-same-length-3
+same-length-3 c = search needs
+
+same-length-4 : tie.Need-same-length-4
+same-length-4 c = search needs
+
+same-length-5 : tie.Need-same-length-5
+same-length-5 c = search needs
+
+same-length-6 : tie.Need-same-length-6
+same-length-6 c = search needs
+
+returns-2 : tie.Need-returns-2
+returns-2 c = search needs
+
+pub read-text-spec : {M : Type 1} → statement M
+read-text-spec =
+    tie.close
+    (tie.spec
+    judge-requires
+    enum-known-answer
+    reason-of-requires
+    refused-requires
+    enum-known-answer-2
+    store-requires
+    returns
+    same-length
+    same-length-2
+    same-length-3
+    same-length-4
+    same-length-5
+    same-length-6
+    returns-2)

@@ -1,4 +1,0 @@
-pub mod JudgeLaws
-pub mod StoreLaws
-pub mod CrossLaws
-pub mod WriteLaws

@@ -1,0 +1,31 @@
+// An epoch moved by seconds, as other languages ask for it.
+ghost use Rattle.calendar.specs.Calendar.{toldWhen, The};
+ghost use Rattle.crossing.specs.MoveExported.{Moves, MoveCrosses};
+use calendar::Epoch;
+use calendar::Found;
+use calendar::When;
+
+// A second for a second: the date of the one, moved, is the date of the other.
+fn moved_second(second: u64, by: i64) -> When
+    ensures { λ r. ⌜ The (Moves second by) (toldWhen r) ⌝ }
+{
+    match Epoch::at_second(second) {
+        Found::Refused => When::Refused,
+        Found::Date(from) => match from.moved(by) {
+            Found::Refused => When::Refused,
+            Found::Date(to) => to.seconds(),
+        },
+    }
+}
+
+// An epoch moved by so many seconds: 0, with the epoch; or 7 where it or the result lies outside 1900 to 2199.
+#[no_mangle]
+pub extern "C" fn ionex_moved(second: u64, by: i64, moved: &mut [u64]) -> u64
+    ensures { λ r. ⌜ MoveCrosses second by (now (moved .entry)) r (now (moved .exit)) ⌝ }
+{
+    if moved.len() < 1 {
+        return 103;
+    }
+    let when = moved_second(second, by);
+    crossing::put_moved(when, moved)
+}

@@ -1,0 +1,3 @@
+-- One map in a lent output.
+pub mod OneMap
+pub mod Ready

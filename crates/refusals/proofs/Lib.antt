@@ -1,0 +1,3 @@
+pub mod LineLaws
+mod DigitLaws
+mod ReasonLaws

@@ -1,0 +1,2 @@
+-- The one-line answers.
+pub mod Lines
