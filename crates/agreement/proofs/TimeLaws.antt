@@ -1,9 +1,8 @@
 -- When an epoch may stand: the tests of the code decide what the rules say.
 use mathlib.Core.Path.{_≡_, refl, _∙_}
 use mathlib.Core.Bool.{true, false}
-use mathlib.Core.Logic.{inl, inr, ⊎-elim}
 use mathlib.Core.List.{List, [], _∷_}
-use Prim.Native.Nat.{ℕ, suc, _-_, _≤_, _<_}
+use Prim.Native.Nat.{ℕ, suc, _-_}
 use native.Mathlib.Decide.{ℕ-discrete}
 use native.Mathlib.Omega.{arith}
 use lib.ListN.{length, getD}
@@ -13,23 +12,6 @@ use Rattle.mapset.specs.declared.Header.{Header}
 use Rattle.mapset.specs.Decisions.{follows?}
 use Rattle.reading.specs.Maps.{after?, in-time?}
 use Rattle.agreement.proofs.GridLaws.{eqb-truth}
-
-module _ (i b e : ℕ) where
-  pub follows-early : e ≤ b → false ≡ truth (follows? i b e)
-  follows-early h = fails (follows? i b e) (λ p. omega (arith, p .0 .0))
-
-  module _ (h : b < e) where
-    pub follows-late : 21600 < e - b → false ≡ truth (follows? i b e)
-    follows-late l = fails (follows? i b e) (λ p. omega (arith, p .0 .1))
-
-    module _ (l : e - b ≤ 21600) where
-      pub follows-any : i ≡ 0 → true ≡ truth (follows? i b e)
-      follows-any z = holds (follows? i b e) ((h, omega arith), inl z)
-
-      pub follows-exact : ¬ (i ≡ 0) → eqb (e - b) i ≡ truth (follows? i b e)
-      follows-exact n =
-          eqb-truth (e - b) i
-          ∙ truth-same (ℕ-discrete (e - b) i) (follows? i b e) (λ q. ((h, omega arith), inr (omega arith))) (λ p. ⊎-elim (λ z. absurd (n z)) (λ q. omega arith) (p .1))
 
 module _ (h : Header) where
   pub after-first : (es : List ℕ) (e : ℕ) → length es ≡ 0 → eqb e (h .times .first) ≡ truth (after? h es e)

@@ -1,25 +1,8 @@
 // The epochs of the TEC maps: how one follows the others.
 ghost use mathlib.Core.Path.{_≡_};
 ghost use Rattle.kit.specs.Truth.{truth};
-ghost use Rattle.mapset.specs.Decisions.{follows?};
 ghost use Rattle.reading.specs.Maps as M;
 use mapset::Header;
-
-fn follows(interval: u32, before: u64, e: u64) -> bool
-    ensures { λ r. ⌜ r ≡ truth (follows? interval before e) ⌝ }
-{
-    if e <= before {
-        return false;
-    }
-    let gap = e - before;
-    if 21600 < gap {
-        return false;
-    }
-    if interval == 0 {
-        return true;
-    }
-    gap == interval as u64
-}
 
 fn is_after(header: Header, epochs: &[u64], e: u64) -> bool
     ensures { λ r. ⌜ r ≡ truth (M.after? header (now (epochs .entry)) e) ⌝ }
@@ -28,7 +11,7 @@ fn is_after(header: Header, epochs: &[u64], e: u64) -> bool
     if k == 0 {
         return e == header.times.first;
     }
-    follows(header.times.interval, epochs[k - 1], e)
+    soundness::follows(header.times.interval, epochs[k - 1], e)
 }
 
 // Whether e may be the next epoch after these.

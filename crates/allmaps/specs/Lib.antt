@@ -1,3 +1,3 @@
 -- The maps of all kinds in a lent output.
 pub mod KindRows
-pub mod Supplied
+pub mod Ready

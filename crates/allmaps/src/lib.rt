@@ -1,39 +1,46 @@
 // The maps of each kind, and those of all kinds, put into a lent output.
-ghost use Rattle.mapset.specs.Sound.{areas};
+ghost use mathlib.Core.Path.{_≡_};
+ghost use Prim.Native.Nat.{_≤_};
+ghost use lib.ListN.{length, take};
+ghost use Rattle.mapset.specs.Areas.{six};
+ghost use Rattle.layout.specs.Layout.{per-map};
 ghost use Rattle.rows.specs.Put.{Put};
-ghost use Rattle.onemap.specs.Ready.{Ready, PutTo};
+ghost use Rattle.onemap.specs.Ready.{PutTo};
 ghost use Rattle.allmaps.specs.KindRows.{kind-rows, kind-force, part-exponents, part-values, all-rows};
-ghost use Rattle.allmaps.specs.Supplied.{Supplied, ReadyPart, ReadyMaps};
+ghost use Rattle.allmaps.specs.Ready.{ReadyPart, ReadyMaps};
 use mapset::Header;
 use mapset::Kind;
 use mapset::axes;
 use onemap::Reached;
 
-// The maps of a kind, one for each TEC map.
+// The maps of a kind, one for each TEC map, of so many blocks each, in the areas as they are lent: its exponents begin at first.
 fn put_kind(
     out: &mut [u8],
     at: usize,
     header: Header,
     kind: Kind,
     in_force: i32,
+    maps: usize,
+    blocks: usize,
     epochs: &[u64],
     marks: &[u8],
-    es: &[i32],
-    vs: &[i32],
+    exponents: &[i32],
+    first: usize,
+    values: &[i32],
 ) -> Reached
-    requires { ⌜ Ready header at (kind-rows kind header 0 in_force (now epochs) (now marks) (now es) (now vs)) × Supplied kind header (now epochs) (now marks) (now es) (now vs) ⌝ }
-    ensures { λ r. ⌜ PutTo (now (out .entry)) at (kind-rows kind header 0 in_force (now (epochs .entry)) (now (marks .entry)) (now (es .entry)) (now (vs .entry))) (kind-force kind header in_force (now (marks .entry)) (now (es .entry)) (now (vs .entry))) (now (out .exit)) r ⌝ }
+    requires { ⌜ ReadyPart header at kind in_force (take maps (now epochs)) (take maps (now marks)) (now exponents) first (now values) ⌝ }
+    requires { ⌜ (blocks ≡ per-map header) × (maps ≤ length (now epochs)) × (maps ≤ length (now marks)) ⌝ }
+    ensures { λ r. ⌜ PutTo (now (out .entry)) at (kind-rows kind header 0 in_force (take maps (now (epochs .entry))) (take maps (now (marks .entry))) (part-exponents header (take maps (now (marks .entry))) (now (exponents .entry)) first) (part-values kind header (take maps (now (marks .entry))) (now (values .entry)))) (kind-force kind header in_force (take maps (now (marks .entry))) (part-exponents header (take maps (now (marks .entry))) (now (exponents .entry)) first) (part-values kind header (take maps (now (marks .entry))) (now (values .entry)))) (now (out .exit)) r ⌝ }
 {
-    let blocks = valid::per_map(header.grid);
     let columns = axes::nodes(header.grid.longitudes) as usize;
     let width = blocks * columns;
     let mut next = at;
     let mut force = in_force;
     let mut i: usize = 0;
-    let mut first: usize = 0;
+    let mut begin = first;
     let mut from: usize = 0;
-    while i < epochs.len() {
-        let last = first + blocks;
+    while i < maps {
+        let last = begin + blocks;
         let end = from + width;
         let number = (i + 1) as u64;
         let reached = onemap::put_slot(
@@ -45,14 +52,14 @@ fn put_kind(
             epochs[i],
             marks[i],
             force,
-            &es[first..last],
-            vs,
+            &exponents[begin..last],
+            values,
             from,
             end,
         );
         next = reached.at;
         force = reached.exponent;
-        first = last;
+        begin = last;
         from = end;
         i += 1;
     }
@@ -60,39 +67,6 @@ fn put_kind(
         at: next,
         exponent: force,
     }
-}
-
-// The maps of a kind in the areas as they are lent: its exponents begin at first.
-fn put_part(
-    out: &mut [u8],
-    at: usize,
-    header: Header,
-    kind: Kind,
-    in_force: i32,
-    epochs: &[u64],
-    marks: &[u8],
-    exponents: &[i32],
-    first: usize,
-    values: &[i32],
-) -> Reached
-    requires { ⌜ ReadyPart header at kind in_force (now epochs) (now marks) (now exponents) first (now values) ⌝ }
-    ensures { λ r. ⌜ PutTo (now (out .entry)) at (kind-rows kind header 0 in_force (now (epochs .entry)) (now (marks .entry)) (part-exponents header (now (marks .entry)) (now (exponents .entry)) first) (part-values kind header (now (marks .entry)) (now (values .entry)))) (kind-force kind header in_force (now (marks .entry)) (part-exponents header (now (marks .entry)) (now (exponents .entry)) first) (part-values kind header (now (marks .entry)) (now (values .entry)))) (now (out .exit)) r ⌝ }
-{
-    let all = marks.len() * valid::per_map(header.grid);
-    let columns = axes::nodes(header.grid.longitudes) as usize;
-    let needed = valid::need(kind, marks, all * columns);
-    let end = first + all;
-    put_kind(
-        out,
-        at,
-        header,
-        kind,
-        in_force,
-        epochs,
-        marks,
-        &exponents[first..end],
-        &values[..needed],
-    )
 }
 
 // All maps, then END OF FILE.
@@ -107,43 +81,50 @@ pub fn put_maps(
     epochs: &[u64],
     marks: &[u8],
 ) -> usize
-    requires { ⌜ ReadyMaps header at (areas (now tec) (now rms) (now height) (now exponents) (now epochs) (now marks)) ⌝ }
-    ensures { λ r. ⌜ Put (now (out .entry)) at (all-rows header (areas (now (tec .entry)) (now (rms .entry)) (now (height .entry)) (now (exponents .entry)) (now (epochs .entry)) (now (marks .entry)))) (now (out .exit)) r ⌝ }
+    requires { ⌜ ReadyMaps header at (six (now tec) (now rms) (now height) (now exponents) (now epochs) (now marks)) ⌝ }
+    ensures { λ r. ⌜ Put (now (out .entry)) at (all-rows header (six (now (tec .entry)) (now (rms .entry)) (now (height .entry)) (now (exponents .entry)) (now (epochs .entry)) (now (marks .entry)))) (now (out .exit)) r ⌝ }
 {
     let maps = header.times.maps as usize;
-    let all = maps * valid::per_map(header.grid);
-    let a = put_part(
+    let blocks = valid::per_map(header.grid);
+    let all = maps * blocks;
+    let a = put_kind(
         out,
         at,
         header,
         Kind::Tec,
         -1,
-        &epochs[..maps],
-        &marks[..maps],
+        maps,
+        blocks,
+        epochs,
+        marks,
         exponents,
         0,
         tec,
     );
-    let b = put_part(
+    let b = put_kind(
         out,
         a.at,
         header,
         Kind::Rms,
         a.exponent,
-        &epochs[..maps],
-        &marks[..maps],
+        maps,
+        blocks,
+        epochs,
+        marks,
         exponents,
         all,
         rms,
     );
-    let c = put_part(
+    let c = put_kind(
         out,
         b.at,
         header,
         Kind::Height,
         b.exponent,
-        &epochs[..maps],
-        &marks[..maps],
+        maps,
+        blocks,
+        epochs,
+        marks,
         exponents,
         all + all,
         height,

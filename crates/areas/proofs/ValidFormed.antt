@@ -16,7 +16,8 @@ use Rattle.layout.specs.Layout.{per-map}
 use Rattle.areas.specs.Flat.{areas-of, areas}
 use Rattle.areas.specs.Formed.{Formed}
 use Rattle.areas.specs.Nest.{nest}
-use Rattle.areas.specs.Stores.{front, fronts}
+use Rattle.kit.specs.Lists.{front}
+use Rattle.areas.specs.Stores.{fronts}
 use Rattle.areas.specs.Valid.{needed, Valid}
 use Rattle.areas.proofs.Needs.{needs}
 use Rattle.areas.proofs.Unnested.{Sixfold, epochs-back, nest-rules, areas-nest}

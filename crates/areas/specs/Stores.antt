@@ -6,6 +6,7 @@ use Prim.Native.Nat.{ℕ, _+_, _-_, _*_, _≤_, _<_}
 use lib.ListN.{length, replicate, getD, set, drop}
 use lib.Seq.{sets}
 use lib.IntN.{ℤ, pos, negsuc}
+use Rattle.kit.specs.Lists.{front}
 use Rattle.kit.specs.Answer.{All, pick}
 use Rattle.mapset.specs.declared.Kind.{Kind}
 use Rattle.mapset.specs.declared.Kind.the-variants.{Tec, Rms, Height}
@@ -118,9 +119,6 @@ cleared n B r t l =
     }
 
 -- ---- what is to come of it: the lists a, and behind each what was there
-abbrev pub front : {A : Type 0} → List A → List A → List A
-front a l = a ++ drop (length a) l
-
 unfoldable pub fronts : (a l : Areas) → Areas
 fronts a l =
     record {

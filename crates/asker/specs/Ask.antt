@@ -14,7 +14,8 @@ use Rattle.mapset.specs.declared.Header.{Header}
 use Rattle.mapset.specs.declared.Texts.{Texts}
 use Rattle.cells.specs.Place.{InCell100}
 use Rattle.spans.specs.Time.{Uses}
-use Rattle.nodes.specs.Value.{Term, Valued, Mean, kind-of, spread, terms}
+use Rattle.nodes.specs.Value.{kind-of}
+use Rattle.sums.specs.Mean.{Term, Valued, Mean, spread, terms}
 use Rattle.cells.specs.declared.Cell.{Cell}
 use Rattle.spans.specs.declared.Shares.{Shares}
 use Rattle.nodes.specs.declared.Weighed.{Weighed}

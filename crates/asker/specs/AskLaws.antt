@@ -14,9 +14,10 @@ use Rattle.cells.specs.Place.{InCell100}
 use Rattle.spans.specs.Time.{Uses}
 use Rattle.spans.specs.Spans.{Regular, Spanned}
 use Rattle.spans.specs.TimeLaws.{regular, last-epoch, shares-small}
-use Rattle.nodes.specs.Value.{kind-of, Valued, spread, weight, mean}
+use Rattle.nodes.specs.Value.{kind-of}
+use Rattle.sums.specs.Mean.{Valued, spread, weight, mean}
 use Rattle.asker.specs.Ask.{Question, Told, in-told, Guard, go, Known, InTime, area, shape, asked, Rounded, Answers}
-use Rattle.nodes.specs.Sums.{Summable}
+use Rattle.sums.specs.Sums.{Summable}
 use Rattle.asker.specs.MeanLaws.{mean-is}
 use Rattle.asker.specs.ReachLaws.{some-weight, summable}
 use Rattle.cells.specs.declared.Cell.{Cell}

@@ -18,7 +18,8 @@ use Rattle.rounding.specs.RoundLaws.{round-nearest, nearest-unique}
 use Rattle.spans.specs.Time.{epoch, NearestMap, shared, Uses, nearest, between, last}
 use Rattle.spans.specs.Spans.{Regular}
 use Rattle.spans.specs.TimeLaws.{uses-once, nearest-last, nearest-early}
-use Rattle.nodes.specs.Value.{kind-of, corner, corners, spread, Term, terms, value, Valued, or-zero, weighted, weight}
+use Rattle.nodes.specs.Value.{kind-of, value}
+use Rattle.sums.specs.Mean.{corner, corners, spread, Term, terms, Valued, or-zero, weighted, weight}
 use Rattle.asker.specs.Ask.{Question, Told, in-unit, in-told, Guard, stop, go, Known, InTime, Inside, area, shape, asked, Rounded, Blended, Answers}
 use Rattle.asker.specs.AskLaws.{epochs, steady, has-weight}
 use Rattle.asker.specs.Once.{mean-once, weighs-is}

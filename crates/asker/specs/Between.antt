@@ -14,7 +14,8 @@ use Rattle.mapset.specs.declared.Kind.{Kind}
 use Rattle.mapset.specs.declared.Kind.the-variants.{Tec as tec, Rms as rms, Height as height}
 use Rattle.rounding.specs.Round.{rounded}
 use Rattle.rounding.specs.RoundLaws.{round-above, round-below, round-nearest, nearest-unique}
-use Rattle.nodes.specs.Value.{kind-of, Term, IsSome, Valued, Mean, or-zero, weighted, weight}
+use Rattle.nodes.specs.Value.{kind-of}
+use Rattle.sums.specs.Mean.{Term, IsSome, Valued, Mean, or-zero, weighted, weight}
 use Rattle.asker.specs.Ask.{Question, Told, tecu, km, refused, in-unit, stop, go, Weighs, asked, Answers}
 use Rattle.asker.specs.AskLaws.{has-weight}
 use Rattle.asker.specs.Once.{weighs-is, weighs-once}

@@ -9,7 +9,8 @@ use Rattle.kit.specs.Answer.{pick-elim}
 use Rattle.mapset.specs.declared.Kind.{Kind}
 use Rattle.rounding.specs.Round.{rounded}
 use Rattle.rounding.specs.RoundLaws.{round-nearest}
-use Rattle.nodes.specs.Value.{kind-of, Term, Valued, valued?, mean, weighted, weight}
+use Rattle.nodes.specs.Value.{kind-of}
+use Rattle.sums.specs.Mean.{Term, Valued, valued?, mean, weighted, weight}
 use Rattle.asker.specs.Ask.{tecu, km, in-unit, in-told, Guard, stop, go, Rounded}
 
 -- the computed mean is the one that the rules give

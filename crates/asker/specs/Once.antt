@@ -10,7 +10,8 @@ use Rattle.rounding.specs.RoundLaws.{nearest-unique}
 use Rattle.cells.specs.Place.{InCell100}
 use Rattle.cells.specs.PlaceLaws.{cell-once}
 use Rattle.spans.specs.TimeLaws.{uses-once}
-use Rattle.nodes.specs.Value.{kind-of, Term, Valued, spread, weight, weighted}
+use Rattle.nodes.specs.Value.{kind-of}
+use Rattle.sums.specs.Mean.{Term, Valued, spread, weight, weighted}
 use Rattle.asker.specs.Ask.{Question, Told, tecu, km, refused, in-unit, Guard, stop, go, Known, Inside, Weighs, asked, Rounded, Blended, Answers, number, told}
 use Rattle.asker.specs.AskLaws.{epochs, steady, has-weight}
 use Rattle.cells.specs.declared.Cell.{Cell}

@@ -17,9 +17,11 @@ use Rattle.mapset.specs.declared.Kind.{Kind}
 use Rattle.mapset.specs.declared.Kind.the-variants.{Tec as tec, Rms as rms, Height as height}
 use Rattle.mapset.specs.SoundLaws.{header-groups, few-blocks, some-nodes}
 use Rattle.cells.specs.Place.{InCell100}
-use Rattle.nodes.specs.Value.{kind-of, block, corners, spread, terms, weight}
+use Rattle.nodes.specs.Value.{kind-of, block}
+use Rattle.sums.specs.Mean.{corners, spread, terms, weight}
 use Rattle.asker.specs.Ask.{Question, area, shape}
-use Rattle.nodes.specs.Sums.{Reached, Reaches, Shared, Summable}
+use Rattle.nodes.specs.Nodes.{Reached}
+use Rattle.sums.specs.Sums.{Reaches, Shared, Summable}
 use Rattle.cells.specs.declared.Cell.{Cell}
 use Rattle.spans.specs.declared.Shares.{Shares}
 use Rattle.nodes.specs.declared.Shape.{Shape}

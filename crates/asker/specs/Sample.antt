@@ -13,10 +13,10 @@ use Rattle.kit.specs.Answer.{pick, ×-dec, ⊎-dec, ¬-dec, all-dec}
 use Rattle.kit.specs.Range.{within?}
 use Rattle.kit.specs.Truth.{truth, truth-true, dec-by}
 use Rattle.kit.specs.Integer.{le?, lt?, int?, between?}
-use Rattle.mapset.specs.Areas.{Areas, present?, nowhere?, Sound}
+use Rattle.mapset.specs.Areas.{Areas, present?, nowhere?, Sound, six}
 use Rattle.mapset.specs.Judged.{toward?}
 use Rattle.mapset.specs.Decisions.{end?, step?, multiple?, ×₃-dec, ×₄-dec, together?, dimension?, limits?}
-use Rattle.mapset.specs.Sound.{areas, version?, printable?, written?, texts?, times?, model?, axis?, grid?, count?, system?, systems?, header?, run?, runs?, starts?, epochs?, marks?, lengths?, sound-says?}
+use Rattle.mapset.specs.Sound.{version?, printable?, written?, texts?, times?, model?, axis?, grid?, count?, system?, systems?, header?, run?, runs?, starts?, epochs?, marks?, lengths?, sound-says?}
 use Rattle.mapset.specs.Decisions.{follows?}
 use Rattle.mapset.specs.SoundLaws.{sound?}
 use Rattle.mapset.specs.declared.Axis.{Axis}
@@ -26,7 +26,8 @@ use Rattle.mapset.specs.declared.Texts.{Texts}
 use Rattle.rounding.specs.Round.{rounded}
 use Rattle.cells.specs.Place.{InCell100}
 use Rattle.spans.specs.Time.{alone, Uses, nearest}
-use Rattle.nodes.specs.Value.{is-value?, worth, value, corners, spread, terms, weighted, weight, valued?, mean}
+use Rattle.nodes.specs.Value.{is-value?, worth, value}
+use Rattle.sums.specs.Mean.{corners, spread, terms, weighted, weight, valued?, mean}
 use Rattle.asker.specs.Ask.{Question, question, tecu, refused, Answers}
 use Rattle.asker.specs.AskLaws.{epochs, answered}
 use Rattle.asker.specs.Once.{answers-once}
@@ -54,7 +55,7 @@ unfoldable pub texts : Texts
 texts = record { program = replicate 20 32; agency = replicate 20 32; date = replicate 20 32; mapping = replicate 4 32; observables = replicate 60 32 }
 
 unfoldable pub held : Areas
-held = areas (pos 100 ∷ pos 200 ∷ pos 300 ∷ pos 400 ∷ []) [] [] (replicate 6 (negsuc 0)) (0 ∷ []) (0 ∷ [])
+held = six (pos 100 ∷ pos 200 ∷ pos 300 ∷ pos 400 ∷ []) [] [] (replicate 6 (negsuc 0)) (0 ∷ []) (0 ∷ [])
 
 -- TEC at 0.50, 0.50
 unfoldable pub sample : Question

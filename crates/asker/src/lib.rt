@@ -2,7 +2,7 @@
 ghost use mathlib.Core.Path.{_≡_};
 ghost use Rattle.kit.specs.Range.{within?};
 ghost use Rattle.kit.specs.Truth.{truth};
-ghost use Rattle.mapset.specs.Sound.{areas};
+ghost use Rattle.mapset.specs.Areas.{six};
 ghost use Rattle.asker.specs.Ask.{layout, question, Answers, told};
 use cells::Found;
 use mapset::Header;
@@ -65,7 +65,7 @@ pub fn ask(
     lon: i32,
     second: u64,
 ) -> Asked
-    ensures { λ r. ⌜ Answers (question header texts (areas (now (tec .entry)) (now (rms .entry)) (now (height .entry)) (now (exponents .entry)) (now (epochs .entry)) (now (marks .entry))) kind method layer lat lon second) (told r) ⌝ }
+    ensures { λ r. ⌜ Answers (question header texts (six (now (tec .entry)) (now (rms .entry)) (now (height .entry)) (now (exponents .entry)) (now (epochs .entry)) (now (marks .entry))) kind method layer lat lon second) (told r) ⌝ }
 {
     if 3 <= kind {
         return Asked::Refused(Why::Unknown);

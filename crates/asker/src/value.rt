@@ -1,8 +1,9 @@
 // The weighted mean of the nodes, rounded once, in the unit of its kind.
 ghost use mathlib.Core.Path.{_≡_};
 ghost use Prim.Native.Nat.{_<_};
-ghost use Rattle.nodes.specs.Value.{kind-of, spread, terms, weight, mean};
-ghost use Rattle.nodes.specs.Sums.{Summable, Ready, summed};
+ghost use Rattle.nodes.specs.Value.{kind-of};
+ghost use Rattle.sums.specs.Mean.{spread, terms, weight, mean};
+ghost use Rattle.sums.specs.Sums.{Summable, Ready, summed};
 ghost use Rattle.asker.specs.Ask.{in-told, of-kind, told};
 use super::Asked;
 use super::Why;
@@ -10,8 +11,8 @@ use cells::Cell;
 use nodes::MilliKm;
 use nodes::MilliTecu;
 use nodes::Shape;
-use nodes::Sum;
 use spans::Shares;
+use sums::Sum;
 
 // What a sum comes to, in the kind's unit.
 fn mean_of(kind: u64, sum: Sum) -> Asked
@@ -45,7 +46,7 @@ fn value_of(
 {
     mean_of(
         s.kind,
-        nodes::sum_of(shares, first, second, s, values, exponents, marks),
+        sums::sum_of(shares, first, second, s, values, exponents, marks),
     )
 }
 

@@ -1,2 +1,3 @@
+pub mod OwnLaws
 pub mod ReadLaws
 pub mod WriteLaws

@@ -3,10 +3,9 @@ use mathlib.Core.Path.{_≡_, refl, sym, ap, _∙_}
 use mathlib.Core.List.{List}
 use Prim.Native.Nat.{ℕ, _≤_, _<_}
 use native.Mathlib.Omega.{arith}
-use native.Mathlib.Decide.{decLe}
 use lib.IntN.{ℤ}
 use lib.ListN.{length}
-use Rattle.kit.specs.Answer.{Answer, ok, refused, pick-yes, pick-no}
+use Rattle.kit.specs.Answer.{Answer, ok, refused}
 use mathlib.Core.Option.{Option, none, some}
 use Rattle.mapset.specs.declared.Header.{Header}
 use Rattle.mapset.specs.declared.Texts.{Texts}
@@ -17,10 +16,12 @@ use Rattle.reading.specs.Feed.{Why}
 use Rattle.reading.specs.Read.{read}
 use Rattle.reading.specs.Exact.{made-read}
 use Rattle.areas.specs.Formed.{Formed}
-use Rattle.areas.specs.Stores.{front}
+use Rattle.kit.specs.Lists.{front}
 use Rattle.areas.proofs.Made.{made-formed}
 use Rattle.outcome.specs.Outcome.{accepted, with-room, outcome-of, outcome, told, told-reason, comes}
 use Rattle.outcome.specs.Outcome.{told-number, told-place}
+use Rattle.crossing.specs.Own.{too-short}
+use Rattle.crossing.proofs.OwnLaws.{unless-none, unless-short}
 use Rattle.crossing.specs.ReadExported.{told-header, told-texts, Small, crossed, crosses, read-crossed}
 use Rattle.outcome.specs.declared.Reason.{Reason}
 use Rattle.outcome.specs.declared.Reason.the-variants.{LongLine, BadByte, NotIonex, UnknownLabel, Misplaced, IllFormed, OutOfRange, Disagrees, Missing, EndsEarly, AreaTooShort}
@@ -61,33 +62,22 @@ module _ (t : List ℕ) (l : Areas) (r : ReadOut) (l′ : Areas) (e : comes r l�
           rw (f .header) at (in-years (f .set) (made-formed (made-read t (f .reads))))
       by (Refused w) q = tt
 
--- ---- the areas of the call's own
+-- ---- the areas of the call's own, and the answer
 
 module _ (t : List ℕ) (l : Areas) (h : List ℤ) (x p : List ℕ) where
-  pub cross-header : length h < 44 → crossed 101 l h x p ≡ read-crossed t l h x p
+  pub cross-short : {k : ℕ} → k ≡ too-short (length h) (length x) (length p) 2 → 1 ≤ k → crossed k l h x p ≡ read-crossed t l h x p
   unfolding read-crossed
-  cross-header a = sym (pick-no (decLe 44 (length h)) _ _ (λ b. omega arith))
+  cross-short e a = ap (λ k. crossed k l h x p) e ∙ sym (unless-short _ (λ k. crossed k l h x p) (omega (arith, e, a)))
 
-  module _ (a : 44 ≤ length h) where
-    pub cross-texts : length x < 124 → crossed 102 l h x p ≡ read-crossed t l h x p
+  module _ (n : too-short (length h) (length x) (length p) 2 ≡ 0) (r : ReadOut) (l′ : Areas) (e : comes r l′ ≡ outcome t l) where
+    is-crossed : crosses (comes r l′) h x p ≡ read-crossed t l h x p
     unfolding read-crossed
-    cross-texts b = sym (pick-yes (decLe 44 (length h)) _ _ a ∙ pick-no (decLe 124 (length x)) _ _ (λ c. omega arith))
+    is-crossed = ap (λ o. crosses o h x p) e ∙ sym (unless-none _ (λ k. crossed k l h x p) n)
 
-    module _ (b : 124 ≤ length x) where
-      pub cross-place : length p < 2 → crossed 103 l h x p ≡ read-crossed t l h x p
-      unfolding read-crossed
-      cross-place c = sym (pick-yes (decLe 44 (length h)) _ _ a ∙ pick-yes (decLe 124 (length x)) _ _ b ∙ pick-no (decLe 2 (length p)) _ _ (λ d. omega arith))
-
-      module _ (c : 2 ≤ length p) (r : ReadOut) (l′ : Areas) (e : comes r l′ ≡ outcome t l) where
-        -- ---- the answer
-        is-crossed : crosses (comes r l′) h x p ≡ read-crossed t l h x p
-        unfolding read-crossed
-        is-crossed = ap (λ o. crosses o h x p) e ∙ sym (pick-yes (decLe 44 (length h)) _ _ a ∙ pick-yes (decLe 124 (length x)) _ _ b ∙ pick-yes (decLe 2 (length p)) _ _ c)
-
-        pub cross-answer : {k : ℕ} {h′ : List ℤ} {x′ p′ : List ℕ} → k ≡ told-number (told (r .answer)) → h′ ≡ front (told-header (told (r .answer))) h
-            → x′ ≡ front (told-texts (told (r .answer)) (r .texts)) x → p′ ≡ front (told-place (told (r .answer))) p → crossed k l′ h′ x′ p′ ≡ read-crossed t l h x p
-        unfolding crosses
-        cross-answer n a b c = (λ i. crossed (n i) l′ (a i) (b i) (c i)) ∙ is-crossed
+    pub cross-answer : {k : ℕ} {h′ : List ℤ} {x′ p′ : List ℕ} → k ≡ told-number (told (r .answer)) → h′ ≡ front (told-header (told (r .answer))) h
+        → x′ ≡ front (told-texts (told (r .answer)) (r .texts)) x → p′ ≡ front (told-place (told (r .answer))) p → crossed k l′ h′ x′ p′ ≡ read-crossed t l h x p
+    unfolding crosses
+    cross-answer n a b c = (λ i. crossed (n i) l′ (a i) (b i) (c i)) ∙ is-crossed
 
 -- ---- a refusal brings no header record and no texts
 

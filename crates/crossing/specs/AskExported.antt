@@ -1,15 +1,16 @@
 -- Asking as it crosses to other languages: a number, and an area of the call's own for the value.
-use mathlib.Core.Path.{_≡_, refl}
+use mathlib.Core.Path.{_≡_, refl, sym, _∙_}
 use mathlib.Core.List.{List, [], _∷_}
-use Prim.Native.Nat.{ℕ, _≤_, _<_}
+use Prim.Native.Nat.{ℕ, _≤_}
 use native.Mathlib.Omega.{arith}
 use lib.IntN.{ℤ}
 use lib.ListN.{length}
 use Rattle.mapset.specs.Areas.{Areas}
-use Rattle.areas.specs.Stores.{front}
+use Rattle.kit.specs.Lists.{front}
 use Rattle.asker.specs.Ask.{Question, question, Told, tecu, km, refused, Answers}
 use Rattle.asker.specs.Once.{answers-once}
-use Rattle.numbers.specs.Given.{header-of, texts-of}
+use Rattle.given.specs.Given.{header-of, texts-of}
+use Rattle.crossing.specs.Own.{too-short}
 
 -- 0 for a value, or 01's number
 abbrev pub told-number : Told → ℕ
@@ -27,31 +28,17 @@ told-value (refused n) = []
 abbrev pub asks : List ℤ → List ℕ → Areas → ℕ → ℕ → ℕ → ℤ → ℤ → ℕ → Question
 asks h x a kind method layer lat lon second = question (header-of h) (texts-of x) a kind method layer lat lon second
 
--- the number answered, and what is then in the area for the value; an area of the call's own that is too short is told first, and nothing is written
+-- the number answered, and what is then in the area for the value
 pub data AskCrosses (h : List ℤ) (x : List ℕ) (q : Question) (v : List ℤ) : ℕ → List ℤ → Type 0 where
-  header-short : length h < 44 → AskCrosses h x q v 101 v
-  texts-short : 44 ≤ length h → length x < 124 → AskCrosses h x q v 102 v
-  value-short : 44 ≤ length h → 124 ≤ length x → length v < 1 → AskCrosses h x q v 103 v
-  answered : 44 ≤ length h → 124 ≤ length x → 1 ≤ length v → (a : Told) → Answers q a → AskCrosses h x q v (told-number a) (front (told-value a) v)
+  short : (k : ℕ) → k ≡ too-short (length h) (length x) (length v) 1 → 1 ≤ k → AskCrosses h x q v k v
+  answered : too-short (length h) (length x) (length v) 1 ≡ 0 → (a : Told) → Answers q a → AskCrosses h x q v (told-number a) (front (told-value a) v)
 
 -- no second number and no second content fits
 module _ (h : List ℤ) (x : List ℕ) (q : Question) (v : List ℤ) where
   pub ionex-ask-once : {n m : ℕ} {u w : List ℤ} → AskCrosses h x q v n u → AskCrosses h x q v m w → (n ≡ m) × (u ≡ w)
-  ionex-ask-once (header-short a) (header-short b) = (refl, refl)
-  ionex-ask-once (header-short a) (texts-short b c) = absurd (omega arith)
-  ionex-ask-once (header-short a) (value-short b c d) = absurd (omega arith)
-  ionex-ask-once (header-short a) (answered b c d t s) = absurd (omega arith)
-  ionex-ask-once (texts-short a b) (header-short c) = absurd (omega arith)
-  ionex-ask-once (texts-short a b) (texts-short c d) = (refl, refl)
-  ionex-ask-once (texts-short a b) (value-short c d e) = absurd (omega arith)
-  ionex-ask-once (texts-short a b) (answered c d e t s) = absurd (omega arith)
-  ionex-ask-once (value-short a b c) (header-short d) = absurd (omega arith)
-  ionex-ask-once (value-short a b c) (texts-short d e) = absurd (omega arith)
-  ionex-ask-once (value-short a b c) (value-short d e f) = (refl, refl)
-  ionex-ask-once (value-short a b c) (answered d e f t s) = absurd (omega arith)
-  ionex-ask-once (answered a b c t s) (header-short d) = absurd (omega arith)
-  ionex-ask-once (answered a b c t s) (texts-short d e) = absurd (omega arith)
-  ionex-ask-once (answered a b c t s) (value-short d e f) = absurd (omega arith)
-  ionex-ask-once (answered a b c t s) (answered d e f t′ s′) =
+  ionex-ask-once (short k e a) (short l f b) = (e ∙ sym f, refl)
+  ionex-ask-once (short k e a) (answered f t s) = absurd (omega (arith, e, f))
+  ionex-ask-once (answered e t s) (short k f a) = absurd (omega (arith, e, f))
+  ionex-ask-once (answered e t s) (answered f t′ s′) =
       let p = answers-once q t t′ s s′ in
       (λ i. told-number (p i), λ i. front (told-value (p i)) v)

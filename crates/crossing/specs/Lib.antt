@@ -1,4 +1,5 @@
 -- What crosses to other languages.
+pub mod Own
 pub mod ReadExported
 pub mod WriteExported
 pub mod AskExported

@@ -8,7 +8,7 @@ use lib.ListN.{length}
 use Rattle.kit.specs.Answer.{Answer, ok, refused}
 use Rattle.calendar.specs.Calendar.{DateAt, Later, Refusal, The}
 use Rattle.calendar.specs.declared.Epoch.{Epoch}
-use Rattle.areas.specs.Stores.{front}
+use Rattle.kit.specs.Lists.{front}
 
 -- t is the second of the date that comes `by` seconds after the date of second s
 pub record Moves (s : ℕ) (by : ℤ) (t : ℕ) : Type 0 where

@@ -2,17 +2,16 @@
 use mathlib.Core.Path.{_≡_, sym, _∙_}
 use mathlib.Core.List.{List, []}
 use Prim.Native.Nat.{ℕ, _<_}
-use native.Mathlib.Decide.{decLe}
 use lib.IntN.{ℤ}
 use lib.ListN.{length}
-use Rattle.kit.specs.Answer.{pick}
 use Rattle.mapset.specs.declared.Texts.{Texts}
 use Rattle.mapset.specs.Areas.{Areas}
-use Rattle.areas.specs.Stores.{front}
+use Rattle.kit.specs.Lists.{front}
 use Rattle.outcome.specs.Outcome.{Told, accepted, at-place, eleven, Outcome, outcome, told-number, told-place}
 use Rattle.outcome.specs.declared.Reading.{Reading}
 use Rattle.outcome.specs.declared.Reading.the-variants.{Accepted, Refused}
 use Rattle.numbers.specs.Numbers.{numbers, text-bytes}
+use Rattle.crossing.specs.Own.{too-short, unless}
 
 -- the header record and its texts; nothing on a refusal
 abbrev pub told-header : Told → List ℤ
@@ -45,12 +44,8 @@ unfoldable pub crosses : Outcome → List ℤ → List ℕ → List ℕ → Cros
 crosses o h x p =
     crossed (told-number (o .told)) (o .areas) (front (told-header (o .told)) h) (front (told-texts (o .told) (o .texts)) x) (front (told-place (o .told)) p)
 
--- an area of the call's own that is too short is told before the text is looked at, and nothing is written
 unfoldable pub read-crossed : List ℕ → Areas → List ℤ → List ℕ → List ℕ → Crossed
-read-crossed t l h x p =
-    pick (decLe 44 (length h))
-    (pick (decLe 124 (length x)) (pick (decLe 2 (length p)) (crosses (outcome t l) h x p) (crossed 103 l h x p)) (crossed 102 l h x p))
-    (crossed 101 l h x p)
+read-crossed t l h x p = unless (too-short (length h) (length x) (length p) 2) (crosses (outcome t l) h x p) (λ k. crossed k l h x p)
 
 -- no second answer
 pub ionex-read-once : (t : List ℕ) (l : Areas) (h : List ℤ) (x p : List ℕ) (a b : Crossed) → a ≡ read-crossed t l h x p → b ≡ read-crossed t l h x p → a ≡ b

@@ -2,14 +2,13 @@
 use mathlib.Core.Path.{_≡_, sym, _∙_}
 use mathlib.Core.List.{List, [], _∷_}
 use Prim.Native.Nat.{ℕ}
-use native.Mathlib.Decide.{decLe}
 use lib.IntN.{ℤ}
 use lib.ListN.{length}
-use Rattle.kit.specs.Answer.{pick}
 use Rattle.mapset.specs.Areas.{Areas}
-use Rattle.areas.specs.Stores.{front}
+use Rattle.kit.specs.Lists.{front}
 use Rattle.output.specs.Write.{Told, done, refused, written}
-use Rattle.numbers.specs.Given.{header-of, texts-of}
+use Rattle.given.specs.Given.{header-of, texts-of}
+use Rattle.crossing.specs.Own.{too-short, unless}
 
 -- 0 for done, or 01's number
 abbrev pub told-number : Told → ℕ
@@ -33,12 +32,9 @@ crossed n o c = record { number = n; out = o; count = c }
 unfoldable pub crosses : Told × List ℕ → List ℕ → Crossed
 crosses w c = crossed (told-number (w .0)) (w .1) (front (told-count (w .0)) c)
 
--- an area of the call's own that is too short is told first, and nothing is written
 unfoldable pub write-crossed : List ℤ → List ℕ → Areas → List ℕ → List ℕ → Crossed
 write-crossed h x a o c =
-    pick (decLe 44 (length h))
-    (pick (decLe 124 (length x)) (pick (decLe 1 (length c)) (crosses (written (header-of h) (texts-of x) a o) c) (crossed 103 o c)) (crossed 102 o c))
-    (crossed 101 o c)
+    unless (too-short (length h) (length x) (length c) 1) (crosses (written (header-of h) (texts-of x) a o) c) (λ k. crossed k o c)
 
 -- no second number and no second content fits
 pub ionex-write-once : (h : List ℤ) (x : List ℕ) (a : Areas) (o c : List ℕ) (p q : Crossed) → p ≡ write-crossed h x a o c → q ≡ write-crossed h x a o c → p ≡ q

@@ -3,11 +3,12 @@ ghost use mathlib.Core.Path.{_≡_};
 ghost use mathlib.Core.List.{[], _∷_};
 ghost use Prim.Native.Nat.{_≤_};
 ghost use lib.ListN.{length};
-ghost use Rattle.areas.specs.Stores.{front};
+ghost use Rattle.kit.specs.Lists.{front};
 ghost use Rattle.outcome.specs.Outcome.{told-number as read-number, told-place, told as told-read};
 ghost use Rattle.output.specs.Write.{done, told as told-written};
 ghost use Rattle.asker.specs.Ask.{told as told-asked, number, tecu};
 ghost use Rattle.calendar.specs.Calendar.{toldWhen};
+ghost use Rattle.crossing.specs.Own.{too-short};
 ghost use Rattle.crossing.specs.ReadExported.{told-header, told-texts, Small};
 ghost use Rattle.crossing.specs.WriteExported.{told-number as write-number, told-count};
 ghost use Rattle.crossing.specs.AskExported.{told-number as ask-number, told-value};
@@ -18,6 +19,24 @@ use calendar::When;
 use outcome::ReadOut;
 use outcome::Reading;
 use output::Written;
+
+// ---- The areas of a call's own
+
+// Of their lengths, and the elements of the result: 101, 102 or 103 for the first that is too short, or 0.
+pub fn too_short(header: usize, texts: usize, result: usize, elements: usize) -> u64
+    ensures { λ r. ⌜ r ≡ too-short header texts result elements ⌝ }
+{
+    if header < 44 {
+        return 101;
+    }
+    if texts < 124 {
+        return 102;
+    }
+    if result < elements {
+        return 103;
+    }
+    0
+}
 
 // ---- Reading
 

@@ -191,7 +191,7 @@ pub fn brought_by(s: State, line: &[u8]) -> Brought
     requires { ⌜ (length (now line) ≤ 80) × ((s .tecs < 9223372036854775808) × (s .done < 9223372036854775808)) ⌝ }
     ensures { λ r. ⌜ Takes s (pad (now (line .entry))) (r .event) (r .state) ⌝ }
 {
-    match layout::label_of(line) {
+    match labels::label_of(line) {
         19 => with_exponent(s, line),
         23 => start_tec(s),
         25 => start_other(s, line, Kind::Rms),

@@ -14,13 +14,14 @@ use forms::Triple;
 
 // ---- A field that is read
 
-fn is_digit(b: u8) -> bool
+pub fn is_digit(b: u8) -> bool
     ensures { λ r. ⌜ r ≡ isDigit b ⌝ }
 {
     (48 <= b) & (b <= 57)
 }
 
-fn may_precede(b: u8, next: u8) -> bool
+// Whether b may stand in a number right before the byte `next`.
+pub fn may_precede(b: u8, next: u8) -> bool
     ensures { λ r. ⌜ r ≡ mayPrecede b next ⌝ }
 {
     (b == b' ') | (((b == b'-') | is_digit(b)) & is_digit(next))
@@ -240,6 +241,32 @@ pub fn text_into(line: &[u8], a: usize, out: &mut [u8])
         out[i] = byte_at(line, a + i);
         i += 1;
     }
+}
+
+pub fn text20(line: &[u8], a: usize) -> [u8; 20]
+    requires { ⌜ a + 20 ≤ 80 ⌝ }
+    ensures { λ r. ⌜ r ≡ columns (now (line .entry)) a 20 ⌝ }
+{
+    let mut out = [b' '; 20];
+    text_into(line, a, &mut out);
+    out
+}
+
+pub fn text4(line: &[u8], a: usize) -> [u8; 4]
+    requires { ⌜ a + 4 ≤ 80 ⌝ }
+    ensures { λ r. ⌜ r ≡ columns (now (line .entry)) a 4 ⌝ }
+{
+    let mut out = [b' '; 4];
+    text_into(line, a, &mut out);
+    out
+}
+
+pub fn text60(line: &[u8]) -> [u8; 60]
+    ensures { λ r. ⌜ r ≡ columns (now (line .entry)) 0 60 ⌝ }
+{
+    let mut out = [b' '; 60];
+    text_into(line, 0, &mut out);
+    out
 }
 
 // Columns a + 1 to e must be blank: the first of them that is not.

@@ -37,7 +37,8 @@ use Rattle.reading.specs.RecordLaws.{cells-yields}
 use Rattle.reading.specs.Exact.{refused-unmade}
 use Rattle.rounding.specs.Round.{rounded}
 use Rattle.rounding.specs.RoundLaws.{round-nearest}
-use Rattle.nodes.specs.Value.{thousandths, Term, weighted, weight, Mean}
+use Rattle.nodes.specs.Value.{thousandths}
+use Rattle.sums.specs.Mean.{Term, weighted, weight, Mean}
 
 -- a row of the table
 pub data Figure : Type 0 where

@@ -7,13 +7,13 @@ use lib.ListN.{length, set, getD}
 use lib.Seq.{sets}
 use lib.IntN.{ℤ}
 use Rattle.kit.specs.Answer.{All}
-use Rattle.mapset.specs.Areas.{Areas}
+use Rattle.mapset.specs.Areas.{Areas, six}
 use Rattle.mapset.specs.declared.Kind.{Kind}
 use Rattle.mapset.specs.declared.Kind.the-variants.{Tec, Rms, Height}
 use Rattle.areas.specs.Stores.{first-of, before, with-mark, Inside, lengths, scanned}
 use Rattle.fill.specs.Rows.{Valued}
 use Rattle.events.specs.Brings.{tells, due}
-use Rattle.fill.specs.Scan.{Resumes, Resumed, six}
+use Rattle.fill.specs.Scan.{Resumes, Resumed}
 use Rattle.events.specs.declared.Event.{Event}
 use Rattle.events.specs.declared.Event.the-variants.{Nothing, Epoch, Marked, Block}
 

@@ -10,7 +10,7 @@ use Rattle.mapset.specs.declared.Kind.the-variants.{Tec, Rms, Height}
 use Rattle.mapset.specs.declared.Header.{Header}
 use Rattle.mapset.specs.Grid.{columns}
 use Rattle.mapset.specs.MapSet.{MapSet}
-use Rattle.mapset.specs.Areas.{Areas, Room}
+use Rattle.mapset.specs.Areas.{Areas, Room, six}
 use Rattle.mapset.specs.declared.Kind.{Kind}
 use mathlib.Core.Option.{some}
 use Rattle.layout.specs.Labels.{Label}
@@ -29,7 +29,6 @@ use Rattle.areas.specs.Scan.{Now, at-first, brought}
 use Rattle.areas.proofs.Needs.{needs}
 use Rattle.areas.proofs.Scanned.{maps-leave, maps-stay}
 use Rattle.fill.specs.Rows.{rows-of, due-behind, Valued}
-use Rattle.fill.specs.Scan.{six}
 use Rattle.fill.specs.Filled.{begun, Accepted, Enough}
 use Rattle.fill.proofs.FeedLaws.{rows-numbered}
 use Rattle.fill.proofs.Going.{Sized, as-long}

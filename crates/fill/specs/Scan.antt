@@ -3,8 +3,6 @@ use mathlib.Core.Path.{_≡_}
 use mathlib.Core.List.{List, _∷_}
 use Prim.Native.Nat.{ℕ, _≤_, _<_}
 use lib.ListN.{length}
-use lib.IntN.{ℤ}
-use Rattle.mapset.specs.Areas.{Areas}
 use Rattle.areas.specs.Scan.{Now, brought}
 use Rattle.fill.specs.Rows.{rows-from, Valued}
 use Rattle.events.specs.Brings.{due, Takes}
@@ -30,8 +28,3 @@ pub record Resumes (t : List ℕ) (at c r : ℕ) : Type 0 where
 pub record Resumed (t : List ℕ) (at C : ℕ) (ev : Event) (r : ℕ) : Type 0 where
   pub resumes : Resumes t at (due C ev) r
   pub still : ev ≡ Nothing → r ≡ at
-
--- ---- the lent areas as one
-
-abbrev pub six : (a b c d : List ℤ) (e f : List ℕ) → Areas
-six a b c d e f = record { tec = a; rms = b; height = c; exponents = d; epochs = e; marks = f }

@@ -7,14 +7,13 @@ ghost use lib.ListN.{length, getD};
 ghost use lib.IntN.{negsuc};
 ghost use Rattle.kit.specs.Answer.{refused};
 ghost use Rattle.kit.specs.Truth.{truth};
-ghost use Rattle.forms.specs.Columns.{columns};
 ghost use Rattle.mapset.specs.Header.{program, mapping, observables, starred};
 ghost use Rattle.layout.specs.Text.{pad};
 ghost use Rattle.layout.specs.Labels.{content};
 ghost use Rattle.reading.specs.Feed.{fault};
 ghost use Rattle.reading.specs.Head.{number-in, axis-in, counted-in, system-in, made, complete?};
 ghost use Rattle.reading.specs.Read.{nothing-yet};
-ghost use Rattle.records.specs.Records.{toldHeard, entry};
+ghost use Rattle.records.specs.Records.{toldHeard, entry, blank-to, first-of};
 ghost use Rattle.records.specs.Tables.{kind-of, Numbers};
 ghost use Rattle.gathered.specs.Got.{slots-of, told, kept};
 use forms::Found;
@@ -135,40 +134,14 @@ pub fn keep(s: State, i: usize, h: Heard) -> Stepped
     }
 }
 
-fn text20(line: &[u8], a: usize) -> [u8; 20]
-    requires { ⌜ a + 20 ≤ 80 ⌝ }
-    ensures { λ r. ⌜ r ≡ columns (now (line .entry)) a 20 ⌝ }
-{
-    let mut out = [b' '; 20];
-    fields::text_into(line, a, &mut out);
-    out
-}
-
-fn text4(line: &[u8], a: usize) -> [u8; 4]
-    requires { ⌜ a + 4 ≤ 80 ⌝ }
-    ensures { λ r. ⌜ r ≡ columns (now (line .entry)) a 4 ⌝ }
-{
-    let mut out = [b' '; 4];
-    fields::text_into(line, a, &mut out);
-    out
-}
-
-fn text60(line: &[u8]) -> [u8; 60]
-    ensures { λ r. ⌜ r ≡ columns (now (line .entry)) 0 60 ⌝ }
-{
-    let mut out = [b' '; 60];
-    fields::text_into(line, 0, &mut out);
-    out
-}
-
 // 3A20
 pub fn keep_program(s: State, line: &[u8]) -> Stepped
     requires { ⌜ length (now line) ≤ 80 ⌝ }
     ensures { λ r. ⌜ told r ≡ kept s 0 (entry program (pad (now (line .entry)))) ⌝ }
 {
-    let program = text20(line, 0);
-    let agency = text20(line, 20);
-    let date = text20(line, 40);
+    let program = fields::text20(line, 0);
+    let agency = fields::text20(line, 20);
+    let date = fields::text20(line, 40);
     let mut t = s;
     t.seen[0] = true;
     t.program = program;
@@ -180,26 +153,33 @@ pub fn keep_program(s: State, line: &[u8]) -> Stepped
     }
 }
 
+// Columns 1 and 2, and 7 to 60, must be blank: the first of them that is not.
+fn beside_mapping(line: &[u8]) -> Found
+    ensures { λ r. ⌜ r ≡ first-of (blank-to (now (line .entry)) 0 2) (blank-to (now (line .entry)) 6 60) ⌝ }
+{
+    match fields::first_not_blank(line, 0, 2) {
+        Found::At(column) => Found::At(column),
+        Found::Nowhere => fields::first_not_blank(line, 6, 60),
+    }
+}
+
 // 2X,A4,54X
 pub fn keep_mapping(s: State, line: &[u8]) -> Stepped
     requires { ⌜ length (now line) ≤ 80 ⌝ }
     ensures { λ r. ⌜ told r ≡ kept s 5 (entry mapping (pad (now (line .entry)))) ⌝ }
 {
-    match fields::first_not_blank(line, 0, 2) {
+    match beside_mapping(line) {
         Found::At(column) => refuse(s, 6, column as u64),
-        Found::Nowhere => match fields::first_not_blank(line, 6, 60) {
-            Found::At(column) => refuse(s, 6, column as u64),
-            Found::Nowhere => {
-                let mapping = text4(line, 2);
-                let mut t = s;
-                t.seen[5] = true;
-                t.mapping = mapping;
-                Stepped {
-                    next: Next::More,
-                    state: t,
-                }
+        Found::Nowhere => {
+            let mapping = fields::text4(line, 2);
+            let mut t = s;
+            t.seen[5] = true;
+            t.mapping = mapping;
+            Stepped {
+                next: Next::More,
+                state: t,
             }
-        },
+        }
     }
 }
 
@@ -208,7 +188,7 @@ pub fn keep_observables(s: State, line: &[u8]) -> Stepped
     requires { ⌜ length (now line) ≤ 80 ⌝ }
     ensures { λ r. ⌜ told r ≡ kept s 7 (entry observables (pad (now (line .entry)))) ⌝ }
 {
-    let observables = text60(line);
+    let observables = fields::text60(line);
     let mut t = s;
     t.seen[7] = true;
     t.observables = observables;

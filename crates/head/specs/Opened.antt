@@ -3,6 +3,7 @@ use mathlib.Core.Path.{_≡_}
 use mathlib.Core.List.{List, []}
 use Prim.Native.Nat.{ℕ, suc, _-_, _≤_, _<_}
 use lib.ListN.{length, take, drop, replicate}
+use lib.IntN.{ℤ}
 use Rattle.kit.specs.Answer.{Answer, refused, amap}
 use Rattle.kit.specs.Range.{Within}
 use Rattle.mapset.specs.declared.Header.{Header}
@@ -18,6 +19,8 @@ use Rattle.reading.specs.HeadLaws.{Got}
 use Rattle.reading.specs.declared.Place.the-variants.{Between}
 use Rattle.gathered.specs.Got.{slots-of, texts-of, mode}
 use Rattle.gathered.specs.declared.State.{State}
+use Rattle.gathered.specs.declared.Next.{Next}
+use Rattle.gathered.specs.declared.Next.the-variants as Next
 use Rattle.head.specs.declared.Ahead.{Ahead}
 use Rattle.head.specs.declared.Ahead.the-variants as Ahead
 use Rattle.head.specs.declared.Headed.{Headed}
@@ -91,6 +94,12 @@ pub record Stops (t : List ℕ) (c : ℕ) (s : State) (at n : ℕ) (s′ : State
 abbrev pub Passes : List ℕ → ℕ → State → ℕ → ℕ → Onward → State → Type 0
 Passes t c s at n (Onward.On at′ n′) s′ = Goes t c s at n s′ at′ n′
 Passes t c s at n (Onward.Stop a) s′ = Stops t c s at n s′ a
+
+-- what a row leads to, by what it does
+abbrev pub onward : Next → ℤ → ℕ → ℕ → Onward
+onward Next.More e at n = Onward.On at n
+onward (Next.Done h) e at n = Onward.Stop (Accepted h e at n)
+onward (Next.Refused k c) e at n = Onward.Stop (Refused k n c)
 
 -- ---- what is handed back
 

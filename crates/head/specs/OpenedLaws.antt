@@ -28,9 +28,11 @@ use Rattle.reading.specs.Head.{Turn, more, done, number-in, axis-in, made, made
 use Rattle.reading.specs.SlotLaws.{Fit, fit-no, fit, fit-none, complete-at}
 use Rattle.reading.specs.Read.{nothing-yet, code-of, begin, read}
 use Rattle.reading.specs.HeadLaws.{Got, Ends, fine-step}
-use Rattle.gathered.specs.Got.{slots-of, texts-of, mode, Went, went, ended, gone, stepped}
-use Rattle.head.specs.Opened.{LeadsRow, HeaderFits, Sound, opened, Goes, Stops, beside, Opens}
+use Rattle.gathered.specs.Got.{slots-of, texts-of, mode, Went, went, ended, gone, toldNext, stepped}
+use Rattle.head.specs.Opened.{LeadsRow, HeaderFits, Sound, opened, Goes, Stops, Passes, onward, beside, Opens}
 use Rattle.gathered.specs.declared.State.{State}
+use Rattle.gathered.specs.declared.Next.{Next}
+use Rattle.gathered.specs.declared.Next.the-variants as Next
 use Rattle.head.specs.declared.HeaderRead.{HeaderRead}
 use Rattle.head.specs.declared.Headed.{Headed}
 use Rattle.head.specs.declared.Headed.the-variants.{Refused, Accepted}
@@ -166,7 +168,7 @@ module _ (t : List ℕ) (c : ℕ) (s : State) (at n start end next m : ℕ) (z :
   abbrev turn : Answer Fault Turn
   turn = head-step c (mode (s .aux)) (s .exponent) (slots-of s) here
 
-  pub goes : (s′ : State) → ok (went (mode (s′ .aux)) (s′ .exponent) (slots-of s′)) ≡ stepped s c here → Goes t c s at n s′ next (m + 1)
+  goes : (s′ : State) → ok (went (mode (s′ .aux)) (s′ .exponent) (slots-of s′)) ≡ stepped s c here → Goes t c s at n s′ next (m + 1)
   unfolding stepped
   goes s′ q =
       let o = gone-ok c (slots-of s) (went (mode (s′ .aux)) (s′ .exponent) (slots-of s′)) turn q in
@@ -185,7 +187,7 @@ module _ (t : List ℕ) (c : ℕ) (s : State) (at n start end next m : ℕ) (z :
         got = yields turn (fine-step c (s .exponent) (slots-of s) g here (clean .0) (clean .1) (mode (s .aux))) k .0;
       }
 
-  pub stops-no : (s′ : State) (k l y : ℕ) → l ≡ m + 1 → refused (fault k y) ≡ stepped s c here → Stops t c s at n s′ (Refused k l y)
+  stops-no : (s′ : State) (k l y : ℕ) → l ≡ m + 1 → refused (fault k y) ≡ stepped s c here → Stops t c s at n s′ (Refused k l y)
   unfolding stepped opened
   stops-no s′ k l y e q =
       let o = gone-no c (slots-of s) (fault k y) turn q in
@@ -197,7 +199,7 @@ module _ (t : List ℕ) (c : ℕ) (s : State) (at n start end next m : ℕ) (z :
         sound = tt;
       }
 
-  pub stops-done : (s′ : State) (h : Header) (e : ℤ) → e ≡ s .exponent → ok (ended h (texts-of s′)) ≡ stepped s c here → Stops t c s at n s′ (Accepted h e next (m + 1))
+  stops-done : (s′ : State) (h : Header) (e : ℤ) → e ≡ s .exponent → ok (ended h (texts-of s′)) ≡ stepped s c here → Stops t c s at n s′ (Accepted h e next (m + 1))
   unfolding stepped opened
   stops-done s′ h e i q =
       let o = gone-ok c (slots-of s) (ended h (texts-of s′)) turn q in
@@ -212,6 +214,11 @@ module _ (t : List ℕ) (c : ℕ) (s : State) (at n start end next m : ℕ) (z :
             ∙ ap (λ (y : ℕ). amap (λ v. record { header = h; texts = texts-of s′; maps = v .1 }) (run h Between (record { exponent = e; epochs = []; rms = 0; height = 0 }) 0 (feed (suc y) (split (drop next t))))) (sym (add-one m));
         sound = record { header = subst HeaderFits (sym (w .1 .0)) (header-fits c (slots-of s) here g (f .1)); within = z .within; passed = omega arith };
       }
+
+  pub leads-on : (x : Next) (s′ : State) (e : ℤ) → e ≡ s .exponent → toldNext x s′ ≡ stepped s c here → Passes t c s at n (onward x e next (m + 1)) s′
+  leads-on Next.More s′ e i q = goes s′ q
+  leads-on (Next.Done h) s′ e i q = stops-done s′ h e i q
+  leads-on (Next.Refused k y) s′ e i q = stops-no s′ k (m + 1) y refl q
 
 -- ---- the header's start and end
 

@@ -11,7 +11,7 @@ ghost use Rattle.reading.specs.Head.{heading};
 ghost use Rattle.reading.specs.HeadLaws.{Got};
 ghost use Rattle.reading.specs.Read.{nothing-yet, read};
 ghost use Rattle.gathered.specs.Got.{slots-of, texts-of};
-ghost use Rattle.head.specs.Opened.{Leads, Passes, blank-texts, beside, Opens};
+ghost use Rattle.head.specs.Opened.{Leads, Passes, onward, blank-texts, beside, Opens};
 use super::Ahead;
 use super::Headed;
 use super::HeaderRead;
@@ -60,6 +60,17 @@ fn line_after(n: u64) -> u64
     18446744073709551615
 }
 
+// What a row leads to, by what it does to the header: the next line starts at `next`, after n lines.
+fn led_to(turn: Next, exponent: i32, next: usize, n: u64) -> Onward
+    ensures { λ r. ⌜ r ≡ onward turn exponent next n ⌝ }
+{
+    match turn {
+        Next::More => Onward::On(next, n),
+        Next::Done(header) => Onward::Stop(Headed::Accepted(header, exponent, next, n)),
+        Next::Refused(number, column) => Onward::Stop(Headed::Refused(number, n, column)),
+    }
+}
+
 // One row of the header, and what it leads to.
 fn pass(s: State, code: u32, text: &[u8], from: usize, passed: u64) -> Passed
     requires { ⌜ (from ≤ length (now text)) × (passed ≤ from) × Got (slots-of s) ⌝ }
@@ -78,19 +89,9 @@ fn pass(s: State, code: u32, text: &[u8], from: usize, passed: u64) -> Passed
             let r = headlines::step(s, code, &text[start..end]);
             let turn = r.next;
             let t = r.state;
-            match turn {
-                Next::More => Passed {
-                    onward: Onward::On(next, n + 1),
-                    state: t,
-                },
-                Next::Done(header) => Passed {
-                    onward: Onward::Stop(Headed::Accepted(header, s.exponent, next, n + 1)),
-                    state: t,
-                },
-                Next::Refused(number, column) => Passed {
-                    onward: Onward::Stop(Headed::Refused(number, n + 1, column)),
-                    state: t,
-                },
+            Passed {
+                onward: led_to(turn, s.exponent, next, n + 1),
+                state: t,
             }
         }
     }

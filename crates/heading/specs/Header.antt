@@ -1,10 +1,8 @@
 -- The rows of the header in groups, by the places of their labels in 01's list.
--- F8.1,52X; 3A20; 2X,A4,54X; A60; 5X,A1,I6,I6,42X
 use mathlib.Core.Bool.{Bool, true, false}
 use mathlib.Core.List.{List, [], _∷_, _++_}
 use Prim.Native.Nat.{ℕ}
 use lib.IntN.{pos}
-use lib.ListN.{getD}
 use Rattle.mapset.specs.declared.Axis.{Axis}
 use Rattle.mapset.specs.declared.Counted.{Counted}
 use Rattle.mapset.specs.declared.Header.{Header}
@@ -13,25 +11,10 @@ use Rattle.mapset.specs.declared.Grid.{Grid}
 use Rattle.mapset.specs.declared.System.{System}
 use Rattle.mapset.specs.declared.Systems.{Systems}
 use Rattle.mapset.specs.declared.Texts.{Texts}
-use Rattle.layout.specs.Records.{Item, I, F, X, A}
-use Rattle.layout.specs.Labels.{letters}
+use Rattle.layout.specs.Records.{X}
 use Rattle.writer.specs.Canon.{version-row, date-of, six}
 use Rattle.rowtext.specs.Rows.{row-at, whole, three, six-whole}
-
-abbrev pub eight : List Item
-eight = F 8 ∷ X 52 ∷ []
-
-abbrev pub twenties : List Item
-twenties = A 20 ∷ A 20 ∷ A 20 ∷ []
-
-abbrev pub four : List Item
-four = X 2 ∷ A 4 ∷ X 54 ∷ []
-
-abbrev pub sixty : List Item
-sixty = A 60 ∷ []
-
-abbrev pub letter-counts : List Item
-letter-counts = X 5 ∷ A 1 ∷ I 6 ∷ I 6 ∷ X 42 ∷ []
+use Rattle.headrows.specs.HeadRows.{tenths-row, program-row, mapping-row, observables-row, system-row}
 
 -- the row of a starred record, where it stands
 abbrev pub if-stands : Bool → List ℕ → List (List ℕ)
@@ -41,26 +24,11 @@ if-stands false r = []
 abbrev pub number-row : ℕ → ℕ → List ℕ
 number-row k n = row-at k whole (pos n, tt)
 
-abbrev pub tenths-row : ℕ → ℕ → List ℕ
-tenths-row k n = row-at k eight (pos n, tt)
-
 abbrev pub epoch-row : ℕ → ℕ → List ℕ
 epoch-row k t = row-at k six-whole (six (date-of t))
 
 abbrev pub axis-row : ℕ → Axis → List ℕ
 axis-row k a = row-at k three (a .first, (a .last, (a .step, tt)))
-
-abbrev pub program-row : Texts → List ℕ
-program-row t = row-at 1 twenties (t .program, (t .agency, (t .date, tt)))
-
-abbrev pub mapping-row : Texts → List ℕ
-mapping-row t = row-at 8 four (t .mapping, tt)
-
-abbrev pub observables-row : Texts → List ℕ
-observables-row t = row-at 10 sixty (t .observables, tt)
-
-abbrev pub system-row : ℕ → System → List ℕ
-system-row j s = row-at 13 letter-counts (getD letters j 0 ∷ [], (pos (s .stations), (pos (s .satellites), tt)))
 
 abbrev pub counted-rows : ℕ → Counted → List (List ℕ)
 counted-rows k c = if-stands (c .stands) (number-row k (c .count))

@@ -1,5 +1,4 @@
 // The header of canonical text: the version record, the records in the order of 01's table, END OF HEADER.
-ghost use mathlib.Core.Path.{_≡_};
 ghost use mathlib.Core.List.{[], _∷_};
 ghost use Prim.Native.Nat.{_<_, _^_};
 ghost use Rattle.mapset.specs.Header.{says};
@@ -8,6 +7,7 @@ ghost use Rattle.layout.specs.Labels.{header-end};
 ghost use Rattle.writer.specs.Canon as canon;
 ghost use Rattle.writer.specs.Canon.{row-of, head-rows, order};
 ghost use Rattle.rows.specs.Put.{Room, Put};
+ghost use Rattle.headrows.specs.HeadRows.{tenths-row};
 ghost use Rattle.heading.specs.Header as said;
 use mapset::Axis;
 use mapset::Counted;
@@ -17,89 +17,6 @@ use mapset::Model;
 use mapset::System;
 use mapset::Systems;
 use mapset::Texts;
-
-// In 01's order.
-const CODES: [[u8; 3]; 9] = [
-    *b"BEN",
-    *b"ENV",
-    *b"ERS",
-    *b"GEO",
-    *b"GNS",
-    *b"IRI",
-    *b"MIX",
-    *b"NNS",
-    *b"TOP",
-];
-
-const LETTERS: [u8; 7] = *b"GRECJIS";
-
-// ---- Rows
-
-// 1.1, then `IONOSPHERE MAPS` in columns 21 to 35, then the code.
-fn version_row(code: usize) -> [u8; 80]
-    requires { ⌜ code < 9 ⌝ }
-    ensures { λ r. ⌜ r ≡ canon.version-row code ⌝ }
-{
-    let text = CODES[code];
-    let mut row = rowtext::blank_row(0);
-    numerals::put_tenths(&mut row, 0, 8, 11);
-    rowtext::put_text(&mut row, 20, b"IONOSPHERE MAPS");
-    rowtext::put_text(&mut row, 40, &text);
-    row
-}
-
-fn program_row(t: Texts) -> [u8; 80]
-    ensures { λ r. ⌜ r ≡ said.program-row t ⌝ }
-{
-    let program = t.program;
-    let agency = t.agency;
-    let date = t.date;
-    let mut row = rowtext::blank_row(1);
-    rowtext::put_text(&mut row, 0, &program);
-    rowtext::put_text(&mut row, 20, &agency);
-    rowtext::put_text(&mut row, 40, &date);
-    row
-}
-
-fn mapping_row(t: Texts) -> [u8; 80]
-    ensures { λ r. ⌜ r ≡ said.mapping-row t ⌝ }
-{
-    let mapping = t.mapping;
-    let mut row = rowtext::blank_row(8);
-    rowtext::put_text(&mut row, 2, &mapping);
-    row
-}
-
-fn observables_row(t: Texts) -> [u8; 80]
-    ensures { λ r. ⌜ r ≡ said.observables-row t ⌝ }
-{
-    let observables = t.observables;
-    let mut row = rowtext::blank_row(10);
-    rowtext::put_text(&mut row, 0, &observables);
-    row
-}
-
-// F8.1,52X, of tenths.
-fn tenths_row(k: usize, n: u32) -> [u8; 80]
-    requires { ⌜ (k < 32) × (n < 2 ^ 31) ⌝ }
-    ensures { λ r. ⌜ r ≡ said.tenths-row k n ⌝ }
-{
-    let mut row = rowtext::blank_row(k);
-    numerals::put_tenths(&mut row, 0, 8, n as i32);
-    row
-}
-
-// The j-th letter in column 6, then its counts.
-fn system_row(j: usize, s: System) -> [u8; 80]
-    requires { ⌜ (j < 7) × (s .stations < 2 ^ 31) × (s .satellites < 2 ^ 31) ⌝ }
-    ensures { λ r. ⌜ r ≡ said.system-row j s ⌝ }
-{
-    let mut row = rowtext::blank_row(13);
-    row[5] = LETTERS[j];
-    numerals::put_int(&mut row, 6, 6, s.stations as i32);
-    numerals::put_int(&mut row, 12, 6, s.satellites as i32);
-    row
-}
 
 // ---- Records, each with where the next line starts
 
@@ -111,10 +28,10 @@ fn put_count(out: &mut [u8], at: usize, k: usize, n: u32) -> usize
 }
 
 fn put_tenths(out: &mut [u8], at: usize, k: usize, n: u32) -> usize
-    requires { ⌜ (k < 32) × (n < 2 ^ 31) × Room at (said.tenths-row k n ∷ []) ⌝ }
-    ensures { λ r. ⌜ Put (now (out .entry)) at (said.tenths-row k n ∷ []) (now (out .exit)) r ⌝ }
+    requires { ⌜ (k < 32) × (n < 2 ^ 31) × Room at (tenths-row k n ∷ []) ⌝ }
+    ensures { λ r. ⌜ Put (now (out .entry)) at (tenths-row k n ∷ []) (now (out .exit)) r ⌝ }
 {
-    let row = tenths_row(k, n);
+    let row = headrows::tenths_row(k, n);
     rows::put_line(out, at, &row)
 }
 
@@ -145,7 +62,7 @@ fn put_system(out: &mut [u8], at: usize, j: usize, s: System) -> usize
 {
     let stands = s.stands;
     if stands {
-        let row = system_row(j, s);
+        let row = headrows::system_row(j, s);
         return rows::put_line(out, at, &row);
     }
     at
@@ -157,8 +74,8 @@ fn put_first(out: &mut [u8], at: usize, header: Header, texts: Texts) -> usize
     requires { ⌜ HeaderSays header texts × Room at (said.first-rows header texts) ⌝ }
     ensures { λ r. ⌜ Put (now (out .entry)) at (said.first-rows header texts) (now (out .exit)) r ⌝ }
 {
-    let version = version_row(header.version.code as usize);
-    let program = program_row(texts);
+    let version = headrows::version_row(header.version.code as usize);
+    let program = headrows::program_row(texts);
     let a = rows::put_line(out, at, &version);
     let b = rows::put_line(out, a, &program);
     let c = rows::put_dated(out, b, 4, header.times.first);
@@ -171,8 +88,8 @@ fn put_middle(out: &mut [u8], at: usize, header: Header, texts: Texts) -> usize
     requires { ⌜ HeaderSays header texts × Room at (said.middle-rows header texts) ⌝ }
     ensures { λ r. ⌜ Put (now (out .entry)) at (said.middle-rows header texts) (now (out .exit)) r ⌝ }
 {
-    let mapping = mapping_row(texts);
-    let observables = observables_row(texts);
+    let mapping = headrows::mapping_row(texts);
+    let observables = headrows::observables_row(texts);
     let a = rows::put_line(out, at, &mapping);
     let b = put_tenths(out, a, 9, header.model.cutoff);
     let c = rows::put_line(out, b, &observables);

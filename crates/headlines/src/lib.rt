@@ -261,7 +261,7 @@ pub fn step(s: State, code: u32, line: &[u8]) -> Stepped
     requires { ⌜ length (now line) ≤ 80 ⌝ }
     ensures { λ r. ⌜ told r ≡ stepped s code (pad (now (line .entry))) ⌝ }
 {
-    let k = layout::label_of(line);
+    let k = labels::label_of(line);
     if s.aux {
         return in_aux(s, k);
     }

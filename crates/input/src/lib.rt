@@ -1,6 +1,6 @@
 // A text into six lent areas: judged first, and stored only where nothing is wrong and each area is long enough.
 ghost use mathlib.Core.Path.{_≡_};
-ghost use Rattle.fill.specs.Scan.{six};
+ghost use Rattle.mapset.specs.Areas.{six};
 ghost use Rattle.judging.specs.Scanned.{Accepts};
 ghost use Rattle.outcome.specs.Outcome.{outcome, comes};
 use judging::Judged;

@@ -1,11 +1,10 @@
 // The value at a place and second, and as other languages ask for it.
-ghost use Rattle.mapset.specs.Sound.{areas};
+ghost use Rattle.mapset.specs.Areas.{six};
 ghost use Rattle.asker.specs.Ask.{question, Answers, told};
 ghost use Rattle.crossing.specs.AskExported.{asks, AskCrosses};
 use asker::Asked;
 use mapset::Header;
 use mapset::Texts;
-use numbers::given;
 
 // The value at a place and second, in the kind's unit; or 23, 31, 20, 21 or 22, in this order.
 pub fn ask(
@@ -24,7 +23,7 @@ pub fn ask(
     lon: i32,
     second: u64,
 ) -> Asked
-    ensures { λ r. ⌜ Answers (question header texts (areas (now (tec .entry)) (now (rms .entry)) (now (height .entry)) (now (exponents .entry)) (now (epochs .entry)) (now (marks .entry))) kind method layer lat lon second) (told r) ⌝ }
+    ensures { λ r. ⌜ Answers (question header texts (six (now (tec .entry)) (now (rms .entry)) (now (height .entry)) (now (exponents .entry)) (now (epochs .entry)) (now (marks .entry))) kind method layer lat lon second) (told r) ⌝ }
 {
     asker::ask(
         header,
@@ -63,16 +62,11 @@ pub extern "C" fn ionex_ask(
     second: u64,
     value: &mut [i32],
 ) -> u64
-    ensures { λ r. ⌜ AskCrosses (now (header .entry)) (now (texts .entry)) (asks (now (header .entry)) (now (texts .entry)) (areas (now (tec .entry)) (now (rms .entry)) (now (height .entry)) (now (exponents .entry)) (now (epochs .entry)) (now (marks .entry))) kind method layer lat lon second) (now (value .entry)) r (now (value .exit)) ⌝ }
+    ensures { λ r. ⌜ AskCrosses (now (header .entry)) (now (texts .entry)) (asks (now (header .entry)) (now (texts .entry)) (six (now (tec .entry)) (now (rms .entry)) (now (height .entry)) (now (exponents .entry)) (now (epochs .entry)) (now (marks .entry))) kind method layer lat lon second) (now (value .entry)) r (now (value .exit)) ⌝ }
 {
-    if header.len() < 44 {
-        return 101;
-    }
-    if texts.len() < 124 {
-        return 102;
-    }
-    if value.len() < 1 {
-        return 103;
+    let short = crossing::too_short(header.len(), texts.len(), value.len(), 1);
+    if 0 < short {
+        return short;
     }
     let h = given::header_in(header);
     let x = given::texts_in(texts);

@@ -1,6 +1,6 @@
 // A text read, and as other languages have it read.
 ghost use mathlib.Core.Path.{_≡_};
-ghost use Rattle.fill.specs.Scan.{six};
+ghost use Rattle.mapset.specs.Areas.{six};
 ghost use Rattle.outcome.specs.Outcome.{outcome, comes};
 ghost use Rattle.crossing.specs.ReadExported.{crossed, read-crossed};
 use outcome::ReadOut;
@@ -38,14 +38,9 @@ pub extern "C" fn ionex_read(
     ensures { λ r. ⌜ crossed r (six (now (tec .exit)) (now (rms .exit)) (now (height .exit)) (now (exponents .exit)) (now (epochs .exit)) (now (marks .exit))) (now (header .exit)) (now (texts .exit)) (now (place .exit))
         ≡ read-crossed (now (text .entry)) (six (now (tec .entry)) (now (rms .entry)) (now (height .entry)) (now (exponents .entry)) (now (epochs .entry)) (now (marks .entry))) (now (header .entry)) (now (texts .entry)) (now (place .entry)) ⌝ }
 {
-    if header.len() < 44 {
-        return 101;
-    }
-    if texts.len() < 124 {
-        return 102;
-    }
-    if place.len() < 2 {
-        return 103;
+    let short = crossing::too_short(header.len(), texts.len(), place.len(), 2);
+    if 0 < short {
+        return short;
     }
     let r = read(text, tec, rms, height, exponents, epochs, marks);
     crossing::put_reading(r, header, texts, place)

@@ -2,12 +2,11 @@
 ghost use mathlib.Core.Path.{_≡_};
 ghost use mathlib.Core.List.{List};
 ghost use Prim.Native.Nat.{ℕ};
-ghost use Rattle.mapset.specs.Sound.{areas};
+ghost use Rattle.mapset.specs.Areas.{six};
 ghost use Rattle.output.specs.Write.{Told, told, written};
 ghost use Rattle.crossing.specs.WriteExported.{crossed, write-crossed};
 use mapset::Header;
 use mapset::Texts;
-use numbers::given;
 use output::Written;
 
 // The number of bytes, with the text in front of the output; or 31; or 30 with the bytes needed, found before a byte is written.
@@ -22,7 +21,7 @@ pub fn write(
     marks: &[u8],
     out: &mut [u8],
 ) -> Written
-    ensures { λ r. ⌜ _≡_ {A = Told × List ℕ} (told r, now (out .exit)) (written header texts (areas (now (tec .entry)) (now (rms .entry)) (now (height .entry)) (now (exponents .entry)) (now (epochs .entry)) (now (marks .entry))) (now (out .entry))) ⌝ }
+    ensures { λ r. ⌜ _≡_ {A = Told × List ℕ} (told r, now (out .exit)) (written header texts (six (now (tec .entry)) (now (rms .entry)) (now (height .entry)) (now (exponents .entry)) (now (epochs .entry)) (now (marks .entry))) (now (out .entry))) ⌝ }
 {
     output::write_text(
         header,
@@ -51,16 +50,11 @@ pub extern "C" fn ionex_write(
     out: &mut [u8],
     count: &mut [u64],
 ) -> u64
-    ensures { λ r. ⌜ crossed r (now (out .exit)) (now (count .exit)) ≡ write-crossed (now (header .entry)) (now (texts .entry)) (areas (now (tec .entry)) (now (rms .entry)) (now (height .entry)) (now (exponents .entry)) (now (epochs .entry)) (now (marks .entry))) (now (out .entry)) (now (count .entry)) ⌝ }
+    ensures { λ r. ⌜ crossed r (now (out .exit)) (now (count .exit)) ≡ write-crossed (now (header .entry)) (now (texts .entry)) (six (now (tec .entry)) (now (rms .entry)) (now (height .entry)) (now (exponents .entry)) (now (epochs .entry)) (now (marks .entry))) (now (out .entry)) (now (count .entry)) ⌝ }
 {
-    if header.len() < 44 {
-        return 101;
-    }
-    if texts.len() < 124 {
-        return 102;
-    }
-    if count.len() < 1 {
-        return 103;
+    let short = crossing::too_short(header.len(), texts.len(), count.len(), 1);
+    if 0 < short {
+        return short;
     }
     let h = given::header_in(header);
     let x = given::texts_in(texts);

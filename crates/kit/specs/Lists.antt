@@ -1,10 +1,10 @@
--- What holds of all elements of a list, and of each number below another.
+-- What holds of all elements of a list, and of each number below another; the front of an area.
 use mathlib.Core.Path.{_≡_}
 use mathlib.Core.List.{List, [], _∷_, _++_}
 use Prim.Native.Nat.{ℕ, zero, suc, _<_}
 use native.Mathlib.Omega.{arith}
 use native.Mathlib.Decide.{ℕ-discrete}
-use lib.ListN.{getD}
+use lib.ListN.{length, getD, drop}
 use Rattle.kit.specs.Answer.{All}
 
 module _ {A : Type 0} (P : A → Type 0) where
@@ -37,3 +37,7 @@ below P (suc n) u i h = by (ℕ-discrete i n) (below P n (u .1) i)
     by : Dec (i ≡ n) → (i < n → P i) → P i
     by (yes e) f = rw e (u .0)
     by (no k) f = f (omega arith)
+
+-- ---- the elements a in front of an area, and behind them what was there
+abbrev pub front : {A : Type 0} → List A → List A → List A
+front a l = a ++ drop (length a) l

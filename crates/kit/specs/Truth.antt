@@ -76,12 +76,12 @@ pub lt-tells : (m n : ℕ) → ltb m n ≡ truth (decLt m n)
 lt-tells m n = tells (ltb m n) (decLt m n) (ltb-true m n) (λ e h. omega (arith, ltb-false m n e))
 
 -- ---- all of a list, from an index on
-module _ {P : ℕ → Type 0} (d : (x : ℕ) → Dec (P x)) (s : List ℕ) (i : ℕ) where
-  pub all-next : i < length s → P (getD s i 0) → truth (all-dec d (drop i s)) ≡ truth (all-dec d (drop (i + 1) s))
-  all-next h p = rw (add-one, drop-cons s i 0 h) (truth-same (all-dec d (getD s i 0 ∷ drop (suc i) s)) (all-dec d (drop (suc i) s)) (λ a. a .1) (λ a. (p, a)))
+module _ {A : Type 0} (z : A) {P : A → Type 0} (d : (x : A) → Dec (P x)) (s : List A) (i : ℕ) where
+  pub all-next : i < length s → P (getD s i z) → truth (all-dec d (drop i s)) ≡ truth (all-dec d (drop (i + 1) s))
+  all-next h p = rw (add-one, drop-cons s i z h) (truth-same (all-dec d (getD s i z ∷ drop (suc i) s)) (all-dec d (drop (suc i) s)) (λ a. a .1) (λ a. (p, a)))
 
-  pub all-stop : i < length s → ¬ P (getD s i 0) → truth (all-dec d (drop i s)) ≡ false
-  all-stop h n = rw (drop-cons s i 0 h) (sym (fails (all-dec d (getD s i 0 ∷ drop (suc i) s)) (λ a. n (a .0))))
+  pub all-stop : i < length s → ¬ P (getD s i z) → truth (all-dec d (drop i s)) ≡ false
+  all-stop h n = rw (drop-cons s i z h) (sym (fails (all-dec d (getD s i z ∷ drop (suc i) s)) (λ a. n (a .0))))
 
   pub all-end : length s ≤ i → truth (all-dec d (drop i s)) ≡ true
   all-end h = rw (drop-of-length-le s h) (sym (holds (all-dec d []) tt))

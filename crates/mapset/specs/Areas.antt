@@ -23,6 +23,11 @@ pub record Areas : Type 0 where
   pub epochs : List ℕ
   pub marks : List ℕ
 
+-- the six, one after the other
+abbrev pub six : (tec rms height exponents : List ℤ) (epochs marks : List ℕ) → Areas
+six tec rms height exponents epochs marks =
+    record { tec = tec; rms = rms; height = height; exponents = exponents; epochs = epochs; marks = marks }
+
 -- ---- marks: 1 RMS, 2 height, 3 both, 0 neither; every TEC map is there
 abbrev pub Present : Kind → ℕ → Type 0
 Present Tec m = Unit {0}

@@ -161,10 +161,6 @@ lengths? h ms l =
     ×-dec (decLe (values h) (l .tec)) (×-dec (decLe (value-need K.Rms h ms) (l .rms)) (×-dec (decLe (value-need K.Height h ms) (l .height)) (decLe (3 * blocks h) (l .exponents))))
 
 -- ---- all of it
-abbrev pub areas : List ℤ → List ℤ → List ℤ → List ℤ → List ℕ → List ℕ → Areas
-areas tec rms height exponents epochs marks =
-    record { tec = tec; rms = rms; height = height; exponents = exponents; epochs = epochs; marks = marks }
-
 abbrev pub lengths : Areas → Lengths
 lengths a = record { tec = length (a .tec); rms = length (a .rms); height = length (a .height); exponents = length (a .exponents) }
 

@@ -229,7 +229,7 @@ fn role_of(line: &[u8]) -> Role
     requires { ⌜ length (now line) ≤ 80 ⌝ }
     ensures { λ r. ⌜ r ≡ role (F.label (pad (now (line .entry)))) ⌝ }
 {
-    let label = layout::label_of(line);
+    let label = labels::label_of(line);
     if 32 <= label {
         return Role::Unknown;
     }

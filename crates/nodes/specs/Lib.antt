@@ -1,4 +1,4 @@
--- The nodes of a question: their values, weights and sum.
+-- The value at one node.
 pub mod Value
-pub mod Sums
-pub mod SumLaws
+pub mod Nodes
+pub mod NodeLaws

@@ -1,2 +1,1 @@
 pub mod SetLaws
-pub mod GivenLaws

@@ -9,7 +9,7 @@ use mir.Syntax.{w64}
 use mir.Val.{toZ, ofZ, SFits}
 use mir.Facts.{toZ-ofZ}
 use lib.Seq.{sets, sets-eq, take-suc, length-take-le}
-use Rattle.areas.specs.Stores.{front}
+use Rattle.kit.specs.Lists.{front}
 
 module _ {A : Type 0} where
   pub sets-append : (xs ys l : List A) (p k : ℕ) → k ≡ p + length xs → sets (sets l p xs) k ys ≡ sets l p (xs ++ ys)

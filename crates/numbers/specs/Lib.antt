@@ -1,3 +1,2 @@
 -- The header record and its texts as numbers and bytes.
 pub mod Numbers
-pub mod Given

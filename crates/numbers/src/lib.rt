@@ -1,13 +1,11 @@
 // The header record as numbers, and its texts as bytes, in the areas of a caller in another language.
-pub mod given;
-
 ghost use mathlib.Core.Path.{_≡_};
 ghost use mathlib.Core.List.{[], _∷_};
 ghost use Prim.Native.Nat.{_+_, _≤_, _<_};
 ghost use lib.ListN.{length};
 ghost use lib.IntN.{pos};
 ghost use lib.Seq.{sets};
-ghost use Rattle.areas.specs.Stores.{front};
+ghost use Rattle.kit.specs.Lists.{front};
 ghost use Rattle.numbers.specs.Numbers.{flag, axis-numbers, counted-numbers, system-numbers, first-numbers, grid-numbers, starred-numbers, numbers, text-bytes};
 use mapset::Axis;
 use mapset::Counted;

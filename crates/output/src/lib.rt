@@ -2,7 +2,7 @@
 ghost use mathlib.Core.Path.{_≡_};
 ghost use mathlib.Core.List.{List};
 ghost use Prim.Native.Nat.{ℕ};
-ghost use Rattle.mapset.specs.Sound.{areas};
+ghost use Rattle.mapset.specs.Areas.{six};
 ghost use Rattle.areas.specs.Valid.{Valid};
 ghost use Rattle.areas.proofs.ValidFormed.{nested};
 ghost use Rattle.writer.specs.Canon.{canon-rows};
@@ -24,8 +24,8 @@ fn put_text(
     epochs: &[u64],
     marks: &[u8],
 ) -> usize
-    requires { ⌜ Valid header texts (areas (now tec) (now rms) (now height) (now exponents) (now epochs) (now marks)) × Room at (canon-rows (nested header texts (areas (now tec) (now rms) (now height) (now exponents) (now epochs) (now marks)))) ⌝ }
-    ensures { λ r. ⌜ Put (now (out .entry)) at (canon-rows (nested header texts (areas (now (tec .entry)) (now (rms .entry)) (now (height .entry)) (now (exponents .entry)) (now (epochs .entry)) (now (marks .entry))))) (now (out .exit)) r ⌝ }
+    requires { ⌜ Valid header texts (six (now tec) (now rms) (now height) (now exponents) (now epochs) (now marks)) × Room at (canon-rows (nested header texts (six (now tec) (now rms) (now height) (now exponents) (now epochs) (now marks)))) ⌝ }
+    ensures { λ r. ⌜ Put (now (out .entry)) at (canon-rows (nested header texts (six (now (tec .entry)) (now (rms .entry)) (now (height .entry)) (now (exponents .entry)) (now (epochs .entry)) (now (marks .entry))))) (now (out .exit)) r ⌝ }
 {
     let next = heading::put_header(out, at, header, texts);
     allmaps::put_maps(
@@ -60,7 +60,7 @@ pub fn write_text(
     marks: &[u8],
     out: &mut [u8],
 ) -> Written
-    ensures { λ r. ⌜ _≡_ {A = Told × List ℕ} (told r, now (out .exit)) (written header texts (areas (now (tec .entry)) (now (rms .entry)) (now (height .entry)) (now (exponents .entry)) (now (epochs .entry)) (now (marks .entry))) (now (out .entry))) ⌝ }
+    ensures { λ r. ⌜ _≡_ {A = Told × List ℕ} (told r, now (out .exit)) (written header texts (six (now (tec .entry)) (now (rms .entry)) (now (height .entry)) (now (exponents .entry)) (now (epochs .entry)) (now (marks .entry))) (now (out .entry))) ⌝ }
 {
     if !valid::valid(header, texts, tec, rms, height, exponents, epochs, marks) {
         return Written::Unsound;

@@ -2,8 +2,7 @@
 ghost use mathlib.Core.Path.{_≡_};
 ghost use Prim.Native.Nat.{_≤_};
 ghost use lib.ListN.{length};
-ghost use Rattle.mapset.specs.Sound.{areas};
-ghost use Rattle.fill.specs.Scan.{six};
+ghost use Rattle.mapset.specs.Areas.{six};
 ghost use Rattle.output.specs.Write.{told};
 ghost use Rattle.refusals.specs.Lines.{Begins};
 ghost use Rattle.printing.specs.Printed.{Stands, shown, canonical, answered, Had, printed};
@@ -40,7 +39,7 @@ fn put_canonical(
     out: &mut [u8],
 ) -> usize
     requires { ⌜ 128 ≤ length (now out) ⌝ }
-    ensures { λ r. ⌜ Begins (now (out .exit)) r (canonical (length (now (out .entry))) header texts (areas (now (tec .entry)) (now (rms .entry)) (now (height .entry)) (now (exponents .entry)) (now (epochs .entry)) (now (marks .entry)))) ⌝ }
+    ensures { λ r. ⌜ Begins (now (out .exit)) r (canonical (length (now (out .entry))) header texts (six (now (tec .entry)) (now (rms .entry)) (now (height .entry)) (now (exponents .entry)) (now (epochs .entry)) (now (marks .entry)))) ⌝ }
 {
     let written = output::write_text(
         header,
@@ -68,7 +67,7 @@ fn put_answer(
     out: &mut [u8],
 ) -> usize
     requires { ⌜ 128 ≤ length (now out) ⌝ }
-    ensures { λ r. ⌜ Begins (now (out .exit)) r (answered (length (now (out .entry))) (read .answer) (read .texts) (areas (now (tec .entry)) (now (rms .entry)) (now (height .entry)) (now (exponents .entry)) (now (epochs .entry)) (now (marks .entry)))) ⌝ }
+    ensures { λ r. ⌜ Begins (now (out .exit)) r (answered (length (now (out .entry))) (read .answer) (read .texts) (six (now (tec .entry)) (now (rms .entry)) (now (height .entry)) (now (exponents .entry)) (now (epochs .entry)) (now (marks .entry)))) ⌝ }
 {
     let reading = read.answer;
     match reading {

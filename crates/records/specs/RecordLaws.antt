@@ -41,7 +41,7 @@ use Rattle.layout.specs.Labels.{header-end, items}
 use Rattle.reading.specs.Feed.{Fault, fault}
 use Rattle.reading.specs.Fields.{number, blanks, blank, scan, fields}
 use Rattle.reading.specs.Head.{axis-of, meant}
-use Rattle.records.specs.Records.{int-in, tenths-in, version-in, system-in, axis-in, entry, toldHeard, unless, blank-to, alone-in, two-in, counts-after, ranged-in, judged-as}
+use Rattle.records.specs.Records.{int-in, tenths-in, version-in, system-in, axis-in, entry, toldHeard, unless, blank-to, first-of, alone-in, two-in, counts-after, ranged-in, judged-as}
 use Rattle.records.specs.declared.Heard.{Heard}
 use Rattle.records.specs.declared.Heard.the-variants as Heard
 
@@ -290,16 +290,13 @@ pub observables-says : (line : List ℕ) → length line ≤ 80 → entry observ
 unfolding entry meant bind amap
 observables-says line fits = ap (λ x. bind x (meant observables)) (read-is line fits (items observables) (omega arith))
 
-abbrev pub mapping-in : Found → List ℕ → Found → Answer Fault Said
-mapping-in f t g = unless f (unless g (ok (words (t ∷ []))))
-
-mapping-by : (f : Found) (t : List ℕ) (g : Found) → bind (unless f (amap (λ vs. (t, vs)) (unless g (ok tt)))) (meant mapping) ≡ mapping-in f t g
+mapping-by : (f : Found) (t : List ℕ) (g : Found) → bind (unless f (amap (λ vs. (t, vs)) (unless g (ok tt)))) (meant mapping) ≡ unless (first-of f g) (ok (words (t ∷ [])))
 unfolding bind amap meant
 mapping-by (At c) t g = refl
 mapping-by Nowhere t (At c) = refl
 mapping-by Nowhere t Nowhere = refl
 
-pub mapping-says : (line : List ℕ) → length line ≤ 80 → mapping-in (blank-to line 0 2) (columns line 2 4) (blank-to line 6 60) ≡ entry mapping (pad line)
+pub mapping-says : (line : List ℕ) → length line ≤ 80 → unless (first-of (blank-to line 0 2) (blank-to line 6 60)) (ok (words (columns line 2 4 ∷ []))) ≡ entry mapping (pad line)
 unfolding entry blank-to
 mapping-says line fits =
     sym (ap (λ x. bind x (meant mapping)) (read-is line fits (items mapping) (omega arith)) ∙ mapping-by (blank-to line 0 2) (columns line 2 4) (blank-to line 6 60))

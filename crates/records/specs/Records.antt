@@ -97,6 +97,10 @@ toldHeard k (Heard.Refused n c) = refused (fault n c)
 unfoldable pub blank-to : List ℕ → ℕ → ℕ → Found
 blank-to line a e = further (a + 1) (firstNotBlank (columns line a (e - a)))
 
+abbrev pub first-of : Found → Found → Found
+first-of (At c) g = At c
+first-of Nowhere g = g
+
 -- 6 there, else x
 abbrev pub unless : {A : Type 0} → Found → Answer Fault A → Answer Fault A
 unless (At c) x = refused (fault 6 c)

@@ -46,7 +46,7 @@ pub fn blank_row(k: usize) -> [u8; 80]
     requires { ⌜ k < 32 ⌝ }
     ensures { λ r. ⌜ r ≡ replicate 60 32 ++ getD names k [] ⌝ }
 {
-    let labels = layout::LABELS;
+    let labels = labels::LABELS;
     let label = labels[k];
     let mut row = [b' '; 80];
     put_text(&mut row, 60, &label);

@@ -19,17 +19,6 @@ use Rattle.mapset.specs.Areas.{Present}
 use Rattle.areas.specs.ValidDecided.{blank?}
 use Rattle.valid.specs.Groups.{least}
 
--- ---- all of a list
-module _ {A : Type 0} (z : A) {P : A → Type 0} (d : (x : A) → Dec (P x)) (s : List A) (i : ℕ) where
-  pub all-next : i < length s → P (getD s i z) → truth (all-dec d (drop i s)) ≡ truth (all-dec d (drop (i + 1) s))
-  all-next h p = rw (add-one, drop-cons s i z h) (truth-same (all-dec d (getD s i z ∷ drop (suc i) s)) (all-dec d (drop (suc i) s)) (λ a. a .1) (λ a. (p, a)))
-
-  pub all-stop : i < length s → ¬ P (getD s i z) → truth (all-dec d (drop i s)) ≡ false
-  all-stop h n = rw (drop-cons s i z h) (sym (fails (all-dec d (getD s i z ∷ drop (suc i) s)) (λ a. n (a .0))))
-
-  pub all-end : length s ≤ i → truth (all-dec d (drop i s)) ≡ true
-  all-end h = rw (drop-of-length-le s h) (sym (holds (all-dec d []) tt))
-
 -- ---- from v to v is v
 same-between : (v x : ℤ) → x ≡ v → Between v v x
 same-between v x e = rw e (record { from = le-parts v v (omega arith); to = le-parts v v (omega arith) })

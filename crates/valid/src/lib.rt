@@ -7,8 +7,7 @@ ghost use Rattle.kit.specs.Answer.{⊎-dec, all-dec, pick};
 ghost use Rattle.kit.specs.Integer.{int?, between?};
 ghost use Rattle.kit.specs.Truth.{truth};
 ghost use Rattle.mapset.specs.Grid.{layers, rows};
-ghost use Rattle.mapset.specs.Areas.{present?, nowhere?};
-ghost use Rattle.mapset.specs.Sound.{areas};
+ghost use Rattle.mapset.specs.Areas.{present?, nowhere?, six};
 ghost use Rattle.areas.specs.ValidDecided.{blank?};
 ghost use Rattle.valid.specs.Groups.{kind?, kind-need, Holds, rest?, Long, validity};
 ghost use Rattle.valid.specs.Groups as groups;
@@ -150,8 +149,8 @@ fn rest_fits(
     exponents: &[i32],
     marks: &[u8],
 ) -> bool
-    requires { ⌜ Long header (areas (now tec) (now rms) (now height) (now exponents) [] (now marks)) ⌝ }
-    ensures { λ r. ⌜ r ≡ truth (rest? header (areas (now (tec .entry)) (now (rms .entry)) (now (height .entry)) (now (exponents .entry)) [] (now (marks .entry)))) ⌝ }
+    requires { ⌜ Long header (six (now tec) (now rms) (now height) (now exponents) [] (now marks)) ⌝ }
+    ensures { λ r. ⌜ r ≡ truth (rest? header (six (now (tec .entry)) (now (rms .entry)) (now (height .entry)) (now (exponents .entry)) [] (now (marks .entry)))) ⌝ }
 {
     let maps = header.times.maps as usize;
     let blocks = per_map(header.grid);
@@ -198,7 +197,7 @@ pub fn valid(
     epochs: &[u64],
     marks: &[u8],
 ) -> bool
-    ensures { λ r. ⌜ r ≡ truth (validity header texts (areas (now (tec .entry)) (now (rms .entry)) (now (height .entry)) (now (exponents .entry)) (now (epochs .entry)) (now (marks .entry)))) ⌝ }
+    ensures { λ r. ⌜ r ≡ truth (validity header texts (six (now (tec .entry)) (now (rms .entry)) (now (height .entry)) (now (exponents .entry)) (now (epochs .entry)) (now (marks .entry)))) ⌝ }
 {
     if !soundness::sound(header, texts, tec, rms, height, exponents, epochs, marks) {
         return false;

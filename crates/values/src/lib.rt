@@ -2,7 +2,6 @@
 ghost use mathlib.Core.Path.{_≡_};
 ghost use Prim.Native.Nat.{_+_, _-_, _*_, _<_, _≤_};
 ghost use lib.ListN.{length, take, drop};
-ghost use Rattle.forms.specs.Bytes.{isDigit};
 ghost use Rattle.forms.specs.Read.{isNumber};
 ghost use Rattle.layout.specs.Text.{pad};
 ghost use Rattle.reading.specs.Fields.{cells};
@@ -73,16 +72,10 @@ fn cells_in(line: &[u8], m: usize) -> Cells
 pub const ENDS: [u8; 80] =
     *b"00001000010000100001000010000100001000010000100001000010000100001000010000100001";
 
-fn is_digit(b: u8) -> bool
-    ensures { λ r. ⌜ r ≡ isDigit b ⌝ }
-{
-    (48 <= b) & (b <= 57)
-}
-
 fn may_stand(b: u8, next: u8, last: bool) -> bool
     ensures { λ r. ⌜ r ≡ fits-as b next last ⌝ }
 {
-    (((b == b' ') | (((b == b'-') | is_digit(b)) & is_digit(next))) & !last) | (is_digit(b) & last)
+    (fields::may_precede(b, next) & !last) | (fields::is_digit(b) & last)
 }
 
 // Whether 16 bytes may stand in the columns from a on, each with the byte behind it. No branch per byte, so that vector code is made of it.

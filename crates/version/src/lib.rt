@@ -17,18 +17,6 @@ pub enum Coded {
     Refused(u64, u64),
 }
 
-const CODES: [[u8; 3]; 9] = [
-    *b"BEN",
-    *b"ENV",
-    *b"ERS",
-    *b"GEO",
-    *b"GNS",
-    *b"IRI",
-    *b"MIX",
-    *b"NNS",
-    *b"TOP",
-];
-
 // Whether columns 41 to 43 hold the k-th code.
 fn has_code(line: &[u8], k: usize) -> bool
     requires { ⌜ k < 9 ⌝ }
@@ -37,7 +25,8 @@ fn has_code(line: &[u8], k: usize) -> bool
     let a = fields::byte_at(line, 40);
     let b = fields::byte_at(line, 41);
     let c = fields::byte_at(line, 42);
-    (a == CODES[k][0]) & (b == CODES[k][1]) & (c == CODES[k][2])
+    let code = labels::CODES[k];
+    (a == code[0]) & (b == code[1]) & (c == code[2])
 }
 
 // The place of the code in 01's list, 9 where it is none of them.
@@ -77,7 +66,7 @@ pub fn version_code(line: &[u8]) -> Coded
     requires { ⌜ length (now line) ≤ 80 ⌝ }
     ensures { λ r. ⌜ toldCoded r ≡ code-of (pad (now (line .entry))) ⌝ }
 {
-    if layout::label_of(line) != 0 {
+    if labels::label_of(line) != 0 {
         return Coded::Refused(3, 61);
     }
     match content::version_record(line) {

@@ -6,7 +6,7 @@ use Prim.Native.Nat.{ℕ, zero, suc, _+_, _-_, _≤_, _<_}
 use native.Mathlib.Omega.{arith}
 use native.Mathlib.Decide.{ℕ-discrete, decLt}
 use lib.IntN.{ℤ}
-use lib.ListN.{length, getD, set, replicate, length-set}
+use lib.ListN.{length, getD, set, length-set}
 use lib.Seq.{getD-set-same, getD-set-other, set-getD}
 use Rattle.kit.specs.Answer.{All, pick-elim}
 use Rattle.kit.specs.Lists.{below}
@@ -164,6 +164,3 @@ stand-at (k ∷ ks) (none ∷ ss) (stand-none x) (suc i) = stand-at ks ss x i
 
 pub says-fit : (m : MapSet) → Stand contents (says (m .header) (m .texts)) → FitAll (says (m .header) (m .texts))
 says-fit m s i = stand-at contents (says (m .header) (m .texts)) s i
-
-pub all-clear : (m : MapSet) → clear order (says (m .header) (m .texts)) ≡ replicate 22 none
-all-clear m = refl

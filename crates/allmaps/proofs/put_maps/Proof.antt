@@ -1,21 +1,20 @@
 -- `allmaps::put_maps` meets its contract.
 use borrow.Author.Needs.{needs}
-use mathlib.Core.Path.{_≡_, refl, sym, ap, ap₂, _∙_}
+use mathlib.Core.Path.{_≡_, refl, ap, ap₂, _∙_}
 use mathlib.Core.List.{List, [], _∷_, _++_}
 use native.Mathlib.Omega.{arith}
 use native.Mathlib.Nat.{mul-le-mul}
 use Prim.Native.Nat.{ℕ, _+_, _*_, _≤_}
 use lib.IntN.{ℤ, negsuc}
-use lib.ListN.{length, take}
-use lib.Seq.{length-take-le}
+use lib.ListN.{length}
 use denote.Ref.{now}
 use mir.Syntax.{w32}
 use mir.Val.{toZ, ofZ}
 use mir.Facts.{toZ-ofZ}
 use Rattle.mapset.specs.declared.Kind.the-variants as K
-use Rattle.mapset.specs.Areas.{Areas, blocks}
-use Rattle.mapset.specs.Sound.{areas}
+use Rattle.mapset.specs.Areas.{Areas, blocks, six}
 use Rattle.layout.specs.Labels.{file-end}
+use Rattle.layout.specs.Layout.{per-map}
 use Rattle.writer.specs.Canon.{row-of}
 use Rattle.rows.specs.Put.{Leads}
 use Rattle.rows.specs.PutLaws.{room-front, leads-self, leads-on}
@@ -28,7 +27,7 @@ use Rattle.allmaps.proofs.put_maps.Tie as tie
 
 module _ (s : tie.Start) where
   abbrev a : Areas
-  a = areas (now (s .args .tec)) (now (s .args .rms)) (now (s .args .height)) (now (s .args .exponents)) (now (s .args .epochs)) (now (s .args .marks))
+  a = six (now (s .args .tec)) (now (s .args .rms)) (now (s .args .height)) (now (s .args .exponents)) (now (s .args .epochs)) (now (s .args .marks))
 
   -- the exponents in force after TEC maps and after RMS maps
   abbrev k1 : ℤ
@@ -46,12 +45,6 @@ module _ (s : tie.Start) where
   abbrev others : List (List ℕ)
   others = area-rows (s .args .header) a K.Rms k1 ++ heights
 
-  epochs-held : s .args .header .times .maps ≡ length (take (s .args .header .times .maps) (now (s .args .epochs)))
-  epochs-held = sym (length-take-le (s .args .header .times .maps) (now (s .args .epochs)) (s .pre .epochs))
-
-  marks-held : s .args .header .times .maps ≡ length (take (s .args .header .times .maps) (now (s .args .marks)))
-  marks-held = sym (length-take-le (s .args .header .times .maps) (now (s .args .marks)) (s .pre .long .marks))
-
 module _ (p : tie.After-per-map) where
   abbrev s : tie.Start
   s = p .before .before .before .before .before
@@ -65,49 +58,53 @@ module _ (p : tie.After-per-map) where
   two-is : s .args .header .times .maps * p .per-map .result + s .args .header .times .maps * p .per-map .result ≡ blocks (s .args .header) + blocks (s .args .header)
   two-is = ap₂ (λ (x y : ℕ). x + y) all-is all-is
 
+  -- the counts that each kind is put by
+  held : (p .per-map .result ≡ per-map (s .args .header)) × (s .args .header .times .maps ≤ length (now (s .args .epochs))) × (s .args .header .times .maps ≤ length (now (s .args .marks)))
+  held = (p .per-map .ensures, s .pre .epochs, s .pre .long .marks)
+
 -- ---- after the TEC maps
-module _ (c : tie.After-put-part) where
+module _ (c : tie.After-put-kind) where
   abbrev p1 : tie.After-per-map
-  p1 = c .before .before .before .before
+  p1 = c .before .before
 
-  tec : PutTo (now (s p1 .args .out)) (s p1 .args .at) (area-rows (s p1 .args .header) (a (s p1)) K.Tec (negsuc 0)) (k1 (s p1)) (c .put-part .last .0) (c .put-part .result)
-  tec = area-put (s p1 .args .header) (a (s p1)) (s p1 .pre .long) (s p1 .pre .epochs) K.Tec (negsuc 0) (negsuc 0) 0 refl refl (c .put-part .ensures)
+  tec : PutTo (now (s p1 .args .out)) (s p1 .args .at) (area-rows (s p1 .args .header) (a (s p1)) K.Tec (negsuc 0)) (k1 (s p1)) (c .put-kind .last .0) (c .put-kind .result)
+  tec = area-put (s p1 .args .header) (a (s p1)) (s p1 .pre .long) K.Tec (negsuc 0) (negsuc 0) 0 refl refl (c .put-kind .ensures)
 
-  lead1 : Leads (now (s p1 .args .out)) (s p1 .args .at) (all-rows (s p1 .args .header) (a (s p1))) (c .put-part .last .0) (c .put-part .result .at) (others (s p1))
+  lead1 : Leads (now (s p1 .args .out)) (s p1 .args .at) (all-rows (s p1 .args .header) (a (s p1))) (c .put-kind .last .0) (c .put-kind .result .at) (others (s p1))
   lead1 = leads-on (area-rows (s p1 .args .header) (a (s p1)) K.Tec (negsuc 0)) (others (s p1)) leads-self (tec .put)
 
-force1 : (c : tie.After-struct-told) → toZ w32 (ofZ w32 (c .before .before .before .before .before .before .put-part .result .exponent)) ≡ k1 (s (p1 (c .before .before .before .before .before .before)))
-force1 c = toZ-ofZ (record { sfits = c .struct-told .given .1 .0 .1 }) ∙ tec (c .before .before .before .before .before .before) .force
+force1 : (c : tie.After-struct-told) → toZ w32 (ofZ w32 (c .before .before .before .before .put-kind .result .exponent)) ≡ k1 (s (p1 (c .before .before .before .before)))
+force1 c = toZ-ofZ (record { sfits = c .struct-told .given .1 .0 .1 }) ∙ tec (c .before .before .before .before) .force
 
 -- ---- after the RMS maps
-module _ (c : tie.After-put-part2) where
-  abbrev c1 : tie.After-put-part
-  c1 = c .before .before .before .before .before .before .before
+module _ (c : tie.After-put-kind2) where
+  abbrev c1 : tie.After-put-kind
+  c1 = c .before .before .before .before .before
 
   abbrev p2 : tie.After-per-map
   p2 = p1 c1
 
-  rms : PutTo (c1 .put-part .last .0) (c1 .put-part .result .at) (area-rows (s p2 .args .header) (a (s p2)) K.Rms (k1 (s p2))) (k2 (s p2)) (c .put-part2 .last .0) (c .put-part2 .result)
-  rms = area-put (s p2 .args .header) (a (s p2)) (s p2 .pre .long) (s p2 .pre .epochs) K.Rms (k1 (s p2)) _ _ (force1 (c .before)) (all-is p2) (c .put-part2 .ensures)
+  rms : PutTo (c1 .put-kind .last .0) (c1 .put-kind .result .at) (area-rows (s p2 .args .header) (a (s p2)) K.Rms (k1 (s p2))) (k2 (s p2)) (c .put-kind2 .last .0) (c .put-kind2 .result)
+  rms = area-put (s p2 .args .header) (a (s p2)) (s p2 .pre .long) K.Rms (k1 (s p2)) _ _ (force1 (c .before)) (all-is p2) (c .put-kind2 .ensures)
 
-  lead2 : Leads (now (s p2 .args .out)) (s p2 .args .at) (all-rows (s p2 .args .header) (a (s p2))) (c .put-part2 .last .0) (c .put-part2 .result .at) (heights (s p2))
+  lead2 : Leads (now (s p2 .args .out)) (s p2 .args .at) (all-rows (s p2 .args .header) (a (s p2))) (c .put-kind2 .last .0) (c .put-kind2 .result .at) (heights (s p2))
   lead2 = leads-on (area-rows (s p2 .args .header) (a (s p2)) K.Rms (k1 (s p2))) (heights (s p2)) (lead1 c1) (rms .put)
 
-force2 : (c : tie.After-struct-told2) → toZ w32 (ofZ w32 (c .before .before .before .before .before .before .put-part2 .result .exponent)) ≡ k2 (s (p2 (c .before .before .before .before .before .before)))
-force2 c = toZ-ofZ (record { sfits = c .struct-told2 .given .1 .0 .1 }) ∙ rms (c .before .before .before .before .before .before) .force
+force2 : (c : tie.After-struct-told2) → toZ w32 (ofZ w32 (c .before .before .before .before .put-kind2 .result .exponent)) ≡ k2 (s (p2 (c .before .before .before .before)))
+force2 c = toZ-ofZ (record { sfits = c .struct-told2 .given .1 .0 .1 }) ∙ rms (c .before .before .before .before) .force
 
 -- ---- after the height maps
-module _ (c : tie.After-put-part3) where
-  abbrev c2 : tie.After-put-part2
-  c2 = c .before .before .before .before .before .before .before
+module _ (c : tie.After-put-kind3) where
+  abbrev c2 : tie.After-put-kind2
+  c2 = c .before .before .before .before .before
 
   abbrev p3 : tie.After-per-map
   p3 = p2 c2
 
-  height : PutTo (c2 .put-part2 .last .0) (c2 .put-part2 .result .at) (area-rows (s p3 .args .header) (a (s p3)) K.Height (k2 (s p3))) (area-force (s p3 .args .header) (a (s p3)) K.Height (k2 (s p3))) (c .put-part3 .last .0) (c .put-part3 .result)
-  height = area-put (s p3 .args .header) (a (s p3)) (s p3 .pre .long) (s p3 .pre .epochs) K.Height (k2 (s p3)) _ _ (force2 (c .before)) (two-is p3) (c .put-part3 .ensures)
+  height : PutTo (c2 .put-kind2 .last .0) (c2 .put-kind2 .result .at) (area-rows (s p3 .args .header) (a (s p3)) K.Height (k2 (s p3))) (area-force (s p3 .args .header) (a (s p3)) K.Height (k2 (s p3))) (c .put-kind3 .last .0) (c .put-kind3 .result)
+  height = area-put (s p3 .args .header) (a (s p3)) (s p3 .pre .long) K.Height (k2 (s p3)) _ _ (force2 (c .before)) (two-is p3) (c .put-kind3 .ensures)
 
-  lead3 : Leads (now (s p3 .args .out)) (s p3 .args .at) (all-rows (s p3 .args .header) (a (s p3))) (c .put-part3 .last .0) (c .put-part3 .result .at) (last-row (s p3))
+  lead3 : Leads (now (s p3 .args .out)) (s p3 .args .at) (all-rows (s p3 .args .header) (a (s p3))) (c .put-kind3 .last .0) (c .put-kind3 .result .at) (last-row (s p3))
   lead3 = leads-on (area-rows (s p3 .args .header) (a (s p3)) K.Height (k2 (s p3))) (last-row (s p3)) (lead2 c2) (height .put)
 
 cast-maps : tie.Need-cast-maps
@@ -119,43 +116,25 @@ per-map-requires c κs = let f = c .before .before .before .before .pre .ready .
 mul-all : tie.Need-mul-all
 mul-all c = omega (arith, all-is c, few c)
 
-slice-aggregate-put-part : tie.Need-slice-aggregate-put-part
-slice-aggregate-put-part c = epochs-held (c .before .before .before .before .before .before .before)
+put-kind-requires : tie.Need-put-kind-requires
+put-kind-requires c κs =
+    let p = c .before in
+    (area-ready (s p .args .header) (a (s p)) (s p .pre .long) K.Tec (negsuc 0) (negsuc 0) 0 refl refl (s p .pre .ready .fine) (room-front (area-rows (s p .args .header) (a (s p)) K.Tec (negsuc 0)) (others (s p)) (s p .pre .ready .room)), held p)
 
-slice-aggregate-put-part-2 : tie.Need-slice-aggregate-put-part-2
-slice-aggregate-put-part-2 c = marks-held (c .before .before .before .before .before .before .before .before)
-
-put-part-requires : tie.Need-put-part-requires
-put-part-requires c κs =
-    let p = c .before .before .before in
-    area-ready (s p .args .header) (a (s p)) (s p .pre .long) (s p .pre .epochs) K.Tec (negsuc 0) (negsuc 0) 0 refl refl (s p .pre .ready .fine) (room-front (area-rows (s p .args .header) (a (s p)) K.Tec (negsuc 0)) (others (s p)) (s p .pre .ready .room))
-
-slice-aggregate-put-part-3 : tie.Need-slice-aggregate-put-part-3
-slice-aggregate-put-part-3 c = epochs-held (c .before .before .before .before .before .before .before .before .before .before .before .before .before)
-
-slice-aggregate-put-part-4 : tie.Need-slice-aggregate-put-part-4
-slice-aggregate-put-part-4 c = marks-held (c .before .before .before .before .before .before .before .before .before .before .before .before .before .before)
-
-put-part-requires-2 : tie.Need-put-part-requires-2
-put-part-requires-2 c κs =
-    let d = c .before .before .before .before .before .before in
+put-kind-requires-2 : tie.Need-put-kind-requires-2
+put-kind-requires-2 c κs =
+    let d = c .before .before .before .before in
     let p = p1 d in
-    area-ready (s p .args .header) (a (s p)) (s p .pre .long) (s p .pre .epochs) K.Rms (k1 (s p)) _ _ (force1 c) (all-is p) (s p .pre .ready .fine) (room-front (area-rows (s p .args .header) (a (s p)) K.Rms (k1 (s p))) (heights (s p)) (lead1 d .room (s p .pre .ready .room)))
+    (area-ready (s p .args .header) (a (s p)) (s p .pre .long) K.Rms (k1 (s p)) _ _ (force1 c) (all-is p) (s p .pre .ready .fine) (room-front (area-rows (s p .args .header) (a (s p)) K.Rms (k1 (s p))) (heights (s p)) (lead1 d .room (s p .pre .ready .room))), held p)
 
-slice-aggregate-put-part-5 : tie.Need-slice-aggregate-put-part-5
-slice-aggregate-put-part-5 c = epochs-held (c .before .before .before .before .before .before .before .before .before .before .before .before .before .before .before .before .before .before .before .before)
+add-put-kind : tie.Need-add-put-kind
+add-put-kind c = let p = p2 (c .before .before .before) in omega (arith, all-is p, few p)
 
-slice-aggregate-put-part-6 : tie.Need-slice-aggregate-put-part-6
-slice-aggregate-put-part-6 c = marks-held (c .before .before .before .before .before .before .before .before .before .before .before .before .before .before .before .before .before .before .before .before .before)
-
-add-put-part : tie.Need-add-put-part
-add-put-part c = let p = c .before .before .before .before .before .before .before .before .before .before .before .before .before .before .before .before in omega (arith, all-is p, few p)
-
-put-part-requires-3 : tie.Need-put-part-requires-3
-put-part-requires-3 c κs =
-    let d = c .before .before .before .before .before .before in
+put-kind-requires-3 : tie.Need-put-kind-requires-3
+put-kind-requires-3 c κs =
+    let d = c .before .before .before .before in
     let p = p2 d in
-    area-ready (s p .args .header) (a (s p)) (s p .pre .long) (s p .pre .epochs) K.Height (k2 (s p)) _ _ (force2 c) (two-is p) (s p .pre .ready .fine) (room-front (area-rows (s p .args .header) (a (s p)) K.Height (k2 (s p))) (last-row (s p)) (lead2 d .room (s p .pre .ready .room)))
+    (area-ready (s p .args .header) (a (s p)) (s p .pre .long) K.Height (k2 (s p)) _ _ (force2 c) (two-is p) (s p .pre .ready .fine) (room-front (area-rows (s p .args .header) (a (s p)) K.Height (k2 (s p))) (last-row (s p)) (lead2 d .room (s p .pre .ready .room))), held p)
 
 put-file-end-requires : tie.Need-put-file-end-requires
 put-file-end-requires c κs = let d = c .before .before .before in lead3 d .room (s (p3 d) .pre .ready .room)
@@ -173,16 +152,10 @@ put-maps-spec =
     cast-maps
     per-map-requires
     mul-all
-    slice-aggregate-put-part
-    slice-aggregate-put-part-2
-    put-part-requires
-    slice-aggregate-put-part-3
-    slice-aggregate-put-part-4
-    put-part-requires-2
-    slice-aggregate-put-part-5
-    slice-aggregate-put-part-6
-    add-put-part
-    put-part-requires-3
+    put-kind-requires
+    put-kind-requires-2
+    add-put-kind
+    put-kind-requires-3
     put-file-end-requires
     same-length
     returns)

@@ -8,8 +8,7 @@ use denote.Ref.{now}
 use mir.Facts.{toZ-ofZ}
 use Rattle.kit.specs.Truth.{truth-true, truth-false}
 use Rattle.mapset.specs.Grid.{layers}
-use Rattle.mapset.specs.Areas.{Sound}
-use Rattle.mapset.specs.Sound.{areas}
+use Rattle.mapset.specs.Areas.{Sound, six}
 use Rattle.cells.specs.Place.{InCell100}
 use Rattle.cells.specs.Found.{CellFound}
 use Rattle.cells.specs.declared.Cell.{Cell}
@@ -23,7 +22,7 @@ use Rattle.asker.proofs.ask.Tie as tie
 abbrev q : tie.Start → Question
 q s =
     let a = s .args in
-    question (a .header) (a .texts) (areas (now (a .tec)) (now (a .rms)) (now (a .height)) (now (a .exponents)) (now (a .epochs)) (now (a .marks))) (a .kind) (a .method) (a .layer) (a .lat) (a .lon) (a .second)
+    question (a .header) (a .texts) (six (now (a .tec)) (now (a .rms)) (now (a .height)) (now (a .exponents)) (now (a .epochs)) (now (a .marks))) (a .kind) (a .method) (a .layer) (a .lat) (a .lon) (a .second)
 
 -- what held at each test that was passed
 known : (c : tie.Else2) → Known (q (c .before .before .before .before))

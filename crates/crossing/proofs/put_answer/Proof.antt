@@ -2,7 +2,7 @@ use mathlib.Core.Path.{_≡_, refl, ap, _∙_}
 use mathlib.Core.List.{[], _∷_}
 use mir.Syntax.{w32}
 use mir.Val.{toZ, ofZ}
-use Rattle.areas.specs.Stores.{front}
+use Rattle.kit.specs.Lists.{front}
 use borrow.Author.Needs.{needs}
 use Rattle.crossing.proofs.put_answer.Statement.{statement}
 use Rattle.crossing.proofs.put_answer.Tie as tie

@@ -1,5 +1,5 @@
 use mathlib.Core.Path.{refl, ap, _∙_}
-use Rattle.areas.specs.Stores.{front}
+use Rattle.kit.specs.Lists.{front}
 use Rattle.crossing.proofs.ReadLaws.{no-header, no-texts}
 use borrow.Author.Needs.{needs}
 use Rattle.crossing.proofs.put_reading.Statement.{statement}

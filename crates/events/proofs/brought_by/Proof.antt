@@ -10,7 +10,7 @@ use Rattle.events.proofs.start_other.Reads as start-other-reads
 use Rattle.events.proofs.start_tec.Reads as start-tec-reads
 use Rattle.events.proofs.with_epoch.Reads as with-epoch-reads
 use Rattle.events.proofs.with_exponent.Reads as with-exponent-reads
-use Rattle.layout.proofs.label_of.Reads as label-of-reads
+use Rattle.labels.proofs.label_of.Reads as label-of-reads
 
 label-of-requires : tie.Need-label-of-requires
 label-of-requires c κs = search needs

@@ -4,7 +4,7 @@ use Prim.Native.Nat.{_*_}
 use lib.ListN.{length, drop}
 use lib.IntN.{negsuc}
 use mir.Facts.{toZ-ofZ}
-use Rattle.fill.specs.Scan.{six}
+use Rattle.mapset.specs.Areas.{six}
 use Rattle.fill.proofs.Whole.{fill-length, ready-cleared, values-there, all-filled}
 use borrow.Author.Needs.{needs}
 use Rattle.fill.proofs.fill_maps.Statement.{statement}

@@ -9,7 +9,7 @@ use borrow.Author.Needs.{needs}
 use Rattle.areas.specs.Stores.{lengths, scanned}
 use Rattle.areas.specs.Scan.{at-first, brought}
 use Rattle.fill.specs.Rows.{rows-from}
-use Rattle.fill.specs.Scan.{six}
+use Rattle.mapset.specs.Areas.{six}
 use Rattle.fill.proofs.Going.{Going, going-start, going-sized, going-turned, going-more, going-done, inside-now, weight, lighter}
 use Rattle.fill.proofs.scan.Statement.{statement}
 use Rattle.fill.proofs.scan.Tie as tie

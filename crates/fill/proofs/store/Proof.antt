@@ -3,7 +3,7 @@ use Prim.Native.Nat.{_*_}
 use native.Mathlib.Omega.{arith}
 use mir.Syntax.{w32}
 use mir.Val.{toZ, ofZ}
-use Rattle.fill.specs.Scan.{six}
+use Rattle.mapset.specs.Areas.{six}
 use Rattle.fill.proofs.EventLaws.{at-event, of-kind, below-all, values-due, goes-on, goes-past, stores-nothing, stores-epoch, stores-mark, stores-tec, stores-rms, stores-height}
 use borrow.Author.Needs.{needs}
 use Rattle.fill.proofs.store.Statement.{statement}

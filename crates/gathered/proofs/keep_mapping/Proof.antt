@@ -9,13 +9,12 @@ use Rattle.gathered.proofs.keep_mapping.Statement.{statement}
 use Rattle.gathered.proofs.keep_mapping.Tie as tie
 use Rattle.gathered.proofs.keep_mapping.Reads as reads
 use Rattle.gathered.proofs.keep_mapping.Lts as lts
-use Rattle.fields.proofs.first_not_blank.Reads as first-not-blank-reads
+use Rattle.fields.proofs.text4.Reads as text4-reads
+use Rattle.gathered.proofs.beside_mapping.Reads as beside-mapping-reads
 use Rattle.gathered.proofs.refuse.Reads as refuse-reads
-use Rattle.gathered.proofs.text4.Reads as text4-reads
-use Rattle.records.specs.Records.{blank-to}
 
-first-not-blank-requires : tie.Need-first-not-blank-requires
-first-not-blank-requires c κs = search needs
+beside-mapping-requires : tie.Need-beside-mapping-requires
+beside-mapping-requires c κs = search needs
 
 enum-known-column : tie.Need-enum-known-column
 enum-known-column c = search needs
@@ -26,18 +25,6 @@ refuse-requires c κs = search needs
 enum-told : tie.Need-enum-told
 enum-told c = search needs
 
-first-not-blank-requires-2 : tie.Need-first-not-blank-requires-2
-first-not-blank-requires-2 c κs = search needs
-
-enum-known-column-2 : tie.Need-enum-known-column-2
-enum-known-column-2 c = search needs
-
-refuse-requires-2 : tie.Need-refuse-requires-2
-refuse-requires-2 c κs = search needs
-
-enum-told-2 : tie.Need-enum-told-2
-enum-told-2 c = search needs
-
 text4-requires : tie.Need-text4-requires
 text4-requires c κs = search needs
 
@@ -45,34 +32,25 @@ element-write-t : tie.Need-element-write-t
 element-write-t c = search needs
 
 returns : tie.Need-returns
-unfolding kept bind blank-to
-returns c = rw (← (mapping-says _ (c .before .before .before .before .before .before .pre)), sym (c .before .before .before .before .first-not-blank .ensures) ∙ c .before .before .column .given .1) (c .refuse .ensures)
+unfolding kept bind
+returns c = rw (← (mapping-says _ (c .before .before .before .before .before .before .pre)), sym (c .before .before .before .before .beside-mapping .ensures) ∙ c .before .before .column .given .1) (c .refuse .ensures)
 
 returns-2 : tie.Need-returns-2
-unfolding kept bind blank-to
-returns-2 c = rw (← (mapping-says _ (c .before .before .before .before .before .before .before .before .before .pre)), sym (c .before .before .before .before .before .before .before .first-not-blank .ensures) ∙ c .before .before .before .before .before .enum-told .given .1, sym (c .before .before .before .before .first-not-blank2 .ensures) ∙ c .before .before .column2 .given .1) (c .refuse2 .ensures)
-
-returns-3 : tie.Need-returns-3
-unfolding kept bind blank-to
-returns-3 c =
-    let a = c .before .before .before .before .before .before .before .before .args in
-    rw (← (mapping-says _ (c .before .before .before .before .before .before .before .before .pre)), sym (c .before .before .before .before .before .before .first-not-blank .ensures) ∙ c .before .before .before .before .enum-told .given .1, sym (c .before .before .before .first-not-blank2 .ensures) ∙ c .before .enum-told2 .given .1, c .text4 .ensures)
+unfolding kept bind
+returns-2 c =
+    let a = c .before .before .before .before .before .args in
+    rw (← (mapping-says _ (c .before .before .before .before .before .pre)), sym (c .before .before .before .beside-mapping .ensures) ∙ c .before .enum-told .given .1, c .text4 .ensures)
     (ap (λ (z : Slots). ok (went (mode (a .s .aux)) (a .s .exponent) z)) (mapping-kept (a .s) (search needs) _))
 
 pub keep-mapping-spec : {M : Type 1} → statement M
 keep-mapping-spec =
     tie.close
     (tie.spec
-    first-not-blank-requires
+    beside-mapping-requires
     enum-known-column
     refuse-requires
     enum-told
-    first-not-blank-requires-2
-    enum-known-column-2
-    refuse-requires-2
-    enum-told-2
     text4-requires
     element-write-t
     returns
-    returns-2
-    returns-3)
+    returns-2)

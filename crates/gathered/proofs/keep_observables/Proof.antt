@@ -9,7 +9,7 @@ use Rattle.gathered.proofs.keep_observables.Statement.{statement}
 use Rattle.gathered.proofs.keep_observables.Tie as tie
 use Rattle.gathered.proofs.keep_observables.Reads as reads
 use Rattle.gathered.proofs.keep_observables.Lts as lts
-use Rattle.gathered.proofs.text60.Reads as text60-reads
+use Rattle.fields.proofs.text60.Reads as text60-reads
 
 text60-requires : tie.Need-text60-requires
 text60-requires c κs = search needs

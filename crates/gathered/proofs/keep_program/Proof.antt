@@ -9,7 +9,7 @@ use Rattle.gathered.proofs.keep_program.Statement.{statement}
 use Rattle.gathered.proofs.keep_program.Tie as tie
 use Rattle.gathered.proofs.keep_program.Reads as reads
 use Rattle.gathered.proofs.keep_program.Lts as lts
-use Rattle.gathered.proofs.text20.Reads as text20-reads
+use Rattle.fields.proofs.text20.Reads as text20-reads
 
 text20-requires : tie.Need-text20-requires
 text20-requires c κs = search needs

@@ -9,7 +9,7 @@ use Rattle.headlines.proofs.step.Lts as lts
 use Rattle.gathered.proofs.refuse.Reads as refuse-reads
 use Rattle.headlines.proofs.by_label.Reads as by-label-reads
 use Rattle.headlines.proofs.in_aux.Reads as in-aux-reads
-use Rattle.layout.proofs.label_of.Reads as label-of-reads
+use Rattle.labels.proofs.label_of.Reads as label-of-reads
 
 label-of-requires : tie.Need-label-of-requires
 label-of-requires c κs = search needs

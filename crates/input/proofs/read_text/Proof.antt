@@ -4,7 +4,7 @@ use Prim.Native.Nat.{ℕ}
 use mir.Syntax.{w32}
 use mir.Val.{toZ, ofZ}
 use Rattle.mapset.specs.declared.Texts.{Texts}
-use Rattle.fill.specs.Scan.{six}
+use Rattle.mapset.specs.Areas.{six}
 use Rattle.judging.specs.Scanned.{Judges}
 use Rattle.judging.specs.declared.Judged.{Judged}
 use Rattle.judging.proofs.JudgeLaws.{one-to-ten}

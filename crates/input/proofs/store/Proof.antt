@@ -1,6 +1,6 @@
 use mathlib.Core.Path.{sym, ap, _∙_}
 use mir.Facts.{toZ-ofZ}
-use Rattle.fill.specs.Scan.{six}
+use Rattle.mapset.specs.Areas.{six}
 use Rattle.needs.specs.Needs.{fit}
 use Rattle.input.proofs.StoreLaws.{limits, few-by, short-by, readable-by, enough-by, stored-by}
 use borrow.Author.Needs.{needs}

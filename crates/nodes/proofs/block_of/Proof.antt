@@ -1,4 +1,4 @@
--- `asker::value::block_of` meets its contract.
+-- `nodes::block_of` meets its contract.
 use borrow.Author.Needs.{needs}
 use native.Mathlib.Omega.{arith}
 use native.Mathlib.Nat.{mul-le-mul-left}

@@ -1,4 +1,4 @@
--- `asker::value::first_exponent` meets its contract.
+-- `nodes::first_exponent` meets its contract.
 use borrow.Author.Needs.{needs}
 use mathlib.Core.Path.{_≡_}
 use native.Mathlib.Omega.{arith}

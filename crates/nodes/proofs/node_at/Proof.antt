@@ -1,4 +1,4 @@
--- `asker::value::node_at` meets its contract.
+-- `nodes::node_at` meets its contract.
 use borrow.Author.Needs.{needs}
 use mathlib.Core.Path.{_≡_, refl, sym, ap, ap₂, _∙_}
 use native.Mathlib.Omega.{arith}
@@ -11,8 +11,8 @@ use denote.Ref.{now}
 use Rattle.kit.specs.Truth.{truth-true, truth-false}
 use Rattle.mapset.specs.Areas.{Present}
 use Rattle.nodes.specs.Value.{kind-of, block, value}
-use Rattle.nodes.specs.Sums.{in-node, plain}
-use Rattle.nodes.specs.SumLaws.{worth-absent, worth-present}
+use Rattle.nodes.specs.Nodes.{in-node, plain}
+use Rattle.nodes.specs.NodeLaws.{worth-absent, worth-present}
 use Rattle.nodes.proofs.node_at.Statement.{statement}
 use Rattle.nodes.proofs.node_at.Tie as tie
 

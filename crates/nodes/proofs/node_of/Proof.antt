@@ -1,4 +1,4 @@
--- `asker::value::node_of` meets its contract.
+-- `nodes::node_of` meets its contract.
 use borrow.Author.Needs.{needs}
 use mathlib.Core.Path.{_≡_, refl, sym, ap, ap₂, _∙_}
 use mathlib.Core.Option.{some}
@@ -9,8 +9,8 @@ use mir.Val.{toZ, ofZ, SFits}
 use mir.Facts.{toZ-ofZ}
 use Rattle.kit.specs.Parts.{up, le-parts, parts-le, lt-true, lt-false, size-fits, from-bits}
 use Rattle.kit.specs.Integer.{Between}
-use Rattle.nodes.specs.Sums.{power-of, plain}
-use Rattle.nodes.specs.SumLaws.{plain-none, plain-no-power, plain-some, power-size, tecu-node, km-node}
+use Rattle.nodes.specs.Nodes.{power-of, plain}
+use Rattle.nodes.specs.NodeLaws.{plain-none, plain-no-power, plain-some, power-size, tecu-node, km-node}
 use Rattle.nodes.proofs.node_of.Statement.{statement}
 use Rattle.nodes.proofs.node_of.Tie as tie
 

@@ -3,9 +3,8 @@ use mathlib.Core.Path.{_∙_}
 use mathlib.Core.List.{List, [], _∷_, _++_}
 use Prim.Native.Nat.{ℕ}
 use denote.Ref.{now}
-use Rattle.mapset.specs.Areas.{Areas}
+use Rattle.mapset.specs.Areas.{Areas, six}
 use Rattle.mapset.specs.Header.{says}
-use Rattle.mapset.specs.Sound.{areas}
 use Rattle.mapset.specs.SoundLaws.{sound-groups}
 use Rattle.layout.specs.Labels.{header-end}
 use Rattle.areas.proofs.ValidFormed.{nested}
@@ -22,7 +21,7 @@ use Rattle.output.proofs.put_text.Tie as tie
 
 module _ (s : tie.Start) where
   abbrev a : Areas
-  a = areas (now (s .args .tec)) (now (s .args .rms)) (now (s .args .height)) (now (s .args .exponents)) (now (s .args .epochs)) (now (s .args .marks))
+  a = six (now (s .args .tec)) (now (s .args .rms)) (now (s .args .height)) (now (s .args .exponents)) (now (s .args .epochs)) (now (s .args .marks))
 
   abbrev head-of : List (List ℕ)
   head-of = version-row (s .args .header .version .code) ∷ head-rows order (says (s .args .header) (s .args .texts)) (row-of header-end tt ∷ [])

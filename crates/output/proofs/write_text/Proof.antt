@@ -8,8 +8,7 @@ use borrow.Author.Tests.{not-true, not-false}
 use lib.ListN.{length, drop}
 use denote.Ref.{now}
 use Rattle.kit.specs.Truth.{truth-true, truth-false}
-use Rattle.mapset.specs.Areas.{Areas}
-use Rattle.mapset.specs.Sound.{areas}
+use Rattle.mapset.specs.Areas.{Areas, six}
 use Rattle.areas.specs.Valid.{Valid}
 use Rattle.areas.proofs.ValidFormed.{nested}
 use Rattle.areas.proofs.CutLaws.{nothing}
@@ -23,7 +22,7 @@ use Rattle.output.proofs.write_text.Statement.{statement}
 use Rattle.output.proofs.write_text.Tie as tie
 
 abbrev lent : tie.Start → Areas
-lent s = areas (now (s .args .tec)) (now (s .args .rms)) (now (s .args .height)) (now (s .args .exponents)) (now (s .args .epochs)) (now (s .args .marks))
+lent s = six (now (s .args .tec)) (now (s .args .rms)) (now (s .args .height)) (now (s .args .exponents)) (now (s .args .epochs)) (now (s .args .marks))
 
 is-valid : (c : tie.Else1) → let s = c .before .before .before .before .before in Valid (s .args .header) (s .args .texts) (lent s)
 is-valid c = truth-true _ (sym (c .before .valid .ensures) ∙ not-false _ (c .if1 .left))

@@ -1,8 +1,7 @@
 -- `printing::answer` meets its contract.
 use native.Mathlib.Omega.{arith}
 use denote.Ref.{now}
-use Rattle.mapset.specs.Areas.{Areas}
-use Rattle.fill.specs.Scan.{six}
+use Rattle.mapset.specs.Areas.{Areas, six}
 use Rattle.refusals.specs.Lines.{big-line}
 use Rattle.refusals.proofs.LineLaws.{begins}
 use Rattle.printing.proofs.PrintedLaws.{read-printed, printed-big, printed-read}

@@ -2,8 +2,7 @@
 use native.Mathlib.Omega.{arith}
 use lib.ListN.{length}
 use denote.Ref.{now}
-use Rattle.mapset.specs.Areas.{Areas}
-use Rattle.mapset.specs.Sound.{areas}
+use Rattle.mapset.specs.Areas.{Areas, six}
 use Rattle.output.specs.Write.{told}
 use Rattle.printing.specs.Printed.{canonical}
 use Rattle.printing.proofs.PrintedLaws.{Due, due}
@@ -12,7 +11,7 @@ use Rattle.printing.proofs.put_canonical.Statement.{statement}
 use Rattle.printing.proofs.put_canonical.Tie as tie
 
 abbrev lent : tie.Start → Areas
-lent s = areas (now (s .args .tec)) (now (s .args .rms)) (now (s .args .height)) (now (s .args .exponents)) (now (s .args .epochs)) (now (s .args .marks))
+lent s = six (now (s .args .tec)) (now (s .args .rms)) (now (s .args .height)) (now (s .args .exponents)) (now (s .args .epochs)) (now (s .args .marks))
 
 is-due : (c : tie.After-write-text) → let s = c .before .before .before .before .before in Due (told (c .write-text .result)) (c .write-text .last .1 .1 .1 .1 .1 .1 .1 .1 .0) (canonical (length (now (s .args .out))) (s .args .header) (s .args .texts) (lent s))
 is-due c = let s = c .before .before .before .before .before in due (s .args .header) (s .args .texts) (lent s) (now (s .args .out)) (c .write-text .result) (c .write-text .last .1 .1 .1 .1 .1 .1 .1 .1 .0) (c .write-text .ensures)

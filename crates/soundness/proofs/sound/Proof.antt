@@ -10,15 +10,15 @@ use lib.Seq.{length-take-le}
 use denote.Ref.{now}
 use Rattle.kit.specs.Answer.{×-dec}
 use Rattle.kit.specs.Truth.{truth, truth-true, truth-false, fails, both, truth-same}
-use Rattle.mapset.specs.Areas.{Areas}
-use Rattle.mapset.specs.Sound.{HeaderSays, areas, lengths, epochs?, marks?, lengths?}
+use Rattle.mapset.specs.Areas.{Areas, six}
+use Rattle.mapset.specs.Sound.{HeaderSays, lengths, epochs?, marks?, lengths?}
 use Rattle.mapset.specs.SoundLaws.{sound?, sound-groups, groups-sound}
 use Rattle.soundness.proofs.sound.Statement.{statement}
 use Rattle.soundness.proofs.sound.Tie as tie
 
 module _ (c : tie.Start) where
   abbrev a : Areas
-  a = areas (now (c .args .tec)) (now (c .args .rms)) (now (c .args .height)) (now (c .args .exponents)) (now (c .args .epochs)) (now (c .args .marks))
+  a = six (now (c .args .tec)) (now (c .args .rms)) (now (c .args .height)) (now (c .args .exponents)) (now (c .args .epochs)) (now (c .args .marks))
 
   unsound : ¬ HeaderSays (c .args .header) (c .args .texts) → false ≡ truth (sound? (c .args .header) (c .args .texts) a)
   unsound n = fails (sound? (c .args .header) (c .args .texts) a) (λ s. n (sound-groups (c .args .header) (c .args .texts) a s .0))

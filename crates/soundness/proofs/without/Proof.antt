@@ -31,13 +31,13 @@ returns : tie.Need-returns Inv-loop μ-loop
 unfolding without?
 returns c =
     let l = c .before .before .before in
-    sym (all-stop (neither (l .before .args .m)) _ (l .loop .i) (omega arith) (λ w. w (inl (c .if1 .taken)))) ∙ l .loop .inv .1
+    sym (all-stop 0 (neither (l .before .args .m)) _ (l .loop .i) (omega arith) (λ w. w (inl (c .if1 .taken)))) ∙ l .loop .inv .1
 
 returns-2 : tie.Need-returns-2 Inv-loop μ-loop
 unfolding without?
 returns-2 c =
     let l = c .before .before .before .before in
-    sym (all-stop (neither (l .before .args .m)) _ (l .loop .i) (omega arith) (λ w. w (inr (c .if2 .taken)))) ∙ l .loop .inv .1
+    sym (all-stop 0 (neither (l .before .args .m)) _ (l .loop .i) (omega arith) (λ w. w (inr (c .if2 .taken)))) ∙ l .loop .inv .1
 
 add-i : tie.Need-add-i Inv-loop μ-loop
 add-i c = omega arith
@@ -49,13 +49,13 @@ loop-again : tie.Need-loop-again Inv-loop μ-loop
 unfolding without?
 loop-again c =
     let l = c .before .before .before .before in
-    (omega arith, sym (all-next (neither (l .before .args .m)) _ (l .loop .i) (omega arith) (⊎-elim (c .before .if1 .left) (c .if2 .left))) ∙ l .loop .inv .1)
+    (omega arith, sym (all-next 0 (neither (l .before .args .m)) _ (l .loop .i) (omega arith) (⊎-elim (c .before .if1 .left) (c .if2 .left))) ∙ l .loop .inv .1)
 
 returns-3 : tie.Need-returns-3 Inv-loop μ-loop
 unfolding without?
 returns-3 c =
     let l = c .before in
-    sym (all-end (neither (l .before .args .m)) _ (l .loop .i) (omega arith)) ∙ l .loop .inv .1
+    sym (all-end 0 (neither (l .before .args .m)) _ (l .loop .i) (omega arith)) ∙ l .loop .inv .1
 
 pub without-spec : {M : Type 1} → statement M
 without-spec =

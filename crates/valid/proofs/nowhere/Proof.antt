@@ -29,7 +29,7 @@ returns : tie.Need-returns Inv-loop μ-loop
 unfolding nowhere?
 returns c =
     let l = c .before .before .before .before in
-    sym (all-stop (λ m. ¬-dec (present? (l .before .before .args .kind) m)) _ (l .loop .i) (omega arith) (λ n. n (truth-true _ (sym (c .before .present .ensures) ∙ c .if1 .taken)))) ∙ l .loop .inv .1
+    sym (all-stop 0 (λ m. ¬-dec (present? (l .before .before .args .kind) m)) _ (l .loop .i) (omega arith) (λ n. n (truth-true _ (sym (c .before .present .ensures) ∙ c .if1 .taken)))) ∙ l .loop .inv .1
 
 add-i : tie.Need-add-i Inv-loop μ-loop
 add-i c = omega arith
@@ -41,13 +41,13 @@ loop-again : tie.Need-loop-again Inv-loop μ-loop
 unfolding nowhere?
 loop-again c =
     let l = c .before .before .before .before in
-    (omega arith, sym (all-next (λ m. ¬-dec (present? (l .before .before .args .kind) m)) _ (l .loop .i) (omega arith) (truth-false _ (sym (c .before .present .ensures) ∙ c .if1 .left))) ∙ l .loop .inv .1)
+    (omega arith, sym (all-next 0 (λ m. ¬-dec (present? (l .before .before .args .kind) m)) _ (l .loop .i) (omega arith) (truth-false _ (sym (c .before .present .ensures) ∙ c .if1 .left))) ∙ l .loop .inv .1)
 
 returns-2 : tie.Need-returns-2 Inv-loop μ-loop
 unfolding nowhere?
 returns-2 c =
     let l = c .before in
-    sym (all-end (λ m. ¬-dec (present? (l .before .before .args .kind) m)) _ (l .loop .i) (omega arith)) ∙ l .loop .inv .1
+    sym (all-end 0 (λ m. ¬-dec (present? (l .before .before .args .kind) m)) _ (l .loop .i) (omega arith)) ∙ l .loop .inv .1
 
 pub nowhere-spec : {M : Type 1} → statement M
 nowhere-spec =

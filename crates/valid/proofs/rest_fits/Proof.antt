@@ -13,8 +13,7 @@ use Rattle.kit.specs.Answer.{×-dec, all-dec}
 use Rattle.kit.specs.Truth.{truth, both}
 use Rattle.mapset.specs.declared.Kind.{Kind}
 use Rattle.mapset.specs.declared.Kind.the-variants as K
-use Rattle.mapset.specs.Areas.{Areas, blocks}
-use Rattle.mapset.specs.Sound.{areas}
+use Rattle.mapset.specs.Areas.{Areas, blocks, six}
 use Rattle.layout.specs.Layout.{per-map}
 use Rattle.reading.specs.Maps.{exponent?}
 use Rattle.areas.specs.Valid.{needed, values-in}
@@ -25,7 +24,7 @@ use Rattle.valid.proofs.rest_fits.Statement.{statement}
 use Rattle.valid.proofs.rest_fits.Tie as tie
 
 abbrev lent : tie.Start → Areas
-lent s = areas (now (s .args .tec)) (now (s .args .rms)) (now (s .args .height)) (now (s .args .exponents)) [] (now (s .args .marks))
+lent s = six (now (s .args .tec)) (now (s .args .rms)) (now (s .args .height)) (now (s .args .exponents)) [] (now (s .args .marks))
 
 -- blocks and columns are the grid's
 module _ (c : tie.After-nodes) where

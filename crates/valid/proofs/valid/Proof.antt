@@ -4,8 +4,7 @@ use mathlib.Core.Path.{_≡_, sym, _∙_}
 use borrow.Author.Tests.{not-true, not-false}
 use denote.Ref.{now}
 use Rattle.kit.specs.Truth.{truth, truth-true, truth-false}
-use Rattle.mapset.specs.Areas.{Areas, Sound}
-use Rattle.mapset.specs.Sound.{areas}
+use Rattle.mapset.specs.Areas.{Areas, Sound, six}
 use Rattle.areas.specs.Valid.{needed}
 use Rattle.valid.specs.Groups.{rest?}
 use Rattle.valid.proofs.Whole.{validity-rest, validity-unsound, sound-long}
@@ -13,7 +12,7 @@ use Rattle.valid.proofs.valid.Statement.{statement}
 use Rattle.valid.proofs.valid.Tie as tie
 
 abbrev lent : tie.Start → Areas
-lent s = areas (now (s .args .tec)) (now (s .args .rms)) (now (s .args .height)) (now (s .args .exponents)) (now (s .args .epochs)) (now (s .args .marks))
+lent s = six (now (s .args .tec)) (now (s .args .rms)) (now (s .args .height)) (now (s .args .exponents)) (now (s .args .epochs)) (now (s .args .marks))
 
 is-sound : (c : tie.Else1) → Sound (c .before .before .before .before .args .header) (c .before .before .before .before .args .texts) (lent (c .before .before .before .before))
 is-sound c = truth-true _ (sym (c .before .sound .ensures) ∙ not-false _ (c .if1 .left))

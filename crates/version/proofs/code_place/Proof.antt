@@ -6,7 +6,7 @@ use borrow.Author.Needs.{needs}
 use lib.ListN.{drop, length, drop-of-length-le}
 use Rattle.layout.specs.Labels.{codes}
 use Rattle.layout.specs.Names.{place-of}
-use Rattle.layout.proofs.Laws.{place-of-next, place-of-here}
+use Rattle.labels.proofs.Laws.{place-of-next, place-of-here}
 use Rattle.version.proofs.code_place.Statement.{statement}
 use Rattle.version.proofs.code_place.Tie as tie
 use Rattle.version.proofs.code_place.Reads as reads

@@ -26,37 +26,25 @@ byte-at-requires-2 c κs = search needs
 byte-at-requires-3 : tie.Need-byte-at-requires-3
 byte-at-requires-3 c κs = search needs
 
-mul-result : tie.Need-mul-result
-mul-result c = search needs
+mul-code : tie.Need-mul-code
+mul-code c = search needs
 
-index-1-result : tie.Need-index-1-result
-index-1-result c = search needs
+array-copy-out-code : tie.Need-array-copy-out-code
+array-copy-out-code c = search needs
 
-index-2-result : tie.Need-index-2-result
-index-2-result c = search needs
+array-read-result : tie.Need-array-read-result
+array-read-result c = search needs
 
-mul-result-2 : tie.Need-mul-result-2
-mul-result-2 c = search needs
+array-read-result-2 : tie.Need-array-read-result-2
+array-read-result-2 c = search needs
 
-index-1-result-2 : tie.Need-index-1-result-2
-index-1-result-2 c = search needs
-
-index-2-result-2 : tie.Need-index-2-result-2
-index-2-result-2 c = search needs
-
-mul-result-3 : tie.Need-mul-result-3
-mul-result-3 c = search needs
-
-index-1-result-3 : tie.Need-index-1-result-3
-index-1-result-3 c = search needs
-
-index-2-result-3 : tie.Need-index-2-result-3
-index-2-result-3 c = search needs
+array-read-result-3 : tie.Need-array-read-result-3
+array-read-result-3 c = search needs
 
 returns : tie.Need-returns
 returns c =
-    let a = c .before .before .before .before .before .before .before .args in
-    rw (c .before .before .before .before .before .byte-at .ensures, c .before .before .before .before .byte-at2 .ensures, c .before .before .before .byte-at3 .ensures) (three-hold (a .line .now) 40 (getD codes (a .k) []) (code-length (a .k) (omega arith)))
+    let a = c .before .before .before .before .before .args in
+    rw (c .before .before .before .byte-at .ensures, c .before .before .byte-at2 .ensures, c .before .byte-at3 .ensures) (three-hold (a .line .now) 40 (getD codes (a .k) []) (code-length (a .k) (c .before .before .before .before .before .pre)))
 
 pub has-code-spec : {M : Type 1} → statement M
 has-code-spec =
@@ -65,13 +53,9 @@ has-code-spec =
     byte-at-requires
     byte-at-requires-2
     byte-at-requires-3
-    mul-result
-    index-1-result
-    index-2-result
-    mul-result-2
-    index-1-result-2
-    index-2-result-2
-    mul-result-3
-    index-1-result-3
-    index-2-result-3
+    mul-code
+    array-copy-out-code
+    array-read-result
+    array-read-result-2
+    array-read-result-3
     returns)

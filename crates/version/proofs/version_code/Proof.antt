@@ -11,7 +11,7 @@ use Rattle.version.proofs.version_code.Reads as reads
 use Rattle.version.proofs.version_code.Lts as lts
 use Rattle.records.proofs.content.version_record.Reads as version-record-reads
 use Rattle.version.proofs.judged.Reads as judged-reads
-use Rattle.layout.proofs.label_of.Reads as label-of-reads
+use Rattle.labels.proofs.label_of.Reads as label-of-reads
 
 label-of-requires : tie.Need-label-of-requires
 label-of-requires c κs = search needs

@@ -10,9 +10,9 @@ use mir.Facts.{toZ-ofZ}
 use Rattle.kit.specs.Parts.{size-fits}
 use Rattle.rounding.specs.Round.{rounded}
 use Rattle.rounding.specs.RoundLaws.{round-size}
-use Rattle.nodes.specs.Sums.{Ready}
+use Rattle.sums.specs.Sums.{Ready}
 use Rattle.asker.specs.MeanLaws.{tecu-unit, km-unit}
-use Rattle.nodes.specs.declared.Sum.the-variants as S
+use Rattle.sums.specs.declared.Sum.the-variants as S
 use Rattle.asker.proofs.value.mean_of.Statement.{statement}
 use Rattle.asker.proofs.value.mean_of.Tie as tie
 

@@ -2,10 +2,11 @@
 use borrow.Author.Needs.{needs}
 use mathlib.Core.Path.{ap, _∙_}
 use denote.Ref.{now}
-use Rattle.nodes.specs.Value.{kind-of, spread, terms}
+use Rattle.nodes.specs.Value.{kind-of}
+use Rattle.sums.specs.Mean.{spread, terms}
 use Rattle.asker.specs.Ask.{in-told}
-use Rattle.nodes.specs.Sums.{summed}
-use Rattle.nodes.specs.SumLaws.{ready-terms, summed-mean}
+use Rattle.sums.specs.Sums.{summed}
+use Rattle.sums.specs.SumLaws.{ready-terms, summed-mean}
 use Rattle.asker.proofs.value.value_of.Statement.{statement}
 use Rattle.asker.proofs.value.value_of.Tie as tie
 

@@ -1,32 +1,35 @@
 use native.Mathlib.Omega.{arith}
-use Rattle.fill.specs.Scan.{six}
-use Rattle.crossing.proofs.ReadLaws.{small-epochs, cross-header, cross-texts, cross-place, cross-answer}
+use Rattle.crossing.proofs.OwnLaws.{none, fit}
+use lib.ListN.{length}
+use Rattle.mapset.specs.Areas.{six}
+use Rattle.crossing.proofs.ReadLaws.{small-epochs, cross-short, cross-answer}
 use borrow.Author.Needs.{needs}
 use Rattle.ionex.proofs.reader.ionex_read.Statement.{statement}
 use Rattle.ionex.proofs.reader.ionex_read.Tie as tie
 use Rattle.ionex.proofs.reader.ionex_read.Reads as reads
 use Rattle.ionex.proofs.reader.ionex_read.Lts as lts
 use Rattle.crossing.proofs.put_reading.Reads as put-reading-reads
+use Rattle.crossing.proofs.too_short.Reads as too-short-reads
 use Rattle.ionex.proofs.reader.read.Reads as read-reads
 
+too-short-requires : tie.Need-too-short-requires
+too-short-requires c κs = search needs
+
 returns : tie.Need-returns
-returns c = let s = c .before .before .before .before .before .before in cross-header (s .args .text .now) (six (s .args .tec .now) (s .args .rms .now) (s .args .height .now) (s .args .exponents .now) (s .args .epochs .now) (s .args .marks .now)) (s .args .header .now) (s .args .texts .now) (s .args .place .now) (omega (arith, c .if1 .taken))
-
-returns-2 : tie.Need-returns-2
-returns-2 c = let s = c .before .before .before .before .before .before .before in cross-texts (s .args .text .now) (six (s .args .tec .now) (s .args .rms .now) (s .args .height .now) (s .args .exponents .now) (s .args .epochs .now) (s .args .marks .now)) (s .args .header .now) (s .args .texts .now) (s .args .place .now) (omega (arith, c .before .if1 .left)) (omega (arith, c .if2 .taken))
-
-returns-3 : tie.Need-returns-3
-returns-3 c = let s = c .before .before .before .before .before .before .before .before in cross-place (s .args .text .now) (six (s .args .tec .now) (s .args .rms .now) (s .args .height .now) (s .args .exponents .now) (s .args .epochs .now) (s .args .marks .now)) (s .args .header .now) (s .args .texts .now) (s .args .place .now) (omega (arith, c .before .before .if1 .left)) (omega (arith, c .before .if2 .left)) (omega (arith, c .if3 .taken))
+returns c =
+    let s = c .before .before .before .before .before .before .before in
+    cross-short (s .args .text .now) (six (s .args .tec .now) (s .args .rms .now) (s .args .height .now) (s .args .exponents .now) (s .args .epochs .now) (s .args .marks .now)) (s .args .header .now) (s .args .texts .now) (s .args .place .now) (c .before .too-short .ensures) (omega (arith, c .if1 .taken))
 
 read-requires : tie.Need-read-requires
 read-requires c κs = search needs
 
 put-reading-requires : tie.Need-put-reading-requires
 put-reading-requires c κs =
-    let s = c .before .before .before .before .before .before .before .before .before .before .before .before .before .before .before .before .before .before .before .before .before .before .before .before .before .before in
+    let s = c .before .before .before .before .before .before .before .before .before .before .before .before .before .before .before .before .before .before .before .before .before .before .before .before .before in
     let r = c .before .before .before .before .before .before .before .before .before .before .before in
+    let f = fit (length (s .args .header .now)) (length (s .args .texts .now)) (length (s .args .place .now)) 2 (c .before .before .before .before .before .before .before .before .before .before .before .before .before .before .before .before .before .before .before .too-short .ensures) (omega (arith, c .before .before .before .before .before .before .before .before .before .before .before .before .before .before .before .before .before .before .if1 .left)) in
     let z = small-epochs (s .args .text .now) (six (s .args .tec .now) (s .args .rms .now) (s .args .height .now) (s .args .exponents .now) (s .args .epochs .now) (s .args .marks .now)) (r .read .result) (six (r .read .last .1 .0) (r .read .last .1 .1 .0) (r .read .last .1 .1 .1 .0) (r .read .last .1 .1 .1 .1 .0) (r .read .last .1 .1 .1 .1 .1 .0) (r .read .last .1 .1 .1 .1 .1 .1 .0)) (r .read .ensures) in
-    (omega (arith, c .before .before .before .before .before .before .before .before .before .before .before .before .before .before .before .before .before .before .before .before .if1 .left), (omega (arith, c .before .before .before .before .before .before .before .before .before .before .before .before .before .before .before .before .before .before .before .if2 .left), (omega (arith, c .before .before .before .before .before .before .before .before .before .before .before .before .before .before .before .before .before .before .if3 .left), z)))
+    (f .header, (f .texts, (f .result, z)))
 
 same-length : tie.Need-same-length
 same-length c = search needs
@@ -55,20 +58,19 @@ same-length-8 c = search needs
 same-length-9 : tie.Need-same-length-9
 same-length-9 c = search needs
 
-returns-4 : tie.Need-returns-4
-returns-4 c =
-    let s = c .before .before .before .before .before .before .before .before .before .before .before .before .before .before .before .before .before .before .before .before .before .before .before .before .before .before .before .before .before .before .before .before in
+returns-2 : tie.Need-returns-2
+returns-2 c =
+    let s = c .before .before .before .before .before .before .before .before .before .before .before .before .before .before .before .before .before .before .before .before .before .before .before .before .before .before .before .before .before .before .before in
     let r = c .before .before .before .before .before .before .before .before .before .before .before .before .before .before .before .before .before in
     let w = c .before .before .before .before .before .put-reading .ensures in
-    cross-answer (s .args .text .now) (six (s .args .tec .now) (s .args .rms .now) (s .args .height .now) (s .args .exponents .now) (s .args .epochs .now) (s .args .marks .now)) (s .args .header .now) (s .args .texts .now) (s .args .place .now) (omega (arith, c .before .before .before .before .before .before .before .before .before .before .before .before .before .before .before .before .before .before .before .before .before .before .before .before .before .before .if1 .left)) (omega (arith, c .before .before .before .before .before .before .before .before .before .before .before .before .before .before .before .before .before .before .before .before .before .before .before .before .before .if2 .left)) (omega (arith, c .before .before .before .before .before .before .before .before .before .before .before .before .before .before .before .before .before .before .before .before .before .before .before .before .if3 .left)) (r .read .result) (six (r .read .last .1 .0) (r .read .last .1 .1 .0) (r .read .last .1 .1 .1 .0) (r .read .last .1 .1 .1 .1 .0) (r .read .last .1 .1 .1 .1 .1 .0) (r .read .last .1 .1 .1 .1 .1 .1 .0)) (r .read .ensures) (w .0) (w .1 .0) (w .1 .1 .0) (w .1 .1 .1)
+    cross-answer (s .args .text .now) (six (s .args .tec .now) (s .args .rms .now) (s .args .height .now) (s .args .exponents .now) (s .args .epochs .now) (s .args .marks .now)) (s .args .header .now) (s .args .texts .now) (s .args .place .now) (none (length (s .args .header .now)) (length (s .args .texts .now)) (length (s .args .place .now)) 2 (c .before .before .before .before .before .before .before .before .before .before .before .before .before .before .before .before .before .before .before .before .before .before .before .before .before .too-short .ensures) (omega (arith, c .before .before .before .before .before .before .before .before .before .before .before .before .before .before .before .before .before .before .before .before .before .before .before .before .if1 .left))) (r .read .result) (six (r .read .last .1 .0) (r .read .last .1 .1 .0) (r .read .last .1 .1 .1 .0) (r .read .last .1 .1 .1 .1 .0) (r .read .last .1 .1 .1 .1 .1 .0) (r .read .last .1 .1 .1 .1 .1 .1 .0)) (r .read .ensures) (w .0) (w .1 .0) (w .1 .1 .0) (w .1 .1 .1)
 
 pub ionex-read-spec : {M : Type 1} → statement M
 ionex-read-spec =
     tie.close
     (tie.spec
+    too-short-requires
     returns
-    returns-2
-    returns-3
     read-requires
     put-reading-requires
     same-length
@@ -80,4 +82,4 @@ ionex-read-spec =
     same-length-7
     same-length-8
     same-length-9
-    returns-4)
+    returns-2)

@@ -1,0 +1,117 @@
+// The labels of the records, compared by the reader and written by the writer.
+ghost use mathlib.Core.Path.{_≡_};
+ghost use Prim.Native.Nat.{_≤_};
+ghost use lib.ListN.{length};
+ghost use Rattle.layout.specs.Names.{holds, number-of};
+
+// The label that opens a block, as nearly all labels of a file do.
+const OPENING: [u8; 20] = *b"LAT/LON1/LON2/DLON/H";
+
+// In 01's order: 23 of the header, 9 of the maps.
+pub const LABELS: [[u8; 20]; 32] = [
+    *b"IONEX VERSION / TYPE",
+    *b"PGM / RUN BY / DATE ",
+    *b"DESCRIPTION         ",
+    *b"COMMENT             ",
+    *b"EPOCH OF FIRST MAP  ",
+    *b"EPOCH OF LAST MAP   ",
+    *b"INTERVAL            ",
+    *b"# OF MAPS IN FILE   ",
+    *b"MAPPING FUNCTION    ",
+    *b"ELEVATION CUTOFF    ",
+    *b"OBSERVABLES USED    ",
+    *b"# OF STATIONS       ",
+    *b"# OF SATELLITES     ",
+    *b"SYS / #STA / #SAT   ",
+    *b"BASE RADIUS         ",
+    *b"MAP DIMENSION       ",
+    *b"HGT1 / HGT2 / DHGT  ",
+    *b"LAT1 / LAT2 / DLAT  ",
+    *b"LON1 / LON2 / DLON  ",
+    *b"EXPONENT            ",
+    *b"START OF AUX DATA   ",
+    *b"END OF AUX DATA     ",
+    *b"END OF HEADER       ",
+    *b"START OF TEC MAP    ",
+    *b"END OF TEC MAP      ",
+    *b"START OF RMS MAP    ",
+    *b"END OF RMS MAP      ",
+    *b"START OF HEIGHT MAP ",
+    *b"END OF HEIGHT MAP   ",
+    *b"EPOCH OF CURRENT MAP",
+    OPENING,
+    *b"END OF FILE         ",
+];
+
+// The codes of the version record, in 01's order.
+pub const CODES: [[u8; 3]; 9] = [
+    *b"BEN",
+    *b"ENV",
+    *b"ERS",
+    *b"GEO",
+    *b"GNS",
+    *b"IRI",
+    *b"MIX",
+    *b"NNS",
+    *b"TOP",
+];
+
+// Whether columns 61 to 80 hold a label.
+fn has_label(line: &[u8], label: &[u8; 20]) -> bool
+    requires { ⌜ length (now label) ≡ 20 ⌝ }
+    ensures { λ r. ⌜ r ≡ holds (now (line .entry)) 60 (now (label .entry)) ⌝ }
+{
+    let mut j: usize = 0;
+    while j < 20 {
+        let b = fields::byte_at(line, 60 + j);
+        if b != label[j] {
+            return false;
+        }
+        j += 1;
+    }
+    true
+}
+
+// The same of a line that does not stop early: no branch per byte, so that vector code is made of it.
+fn has_whole(line: &[u8], label: &[u8; 20]) -> bool
+    requires { ⌜ (80 ≤ length (now line)) × (length (now label) ≡ 20) ⌝ }
+    ensures { λ r. ⌜ r ≡ holds (now (line .entry)) 60 (now (label .entry)) ⌝ }
+{
+    let mut ok = true;
+    let mut j: usize = 0;
+    while j < 20 {
+        ok = ok & (line[60 + j] == label[j]);
+        j += 1;
+    }
+    ok
+}
+
+// The place of the label in columns 61 to 80, by trying one after the other. The table is made once, not for each byte.
+fn search(line: &[u8]) -> usize
+    ensures { λ r. ⌜ r ≡ number-of (now (line .entry)) ⌝ }
+{
+    let labels = LABELS;
+    let mut k: usize = 0;
+    while k < 32 {
+        let label = labels[k];
+        if has_label(line, &label) {
+            return k;
+        }
+        k += 1;
+    }
+    32
+}
+
+// The place in LABELS of the label in columns 61 to 80, 32 where it is none of them. The opening of a block is tried first.
+pub fn label_of(line: &[u8]) -> usize
+    ensures { λ r. ⌜ r ≡ number-of (now (line .entry)) ⌝ }
+{
+    if line.len() < 80 {
+        return search(line);
+    }
+    let opening = OPENING;
+    if has_whole(line, &opening) {
+        return 30;
+    }
+    search(line)
+}

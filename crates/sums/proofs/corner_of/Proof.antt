@@ -1,0 +1,74 @@
+-- `sums::corner_of` meets its contract.
+use mathlib.Core.Path.{_≡_, refl}
+use native.Mathlib.Omega.{arith}
+use Rattle.sums.specs.Mean.{corners}
+use Rattle.sums.proofs.corner_of.Statement.{statement}
+use Rattle.sums.proofs.corner_of.Tie as tie
+
+sub-weigh : tie.Need-sub-weigh
+sub-weigh c = let h = c .before .before .pre .0 .down in omega arith
+
+sub-weigh-2 : tie.Need-sub-weigh-2
+sub-weigh-2 c = let h = c .before .before .before .pre .0 .across in omega arith
+
+weigh-requires : tie.Need-weigh-requires
+weigh-requires c κs = let p = c .before .before .before .pre .0 in (p .small, omega (arith, p .tall), omega (arith, p .wide))
+
+sub-weigh-3 : tie.Need-sub-weigh-3
+sub-weigh-3 c = let h = c .before .before .pre .0 .down in omega arith
+
+weigh-requires-2 : tie.Need-weigh-requires-2
+weigh-requires-2 c κs = let p = c .before .before .pre .0 in (p .small, omega (arith, p .tall), omega (arith, p .wide, p .across))
+
+sub-weigh-4 : tie.Need-sub-weigh-4
+sub-weigh-4 c = let h = c .before .before .pre .0 .across in omega arith
+
+add-weigh : tie.Need-add-weigh
+add-weigh c = let h = c .before .before .before .pre .0 .row in omega arith
+
+weigh-requires-3 : tie.Need-weigh-requires-3
+weigh-requires-3 c κs = let p = c .before .before .before .pre .0 in (p .small, omega (arith, p .tall, p .down), omega (arith, p .wide))
+
+add-weigh-2 : tie.Need-add-weigh-2
+add-weigh-2 c = let h = c .before .before .pre .0 .row in omega arith
+
+weigh-requires-4 : tie.Need-weigh-requires-4
+weigh-requires-4 c κs = let p = c .before .before .pre .0 in (p .small, omega (arith, p .tall, p .down), omega (arith, p .wide, p .across))
+
+returns : tie.Need-returns
+unfolding corners
+returns c = rw (c .before .before .before .match .keys1, c .weigh .ensures) refl
+
+returns-2 : tie.Need-returns-2
+unfolding corners
+returns-2 c = rw (c .before .before .match .keys2, c .weigh2 .ensures) refl
+
+returns-3 : tie.Need-returns-3
+unfolding corners
+returns-3 c = rw (c .before .before .before .match .keys3, c .weigh3 .ensures) refl
+
+returns-4 : tie.Need-returns-4
+unfolding corners
+returns-4 c =
+    let m = c .before .before in
+    let e : m .before .args .k ≡ 3 = omega (arith, m .match .rest, m .before .pre .1) in
+    rw (e, c .weigh4 .ensures) refl
+
+pub corner-of-spec : {M : Type 1} → statement M
+corner-of-spec =
+    tie.close
+    (tie.spec
+    sub-weigh
+    sub-weigh-2
+    weigh-requires
+    sub-weigh-3
+    weigh-requires-2
+    sub-weigh-4
+    add-weigh
+    weigh-requires-3
+    add-weigh-2
+    weigh-requires-4
+    returns
+    returns-2
+    returns-3
+    returns-4)

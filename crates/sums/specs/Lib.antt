@@ -1,0 +1,4 @@
+-- The nodes of a question: their weights and sum.
+pub mod Mean
+pub mod Sums
+pub mod SumLaws
