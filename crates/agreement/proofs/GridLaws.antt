@@ -9,7 +9,6 @@ use native.Mathlib.Omega.{arith}
 use lib.Dec.{eqb}
 use lib.IntN.{ℤ, pos, negsuc, natAbs}
 use lib.Signed.{ltZ}
-use borrow.Author.Tests.{eqb-true, eqb-false}
 use mir.Syntax.{Width}
 use mir.Val.{SFits, ofZ}
 use mir.Facts.{toZ-ofZ}
@@ -18,10 +17,7 @@ use Rattle.kit.specs.Integer.{int?}
 use Rattle.kit.specs.Parts.{up, not-below-zero, below-zero, lt-true, lt-false, from-bits}
 use Rattle.mapset.specs.declared.Axis.{Axis}
 use Rattle.agreement.specs.Agreement.{differing}
-use Rattle.kit.specs.Truth.{truth, holds, fails, tells, truth-same, truth-true, truth-false}
-
-pub eqb-truth : (a b : ℕ) → eqb a b ≡ truth (ℕ-discrete a b)
-eqb-truth a b = tells (eqb a b) (ℕ-discrete a b) (eqb-true a b) (eqb-false a b)
+use Rattle.kit.specs.Truth.{truth, holds, fails, truth-same, truth-true, truth-false, eq-tells}
 
 -- ---- a number that is not negative
 
@@ -36,14 +32,14 @@ count-none (pos m) n e = let l = lt-true (pos m) (pos 0) e in absurd (omega arit
 count-none (negsuc m) n e = fails (int? (negsuc m) (pos n)) (λ q. let z : _≡_ {A = ℕ} 0 1 = cc in omega arith)
 
 pub count-some : (z : ℤ) (n : ℕ) → ltZ z (pos 0) ≡ false → eqb (natAbs z) n ≡ truth (int? z (pos n))
-count-some (pos m) n e = eqb-truth m n ∙ truth-same (ℕ-discrete m n) (int? (pos m) (pos n)) (λ p. ap pos p) (λ p. cc)
+count-some (pos m) n e = eq-tells m n ∙ truth-same (ℕ-discrete m n) (int? (pos m) (pos n)) (λ p. ap pos p) (λ p. cc)
 count-some (negsuc m) n e = let l = lt-false (negsuc m) (pos 0) e in absurd (omega arith)
 
 -- ---- the bits of two numbers
 
 pub same-bits : (w : Width) (x y : ℤ) → SFits w x → SFits w y → eqb (ofZ w x) (ofZ w y) ≡ truth (int? x y)
 same-bits w x y f g =
-    eqb-truth (ofZ w x) (ofZ w y)
+    eq-tells (ofZ w x) (ofZ w y)
     ∙ truth-same (ℕ-discrete (ofZ w x) (ofZ w y)) (int? x y) (λ e. from-bits w x (ofZ w y) f e ∙ toZ-ofZ g) (λ e. ap (ofZ w) e)
 
 -- ---- a node's size

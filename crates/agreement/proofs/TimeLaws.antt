@@ -7,16 +7,15 @@ use native.Mathlib.Decide.{ℕ-discrete}
 use native.Mathlib.Omega.{arith}
 use lib.ListN.{length, getD}
 use lib.Dec.{eqb}
-use Rattle.kit.specs.Truth.{truth, holds, fails, truth-true, truth-false, truth-same}
+use Rattle.kit.specs.Truth.{truth, holds, fails, truth-true, truth-false, truth-same, eq-tells}
 use Rattle.mapset.specs.declared.Header.{Header}
 use Rattle.mapset.specs.Decisions.{follows?}
 use Rattle.reading.specs.Maps.{after?, in-time?}
-use Rattle.agreement.proofs.GridLaws.{eqb-truth}
 
 module _ (h : Header) where
   pub after-first : (es : List ℕ) (e : ℕ) → length es ≡ 0 → eqb e (h .times .first) ≡ truth (after? h es e)
   unfolding after?
-  after-first [] e z = eqb-truth e (h .times .first)
+  after-first [] e z = eq-tells e (h .times .first)
   after-first (x ∷ xs) e z = absurd (omega arith)
 
   pub after-next : (es : List ℕ) (e : ℕ) → ¬ (length es ≡ 0) → truth (follows? (h .times .interval) (getD es (length es - 1) 0) e) ≡ truth (after? h es e)
@@ -31,7 +30,7 @@ module _ (h : Header) where
     module _ (t : truth (after? h es e) ≡ true) where
       pub time-last : suc (length es) ≡ h .times .maps → eqb e (h .times .last) ≡ truth (in-time? h es e)
       time-last m =
-          eqb-truth e (h .times .last) ∙ truth-same (ℕ-discrete e (h .times .last)) (in-time? h es e) (λ q. (truth-true (after? h es e) t, λ _. q)) (λ p. p .1 m)
+          eq-tells e (h .times .last) ∙ truth-same (ℕ-discrete e (h .times .last)) (in-time? h es e) (λ q. (truth-true (after? h es e) t, λ _. q)) (λ p. p .1 m)
 
       pub time-fine : ¬ (suc (length es) ≡ h .times .maps) → true ≡ truth (in-time? h es e)
       time-fine n = holds (in-time? h es e) (truth-true (after? h es e) t, λ m. absurd (n m))

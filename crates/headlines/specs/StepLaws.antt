@@ -24,7 +24,8 @@ use Rattle.reading.specs.Fields.{scan, fields}
 use Rattle.reading.specs.LabelLaws.{label-known, label-unknown, named, aux-number}
 use Rattle.reading.specs.Maps.{missing, exponent?}
 use Rattle.reading.specs.Head.{more, done, place, none?, Complete, complete?, made, once, on-system, on-end, at-head, head-step}
-use Rattle.records.specs.Records.{int-in, system-in, entry, unless, blank-to}
+use Rattle.reading.specs.ScanLaws.{unless, blank-to}
+use Rattle.records.specs.Records.{int-in, system-in, entry}
 use Rattle.gathered.specs.Got.{said, slot, slots-of, texts-of, mode, went, ended, gone, kept, stepped}
 use Rattle.records.specs.Tables.{action, place-at}
 use Rattle.records.specs.RecordLaws.{blank-says, bind-amap, bind-same}

@@ -1,4 +1,4 @@
--- A padded line's columns are the line's; and what a record says by the fields that the code reads.
+-- What a record says, by the fields that the code reads.
 use mathlib.Core.Path.{_≡_, refl, sym, ap, ap₂, _∙_}
 use mathlib.Core.Bool.{true, false}
 use mathlib.Core.List.{List, [], _∷_}
@@ -41,85 +41,10 @@ use Rattle.layout.specs.Labels.{header-end, items}
 use Rattle.reading.specs.Feed.{Fault, fault}
 use Rattle.reading.specs.Fields.{number, blanks, blank, scan, fields}
 use Rattle.reading.specs.Head.{axis-of, meant}
-use Rattle.records.specs.Records.{int-in, tenths-in, version-in, system-in, axis-in, entry, toldHeard, unless, blank-to, first-of, alone-in, two-in, counts-after, ranged-in, judged-as}
+use Rattle.reading.specs.ScanLaws.{blank-to, unless, read-is}
+use Rattle.records.specs.Records.{int-in, tenths-in, version-in, system-in, axis-in, entry, toldHeard, first-of, alone-in, two-in, counts-after, ranged-in, judged-as}
 use Rattle.records.specs.declared.Heard.{Heard}
 use Rattle.records.specs.declared.Heard.the-variants as Heard
-
--- ---- columns that must be blank
-
-further-one : (c : ℕ) (f : Found) → further c (further 1 f) ≡ further (suc c) f
-further-one c (At i) = ap At (omega arith)
-further-one c Nowhere = refl
-
-need-iff : {A P Q : Type 0} (d : Dec P) (e : Dec Q) (w : Fault) (x : Answer Fault A) → (P → Q) → (Q → P) → need d w x ≡ need e w x
-unfolding need
-need-iff (yes p) e w x f g = sym (need-yes e w x (f p))
-need-iff (no n) e w x f g = sym (need-no e w x (λ q. n (g q)))
-
-blank-cons : {A : Type 0} (b : ℕ) (bs : List ℕ) (c : ℕ) (x : Answer Fault A) → Dec (b ≡ 32)
-    → blank bs (suc c) x ≡ unless (further (suc c) (firstNotBlank bs)) x → blank (b ∷ bs) c x ≡ unless (further c (firstNotBlank (b ∷ bs))) x
-unfolding blank blanks firstNotBlank
-blank-cons b bs c x (yes e) ih =
-    let n : c + suc (blanks bs) ≡ suc c + blanks bs = omega arith in
-    rw (pick-yes (ℕ-discrete b 32) (suc (blanks bs)) 0 e, eq-eqb b 32 e, further-one c (firstNotBlank bs), n)
-    (need-iff (all-dec (λ b. ℕ-discrete b 32) (b ∷ bs)) (all-dec (λ b. ℕ-discrete b 32) bs) (fault 6 (suc c + blanks bs)) x (λ h. h .1) (λ h. (e, h)) ∙ ih)
-blank-cons b bs c x (no n) ih =
-    rw (pick-no (ℕ-discrete b 32) (suc (blanks bs)) 0 n, ne-eqb b 32 n) (need-no (all-dec (λ b. ℕ-discrete b 32) (b ∷ bs)) (fault 6 (c + 0)) x (λ h. n (h .0)))
-
-blank-first : {A : Type 0} (bs : List ℕ) (c : ℕ) (x : Answer Fault A) → blank bs c x ≡ unless (further c (firstNotBlank bs)) x
-blank-first [] c x = unfold blank firstNotBlank in need-yes (all-dec (λ b. ℕ-discrete b 32) []) (fault 6 (c + blanks [])) x tt
-blank-first (b ∷ bs) c x = blank-cons b bs c x (ℕ-discrete b 32) (blank-first bs (suc c) x)
-
--- ---- the columns of a padded line
-
-drop-take : {A : Type 0} (a n : ℕ) (l : List A) → drop a (take n l) ≡ take (n - a) (drop a l)
-drop-take zero n l = rw sub-zero
-drop-take (suc a) zero l = let e : 0 - suc a ≡ 0 = omega arith in rw e
-drop-take (suc a) (suc n) [] = sym (take-nil (suc n - suc a))
-drop-take (suc a) (suc n) (x ∷ l) = let e : suc n - suc a ≡ n - a = omega arith in rw e (drop-take a n l)
-
--- the values of the columns after the first a, by the line's columns
-abbrev pub scanned : ℕ → (is : List Item) → List ℕ → Answer Fault (Vals is)
-scanned a [] line = ok tt
-scanned a (I w ∷ is) line = number (readField form.I (columns line a w)) (suc a) (λ z. amap (λ vs. (z, vs)) (scanned (a + w) is line))
-scanned a (F w ∷ is) line = number (readField form.F1 (columns line a w)) (suc a) (λ z. amap (λ vs. (z, vs)) (scanned (a + w) is line))
-scanned a (X w ∷ is) line = unless (further (suc a) (firstNotBlank (columns line a w))) (scanned (a + w) is line)
-scanned a (A w ∷ is) line = amap (λ vs. (columns line a w, vs)) (scanned (a + w) is line)
-scanned a (U w ∷ is) line = scanned (a + w) is line
-
-abbrev width : List Item → ℕ
-width [] = 0
-width (I w ∷ is) = w + width is
-width (F w ∷ is) = w + width is
-width (X w ∷ is) = w + width is
-width (A w ∷ is) = w + width is
-width (U w ∷ is) = w + width is
-
-module _ (line : List ℕ) (fits : length line ≤ 80) where
-  column-run : (a w : ℕ) → a + w ≤ 60 → take w (drop a (take 60 (pad line))) ≡ columns line a w
-  unfolding pad
-  column-run a w h = ap (take w) (drop-take a 60 (pad line)) ∙ take-take w (60 - a) (drop a (pad line)) (omega arith) ∙ sym (columns-padded line a w (omega arith) fits)
-
-  later : (w : ℕ) (is : List Item) (a : ℕ) → scan (suc (a + w)) is (drop (a + w) (take 60 (pad line))) ≡ scanned (a + w) is line
-      → scan (suc a + w) is (drop w (drop a (take 60 (pad line)))) ≡ scanned (a + w) is line
-  later w is a e = rw (drop-drop w a (take 60 (pad line)), suc-add a w) e
-
-  scan-is : (is : List Item) (a : ℕ) → a + width is ≤ 60 → scan (suc a) is (drop a (take 60 (pad line))) ≡ scanned a is line
-  unfolding scan
-  scan-is [] a h = refl
-  scan-is (I w ∷ is) a h =
-      ap₂ (λ (bs : List ℕ) (x : Answer Fault (Vals is)). number (readField form.I bs) (suc a) (λ z. amap (λ vs. (z, vs)) x)) (column-run a w (omega arith)) (later w is a (scan-is is (a + w) (omega arith)))
-  scan-is (F w ∷ is) a h =
-      ap₂ (λ (bs : List ℕ) (x : Answer Fault (Vals is)). number (readField form.F1 bs) (suc a) (λ z. amap (λ vs. (z, vs)) x)) (column-run a w (omega arith)) (later w is a (scan-is is (a + w) (omega arith)))
-  scan-is (X w ∷ is) a h =
-      ap₂ (λ (bs : List ℕ) (x : Answer Fault (Vals is)). blank bs (suc a) x) (column-run a w (omega arith)) (later w is a (scan-is is (a + w) (omega arith)))
-      ∙ blank-first (columns line a w) (suc a) (scanned (a + w) is line)
-  scan-is (A w ∷ is) a h =
-      ap₂ (λ (bs : List ℕ) (x : Answer Fault (Vals is)). amap (λ vs. (bs, vs)) x) (column-run a w (omega arith)) (later w is a (scan-is is (a + w) (omega arith)))
-  scan-is (U w ∷ is) a h = later w is a (scan-is is (a + w) (omega arith))
-
-  pub read-is : (is : List Item) → width is ≤ 60 → scan 1 is (take 60 (pad line)) ≡ scanned 0 is line
-  read-is is h = scan-is is 0 (omega arith)
 
 -- ---- the records of numbers
 

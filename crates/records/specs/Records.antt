@@ -19,6 +19,7 @@ use Rattle.layout.specs.Records.{F, X}
 use Rattle.layout.specs.Labels.{exponent, system, items}
 use Rattle.reading.specs.Feed.{Fault, fault}
 use Rattle.reading.specs.Fields.{number as on-number, scan, fields}
+use Rattle.reading.specs.ScanLaws.{blank-to, unless}
 use Rattle.reading.specs.Head.{axis-of, meant}
 use Rattle.records.specs.declared.Value.{Value}
 use Rattle.records.specs.declared.One.{One}
@@ -93,18 +94,10 @@ toldHeard k (Heard.Refused n c) = refused (fault n c)
 
 -- ---- what the code looks at
 
--- the first of the columns after the first a and up to e that is not blank
-unfoldable pub blank-to : List ℕ → ℕ → ℕ → Found
-blank-to line a e = further (a + 1) (firstNotBlank (columns line a (e - a)))
-
+-- the first of two
 abbrev pub first-of : Found → Found → Found
 first-of (At c) g = At c
 first-of Nowhere g = g
-
--- 6 there, else x
-abbrev pub unless : {A : Type 0} → Found → Answer Fault A → Answer Fault A
-unless (At c) x = refused (fault 6 c)
-unless Nowhere x = x
 
 -- z, where what must be blank is
 abbrev pub alone-in : Field → Found → Answer Fault ℤ

@@ -28,9 +28,10 @@ use Rattle.reading.specs.Fields.{number, fields}
 use Rattle.reading.specs.LabelLaws.{placed, placed-yes, placed-no, place-is, named, version-number}
 use Rattle.reading.specs.Head.{place, next}
 use Rattle.reading.specs.Read.{code-of}
-use Rattle.records.specs.Records.{version-in, unless, blank-to, alone-in}
+use Rattle.reading.specs.ScanLaws.{unless, blank-to, read-is}
+use Rattle.records.specs.Records.{version-in, alone-in}
 use Rattle.version.specs.Version.{judged-in}
-use Rattle.records.specs.RecordLaws.{read-is, version-is}
+use Rattle.records.specs.RecordLaws.{version-is}
 
 -- ---- 1.1
 

@@ -1,5 +1,5 @@
 use mathlib.Core.Path.{refl, sym, _∙_}
-use Rattle.records.specs.Records.{blank-to}
+use Rattle.reading.specs.ScanLaws.{blank-to}
 use borrow.Author.Needs.{needs}
 use Rattle.gathered.proofs.beside_mapping.Statement.{statement}
 use Rattle.gathered.proofs.beside_mapping.Tie as tie

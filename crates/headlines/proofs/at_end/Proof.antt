@@ -8,7 +8,7 @@ use Rattle.headlines.proofs.at_end.Lts as lts
 use Rattle.fields.proofs.first_not_blank.Reads as first-not-blank-reads
 use Rattle.gathered.proofs.refuse.Reads as refuse-reads
 use Rattle.headlines.proofs.ended.Reads as ended-reads
-use Rattle.records.specs.Records.{blank-to}
+use Rattle.reading.specs.ScanLaws.{blank-to}
 
 first-not-blank-requires : tie.Need-first-not-blank-requires
 first-not-blank-requires c κs = search needs

@@ -6,7 +6,7 @@ use Rattle.records.proofs.content.alone.Tie as tie
 use Rattle.records.proofs.content.alone.Reads as reads
 use Rattle.records.proofs.content.alone.Lts as lts
 use Rattle.fields.proofs.first_not_blank.Reads as first-not-blank-reads
-use Rattle.records.specs.Records.{blank-to}
+use Rattle.reading.specs.ScanLaws.{blank-to}
 
 enum-told : tie.Need-enum-told
 enum-told c = search needs

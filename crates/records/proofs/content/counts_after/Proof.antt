@@ -7,7 +7,7 @@ use Rattle.records.proofs.content.counts_after.Reads as reads
 use Rattle.records.proofs.content.counts_after.Lts as lts
 use Rattle.fields.proofs.first_not_blank.Reads as first-not-blank-reads
 use Rattle.fields.proofs.int_at.Reads as int-at-reads
-use Rattle.records.specs.Records.{blank-to}
+use Rattle.reading.specs.ScanLaws.{blank-to}
 
 int-at-requires : tie.Need-int-at-requires
 int-at-requires c κs = search needs

@@ -11,7 +11,7 @@ use Rattle.records.proofs.content.hear_epoch.Lts as lts
 use Rattle.fields.proofs.first_not_blank.Reads as first-not-blank-reads
 use Rattle.fields.proofs.six_numbers.Reads as six-numbers-reads
 use Rattle.records.proofs.content.dated.Reads as dated-reads
-use Rattle.records.specs.Records.{blank-to}
+use Rattle.reading.specs.ScanLaws.{blank-to}
 
 six-numbers-requires : tie.Need-six-numbers-requires
 six-numbers-requires c κs = search needs

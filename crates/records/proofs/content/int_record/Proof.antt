@@ -8,7 +8,8 @@ use Rattle.records.proofs.content.int_record.Reads as reads
 use Rattle.records.proofs.content.int_record.Lts as lts
 use Rattle.fields.proofs.int_at.Reads as int-at-reads
 use Rattle.records.proofs.content.alone.Reads as alone-reads
-use Rattle.records.specs.Records.{alone-in, blank-to}
+use Rattle.reading.specs.ScanLaws.{blank-to}
+use Rattle.records.specs.Records.{alone-in}
 
 int-at-requires : tie.Need-int-at-requires
 int-at-requires c κs = search needs

@@ -7,7 +7,7 @@ use Rattle.records.proofs.content.system_record.Reads as reads
 use Rattle.records.proofs.content.system_record.Lts as lts
 use Rattle.fields.proofs.first_not_blank.Reads as first-not-blank-reads
 use Rattle.records.proofs.content.counts_after.Reads as counts-after-reads
-use Rattle.records.specs.Records.{blank-to}
+use Rattle.reading.specs.ScanLaws.{blank-to}
 
 first-not-blank-requires : tie.Need-first-not-blank-requires
 first-not-blank-requires c κs = search needs

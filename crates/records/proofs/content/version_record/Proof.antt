@@ -8,7 +8,8 @@ use Rattle.records.proofs.content.version_record.Reads as reads
 use Rattle.records.proofs.content.version_record.Lts as lts
 use Rattle.fields.proofs.tenths_at.Reads as tenths-at-reads
 use Rattle.records.proofs.content.alone.Reads as alone-reads
-use Rattle.records.specs.Records.{alone-in, blank-to}
+use Rattle.reading.specs.ScanLaws.{blank-to}
+use Rattle.records.specs.Records.{alone-in}
 
 tenths-at-requires : tie.Need-tenths-at-requires
 tenths-at-requires c κs = search needs
