@@ -7,16 +7,13 @@ use native.Mathlib.Nat.{suc-mul, zero-mul}
 use mathlib.Core.List.{List, [], _∷_, _++_, map, append-assoc}
 use lib.ListN.{length, replicate, take, drop, length-append, length-drop, take-append-drop}
 use lib.Seq.{take-at, drop-at, length-take-le}
+use Rattle.kit.specs.Lists.{all-append}
 use Rattle.kit.specs.Answer.{All}
 use Rattle.areas.specs.Lists.{flat, chop, tab, zipw}
 
 -- ---- All
 
 module _ {A : Type 0} (P : A → Type 0) where
-  pub all-append : (a b : List A) → All P a → All P b → All P (a ++ b)
-  all-append [] b p q = q
-  all-append (x ∷ a) b p q = (p .0, all-append a b (p .1) q)
-
   pub all-take : (k : ℕ) (l : List A) → All P l → All P (take k l)
   all-take zero l p = tt
   all-take (suc k) [] p = tt
@@ -33,7 +30,7 @@ module _ {A : Type 0} (P : A → Type 0) where
 
   pub all-flat : (ls : List (List A)) → All (All P) ls → All P (flat ls)
   all-flat [] p = tt
-  all-flat (l ∷ ls) p = all-append l (flat ls) (p .0) (all-flat ls (p .1))
+  all-flat (l ∷ ls) p = all-append P l (flat ls) (p .0) (all-flat ls (p .1))
 
   pub all-turn : (Q : A → Type 0) (l : List A) → ((x : A) → P x → Q x) → All P l → All Q l
   all-turn Q [] f p = tt

@@ -7,13 +7,13 @@ use native.Mathlib.Omega.{arith}
 use native.Mathlib.Nat.{mul-assoc, mul-le-mul-right}
 use lib.ListN.{length, replicate, length-append, length-replicate}
 use lib.IntN.{ℤ, pos, negℤ}
+use Rattle.kit.specs.Lists.{all-append}
 use Rattle.kit.specs.Answer.{All}
 use Rattle.kit.specs.Parts.{neg-up, neg-dn, le-parts}
 use Rattle.forms.specs.Form as form
 use Rattle.forms.specs.Form.{Spells, Digit, numeral, sign, signed, pointed}
 use Rattle.layout.specs.Records.{Cells, c-blank, c-value, ValueRows, v-last, v-full}
 use Rattle.areas.specs.Formed.{Value}
-use Rattle.areas.proofs.ListLaws.{all-append}
 
 -- k digits
 abbrev tens : ℕ → ℕ

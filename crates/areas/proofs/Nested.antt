@@ -9,6 +9,7 @@ use native.Mathlib.Nat.{mul-one}
 use lib.ListN.{length, replicate, take, drop, length-map}
 use lib.Seq.{take-at, drop-at, take-all, drop-drop}
 use lib.IntN.{ℤ, pos, negsuc}
+use Rattle.kit.specs.Lists.{all-append}
 use Rattle.kit.specs.Answer.{All, pick-yes, pick-no}
 use Rattle.mapset.specs.declared.Kind.{Kind}
 use Rattle.mapset.specs.declared.Kind.the-variants.{Tec, Rms, Height}
@@ -21,7 +22,7 @@ use Rattle.areas.specs.Formed.{Value, BlockRules, MapRules, Rising, Maps
 use Rattle.areas.specs.Stores.{has}
 use Rattle.areas.specs.Nest.{a-block, a-tec, cut, third, if-there, kept, nest}
 use Rattle.areas.specs.Valid.{values-in, Blank}
-use Rattle.areas.proofs.ListLaws.{all-append, all-turn, all-map, all-flat, chop-flat, zip-back, tab-length, tab-all}
+use Rattle.areas.proofs.ListLaws.{all-turn, all-map, all-flat, chop-flat, zip-back, tab-length, tab-all}
 use Rattle.areas.proofs.KindLaws.{all-blocks, widths, slots-fit, kind-rules, kind-count, kind-exponents}
 use Rattle.areas.proofs.KeptLaws.{kept-all}
 use Rattle.areas.proofs.Needs.{marks-of, others, kind-nowhere, wanted-length, tec-rules, tec-count, tec-values, tec-exponents, all-exponents}

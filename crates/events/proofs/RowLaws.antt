@@ -10,6 +10,7 @@ use lib.ListN.{length, getD}
 use lib.Dec.{T, eqb, leb}
 use lib.IntN.{ℤ, natAbs}
 use native.Mathlib.Numerals.{add-one}
+use Rattle.kit.specs.Truth.{tested-at}
 use Rattle.mapset.specs.declared.Kind.{Kind}
 use Rattle.mapset.specs.declared.Kind.the-variants.{Tec, Rms, Height}
 use Rattle.layout.specs.Layout.{Other}
@@ -25,28 +26,6 @@ use Rattle.events.specs.Brings.{told, turned, Takes, Goes, Opened}
 use Rattle.events.specs.declared.State.{State}
 use Rattle.events.specs.declared.Event.{Event}
 use Rattle.events.specs.declared.Event.the-variants.{Nothing, Epoch, Marked, Block}
-
--- ---- a test of every number below n, computed
-
-abbrev below : (ℕ → Bool) → ℕ → Bool
-below f zero = true
-below f (suc n) = f n && below f n
-
-and-left : (a b : Bool) → T (a && b) → T a
-and-left true b t = tt
-and-left false b t = t
-
-and-right : (a b : Bool) → T (a && b) → T b
-and-right true b t = t
-and-right false b t = absurd t
-
-below-at : (f : ℕ → Bool) (n : ℕ) → T (below f n) → (k : ℕ) → k < n → T (f k)
-below-at f zero t k h = absurd (omega arith)
-below-at f (suc n) t k h = by (ℕ-discrete k n) (λ l. below-at f n (and-right (f n) (below f n) t) k l)
-  where
-    by : Dec (k ≡ n) → (k < n → T (f k)) → T (f k)
-    by (yes e) ih = rw e (and-left (f n) (below f n) t)
-    by (no e) ih = ih (omega arith)
 
 -- ---- the labels that bring nothing
 
@@ -89,7 +68,7 @@ listed k = eqb k 19 || (eqb k 23 || (eqb k 25 || (eqb k 27 || (eqb k 29 || eqb k
 quiet-at : (k : ℕ) → k < 32 → ¬ (k ≡ 19) → ¬ (k ≡ 23) → ¬ (k ≡ 25) → ¬ (k ≡ 27) → ¬ (k ≡ 29) → ¬ (k ≡ 30) → T (quiet (getD labels k version))
 unfolding quiet
 quiet-at k h a b c d e f =
-    rw (ne-eqb k 19 a, ne-eqb k 23 b, ne-eqb k 25 c, ne-eqb k 27 d, ne-eqb k 29 e, ne-eqb k 30 f) at (below-at (λ k. listed k || quiet (getD labels k version)) 32 tt k h)
+    rw (ne-eqb k 19 a, ne-eqb k 23 b, ne-eqb k 25 c, ne-eqb k 27 d, ne-eqb k 29 e, ne-eqb k 30 f) at (tested-at (λ k. listed k || quiet (getD labels k version)) 32 tt k h)
 
 module _ (line : List ℕ) (fits : length line ≤ 80) (k : ℕ) (is : k ≡ number-of line) (s : State) where
   -- the label of a number

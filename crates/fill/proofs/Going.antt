@@ -9,6 +9,7 @@ use native.Mathlib.Omega.{arith}
 use lib.ListN.{length, length-set}
 use lib.Seq.{sets, length-sets}
 use lib.IntN.{ℤ}
+use Rattle.kit.specs.Lists.{all-front, all-behind}
 use Rattle.kit.specs.Answer.{All}
 use Rattle.mapset.specs.declared.Kind.{Kind}
 use Rattle.mapset.specs.declared.Kind.the-variants.{Tec, Rms, Height}
@@ -82,15 +83,6 @@ same-sizes n B C fs gs l m e =
       epochs = same-lengths put-epoch keeps-epochs fs gs _ _ (ap (λ f. f .epochs) e);
       marks = same-lengths put-mark keeps-marks fs gs _ _ (ap (λ f. f .marks) e);
     }
-
-module _ {A : Type 0} (P : A → Type 0) where
-  all-left : (a b : List A) → All P (a ++ b) → All P a
-  all-left [] b p = tt
-  all-left (x ∷ a) b p = (p .0, all-left a b (p .1))
-
-  all-right : (a b : List A) → All P (a ++ b) → All P b
-  all-right [] b p = p
-  all-right (x ∷ a) b p = all-right a b (p .1)
 
 -- ---- a turn
 
@@ -207,10 +199,10 @@ module _ {n B C : ℕ} {N : Kind → ℕ} {t : List ℕ} {es : List event.Event}
         let d : due-behind C (label x) ≡ due C (r .event) = due-is C (told s) (label x) x rs ∙ ap (λ (v : Turn). v .due) u in
         record {
           within = w;
-          small = subst (λ (v : Turn). All (Inside n B C N) (v .events) → Small n B (v .next)) u (small-turn n B C N (told s) (g .small) (label x) x rs) (all-left (Inside n B C N) fs gs i);
+          small = subst (λ (v : Turn). All (Inside n B C N) (v .events) → Small n B (v .next)) u (small-turn n B C N (told s) (g .small) (label x) x rs) (all-front (Inside n B C N) fs gs i);
           valued = subst (λ j. Valued C j rs) d (subst (λ ys. Valued C 0 ys) e (g .valued));
-          here = all-left (Inside n B C N) fs gs i;
-          inside = all-right (Inside n B C N) fs gs i;
+          here = all-front (Inside n B C N) fs gs i;
+          inside = all-behind (Inside n B C N) fs gs i;
           goal = sym (scanned-append n B C fs gs l) ∙ ap (λ ys. scanned n B C ys l) (sym b) ∙ g .goal;
         }
 

@@ -10,14 +10,13 @@ use native.Mathlib.Omega.{arith}
 use lib.Dec.{T, eqb, eqb→eq}
 use lib.ListN.{length, getD, set, drop, drop-of-length-le}
 use lib.Seq.{getD-set-same, getD-set-other, drop-cons}
-use Rattle.kit.specs.Truth.{truth}
+use Rattle.kit.specs.Truth.{truth, and-left, and-right}
 use Rattle.mapset.specs.Grid.{Line, heights, latitudes, longitudes}
 use Rattle.mapset.specs.Header.{Content, count, tenths, epoch, axis, program, mapping, observables, system, contents, starred, Said, number, words, if-stands}
 use Rattle.layout.specs.Labels.{content}
 use Rattle.layout.specs.Layout.{Slots}
 use Rattle.reading.specs.Head.{number-in, axis-in, words-in, counted-in, system-in, Complete, complete?, made-texts}
 use Rattle.reading.specs.SlotLaws.{complete-at}
-use Rattle.reading.specs.LabelLaws.{and-left, and-right}
 use Rattle.records.specs.Records.{says}
 use Rattle.gathered.specs.Got.{nil, said, slot, places, slots-of, texts-of}
 use Rattle.records.specs.Tables.{kind-of, Numbers}

@@ -2,7 +2,7 @@
 use mathlib.Core.Path.{_≡_, refl, sym}
 use mathlib.Core.Bool.{Bool, true, false, _&&_, _||_}
 use mathlib.Core.List.{List, [], _∷_}
-use Prim.Native.Nat.{ℕ, suc, _+_, _≤_, _<_}
+use Prim.Native.Nat.{ℕ, zero, suc, _+_, _≤_, _<_}
 use native.Mathlib.Decide.{ℕ-discrete, decLe, decLt}
 use native.Mathlib.Numerals.{add-one}
 use native.Mathlib.Omega.{arith}
@@ -85,6 +85,28 @@ module _ {A : Type 0} (z : A) {P : A → Type 0} (d : (x : A) → Dec (P x)) (s 
 
   pub all-end : length s ≤ i → truth (all-dec d (drop i s)) ≡ true
   all-end h = rw (drop-of-length-le s h) (sym (holds (all-dec d []) tt))
+
+-- ---- tests that compute
+pub and-left : (a b : Bool) → T (a && b) → T a
+and-left true b t = tt
+and-left false b t = t
+
+pub and-right : (a b : Bool) → T (a && b) → T b
+and-right true b t = t
+and-right false b t = absurd t
+
+-- f tests each number below n
+abbrev pub tested : (ℕ → Bool) → ℕ → Bool
+tested f zero = true
+tested f (suc n) = f n && tested f n
+
+pub tested-at : (f : ℕ → Bool) (n : ℕ) → T (tested f n) → (k : ℕ) → k < n → T (f k)
+tested-at f zero t k h = absurd (omega arith)
+tested-at f (suc n) t k h = by (ℕ-discrete k n) (λ l. tested-at f n (and-right (f n) (tested f n) t) k l)
+  where
+    by : Dec (k ≡ n) → (k < n → T (f k)) → T (f k)
+    by (yes e) ih = rw e (and-left (f n) (tested f n) t)
+    by (no e) ih = ih (omega arith)
 
 -- ---- decisions that compute
 pub truth-ok : {P : Type 0} (d : Dec P) → T (truth d) → P

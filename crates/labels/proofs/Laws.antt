@@ -10,9 +10,9 @@ use lib.Dec.{T, eqb}
 use lib.ListN.{length, getD, drop, drop-of-length-le}
 use borrow.Author.Tests.{eq-eqb, ne-eqb, eqb-true}
 use lib.Seq.{drop-cons}
+use Rattle.kit.specs.Truth.{and-left, and-right}
 use Rattle.layout.specs.Labels.{name}
 use Rattle.layout.specs.Names.{holds, place-of, names, number-of}
-use Rattle.layout.proofs.Laws.{and-left, and-right}
 
 -- one column more
 pub holds-next : (s : List ℕ) (a : ℕ) (l : List ℕ) (j : ℕ) → j < length l → holds s (a + j) (drop j l) ≡ (eqb (getD s (a + j) 32) (getD l j 0) && holds s (a + (j + 1)) (drop (j + 1) l))

@@ -6,6 +6,7 @@ use Prim.Native.Nat.{ℕ, zero, suc, _<_}
 use native.Mathlib.Nat.{le-of-suc-le-suc, not-suc-le-zero}
 use lib.Dec.{T, eqb, eqb→eq}
 use lib.ListN.{length, getD}
+use Rattle.kit.specs.Truth.{and-left, and-right}
 use Rattle.layout.specs.Labels.{name}
 use Rattle.layout.specs.Names.{names}
 
@@ -13,14 +14,6 @@ use Rattle.layout.specs.Names.{names}
 abbrev pub every : (List ℕ → Bool) → List (List ℕ) → Bool
 every f [] = true
 every f (l ∷ ls) = f l && every f ls
-
-pub and-left : (a b : Bool) → T (a && b) → T a
-and-left true b t = tt
-and-left false b t = t
-
-pub and-right : (a b : Bool) → T (a && b) → T b
-and-right true b t = t
-and-right false b t = absurd t
 
 pub every-at : (f : List ℕ → Bool) (ls : List (List ℕ)) → T (every f ls) → (k : ℕ) → k < length ls → T (f (getD ls k []))
 every-at f [] t k h = absurd (not-suc-le-zero h)

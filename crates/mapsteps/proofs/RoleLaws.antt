@@ -9,6 +9,7 @@ use native.Mathlib.Omega.{arith}
 use lib.ListN.{length, getD}
 use lib.Dec.{T, eqb, leb}
 use borrow.Author.Tests.{ne-eqb, lt-leb}
+use Rattle.kit.specs.Truth.{tested-at}
 use Rattle.kit.specs.Answer.{refused, bind, get}
 use Rattle.mapset.specs.declared.Header.{Header}
 use Rattle.layout.specs.Text.{pad}
@@ -23,28 +24,6 @@ use Rattle.reading.specs.declared.Place.{Place}
 use Rattle.mapsteps.specs.ByLabel.{role, role-of}
 use Rattle.mapsteps.specs.declared.Role.{Role}
 use Rattle.mapsteps.specs.declared.Role.the-variants as R
-
--- ---- a test of every number below n, computed
-
-abbrev below : (ℕ → Bool) → ℕ → Bool
-below f zero = true
-below f (suc n) = f n && below f n
-
-and-left : (a b : Bool) → T (a && b) → T a
-and-left true b t = tt
-and-left false b t = t
-
-and-right : (a b : Bool) → T (a && b) → T b
-and-right true b t = t
-and-right false b t = absurd t
-
-below-at : (f : ℕ → Bool) (n : ℕ) → T (below f n) → (k : ℕ) → k < n → T (f k)
-below-at f zero t k h = absurd (omega arith)
-below-at f (suc n) t k h = by (ℕ-discrete k n) (λ l. below-at f n (and-right (f n) (below f n) t) k l)
-  where
-    by : Dec (k ≡ n) → (k < n → T (f k)) → T (f k)
-    by (yes e) ih = rw e (and-left (f n) (below f n) t)
-    by (no e) ih = ih (omega arith)
 
 -- ---- the role
 
@@ -77,7 +56,7 @@ listed k = eqb k 3 || (eqb k 19 || leb 23 k)
 
 misplaced-at : (k : ℕ) → k < 32 → T (listed k || is-misplaced (role-of (getD labels k version)))
 unfolding is-misplaced
-misplaced-at k h = below-at (λ k. listed k || is-misplaced (role-of (getD labels k version))) 32 tt k h
+misplaced-at k h = tested-at (λ k. listed k || is-misplaced (role-of (getD labels k version))) 32 tt k h
 
 other-role : (k : ℕ) → k < 23 → ¬ (k ≡ 3) → ¬ (k ≡ 19) → R.Misplaced ≡ role-of (getD labels k version)
 other-role k h a b = misplaced-is _ (rw (ne-eqb k 3 a, ne-eqb k 19 b, lt-leb 23 k h) at (misplaced-at k (omega arith)))

@@ -10,6 +10,7 @@ use lib.Dec.{T, eqb, eqb→eq}
 use lib.ListN.{length, getD, drop, length-append, length-drop, length-replicate}
 use lib.Seq.{take-all}
 use borrow.Author.Tests.{eq-eqb, eqb-true}
+use Rattle.kit.specs.Truth.{and-left, and-right}
 use Rattle.kit.specs.Answer.{pick, pick-yes, pick-no, same, sames}
 use Rattle.forms.specs.Columns.{columns}
 use Rattle.forms.specs.ColumnLaws.{columns-padded, columns-first}
@@ -49,14 +50,6 @@ holding s a (x ∷ n) e =
 abbrev pub wide : ℕ → List (List ℕ) → Bool
 wide w [] = true
 wide w (n ∷ ns) = eqb (length n) w && wide w ns
-
-pub and-left : (a b : Bool) → T (a && b) → T a
-and-left true b t = tt
-and-left false b t = t
-
-pub and-right : (a b : Bool) → T (a && b) → T b
-and-right true b t = t
-and-right false b t = absurd t
 
 module _ (s : List ℕ) (a w : ℕ) where
   place-next : (n : List ℕ) (ns : List (List ℕ)) → length n ≡ w → place-of s a ns ≡ placed (columns s a w) ns → Dec (columns s a w ≡ n) → (t : Bool) → holds s a n ≡ t

@@ -7,10 +7,10 @@ use native.Mathlib.Omega.{arith}
 use lib.Dec.{T, ltb, ltb→lt}
 use lib.ListN.{length, getD, take, List·getD-map}
 use lib.Seq.{getD-take}
+use Rattle.kit.specs.Truth.{and-left, and-right}
 use Rattle.mapset.specs.Grid.{heights, latitudes, longitudes}
 use Rattle.mapset.specs.Header.{Content, count, tenths, epoch, axis, program, mapping, observables, system, contents}
 use Rattle.layout.specs.Labels.{content, labels}
-use Rattle.reading.specs.LabelLaws.{and-left, and-right}
 use Rattle.records.specs.Tables.{kind-of, low-of, high-of, place-at, Numbers}
 
 -- the first 15 records of the header, all but the systems

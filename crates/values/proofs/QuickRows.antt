@@ -9,6 +9,7 @@ use native.Mathlib.Decide.{ℕ-discrete, decLe}
 use lib.Dec.{T, eqb}
 use lib.ListN.{length, getD, take, drop, length-drop}
 use lib.Seq.{drop-cons, length-take-le, getD-take, getD-drop}
+use Rattle.kit.specs.Truth.{tested-at}
 use Rattle.forms.specs.Form.{I}
 use Rattle.forms.specs.Read.{readField, isNumber}
 use Rattle.forms.specs.Bytes.{isDigit, mayPrecede}
@@ -93,27 +94,6 @@ module _ (l es : List ℕ) (same : es ≡ last-columns) (a s w : ℕ) (from : s 
 
 -- ---- a field
 
--- what is tested of each number below n
-abbrev below : ℕ → (ℕ → Bool) → Bool
-below zero f = true
-below (suc n) f = f n && below n f
-
-and-left : (a b : Bool) → T (a && b) → T a
-and-left true b t = tt
-and-left false b t = t
-
-and-right : (a b : Bool) → T (a && b) → T b
-and-right true b t = t
-and-right false b t = absurd t
-
-below-at : (f : ℕ → Bool) (n : ℕ) → T (below n f) → (k : ℕ) → k < n → T (f k)
-below-at f zero t k h = absurd (omega arith)
-below-at f (suc n) t k h = by (ℕ-discrete k n) (below-at f n (and-right (f n) (below n f) t) k)
-  where
-    by : Dec (k ≡ n) → (k < n → T (f k)) → T (f k)
-    by (yes p) g = rw p (and-left (f n) (below n f) t)
-    by (no q) g = g (omega arith)
-
 is-true : (b : Bool) → T b → b ≡ true
 is-true true t = refl
 is-true false t = absurd t
@@ -157,11 +137,11 @@ module _ (l : List ℕ) (m : ℕ) (long : m * 5 < length l) (most : m ≤ 16) (f
       let k16 : k < 16 = omega arith in
       rw (five-of l (k * 5) (omega arith))
       (all-five (mayPrecede (getD l a 0) (getD l (suc a) 0)) (mayPrecede (getD l (suc a) 0) (getD l (suc (suc a)) 0)) (mayPrecede (getD l (suc (suc a)) 0) (getD l (suc (suc (suc a))) 0)) (mayPrecede (getD l (suc (suc (suc a))) 0) (getD l (suc (suc (suc (suc a)))) 0)) (isDigit (getD l (suc (suc (suc (suc a)))) 0))
-      (inside (getD l a 0) (getD l (suc a) 0) (last? a) (below-at (λ k. not (last? (k * 5))) 16 tt k k16) (fit a (omega arith)))
-      (inside (getD l (suc a) 0) (getD l (suc (suc a)) 0) (last? (suc a)) (below-at (λ k. not (last? (suc (k * 5)))) 16 tt k k16) (fit (suc a) (omega arith)))
-      (inside (getD l (suc (suc a)) 0) (getD l (suc (suc (suc a))) 0) (last? (suc (suc a))) (below-at (λ k. not (last? (suc (suc (k * 5))))) 16 tt k k16) (fit (suc (suc a)) (omega arith)))
-      (inside (getD l (suc (suc (suc a))) 0) (getD l (suc (suc (suc (suc a)))) 0) (last? (suc (suc (suc a)))) (below-at (λ k. not (last? (suc (suc (suc (k * 5)))))) 16 tt k k16) (fit (suc (suc (suc a))) (omega arith)))
-      (at-end (getD l (suc (suc (suc (suc a)))) 0) (getD l (suc (suc (suc (suc (suc a))))) 0) (last? (suc (suc (suc (suc a))))) (below-at (λ k. last? (suc (suc (suc (suc (k * 5)))))) 16 tt k k16) (fit (suc (suc (suc (suc a)))) (omega arith))))
+      (inside (getD l a 0) (getD l (suc a) 0) (last? a) (tested-at (λ k. not (last? (k * 5))) 16 tt k k16) (fit a (omega arith)))
+      (inside (getD l (suc a) 0) (getD l (suc (suc a)) 0) (last? (suc a)) (tested-at (λ k. not (last? (suc (k * 5)))) 16 tt k k16) (fit (suc a) (omega arith)))
+      (inside (getD l (suc (suc a)) 0) (getD l (suc (suc (suc a))) 0) (last? (suc (suc a))) (tested-at (λ k. not (last? (suc (suc (k * 5))))) 16 tt k k16) (fit (suc (suc a)) (omega arith)))
+      (inside (getD l (suc (suc (suc a))) 0) (getD l (suc (suc (suc (suc a)))) 0) (last? (suc (suc (suc a)))) (tested-at (λ k. not (last? (suc (suc (suc (k * 5)))))) 16 tt k k16) (fit (suc (suc (suc a))) (omega arith)))
+      (at-end (getD l (suc (suc (suc (suc a)))) 0) (getD l (suc (suc (suc (suc (suc a))))) 0) (last? (suc (suc (suc (suc a))))) (tested-at (λ k. last? (suc (suc (suc (suc (k * 5)))))) 16 tt k k16) (fit (suc (suc (suc (suc a)))) (omega arith))))
 
   number-at : (k : ℕ) → k < m → true ≡ isNumber (value-field l k)
   number-at k h =
