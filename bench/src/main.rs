@@ -4,6 +4,7 @@
 #![forbid(unsafe_code)]
 
 use bench::ask::{ask, Question, View};
+use bench::calendar::seconds;
 use bench::files;
 use bench::header::Header;
 use bench::plain::{read, Areas};
@@ -29,6 +30,7 @@ fn main() {
     let ratio = report_reading("25 TEC maps", &tec);
     report_reading("25 TEC and 25 RMS maps", &both);
     report_asking(&tec);
+    report_moving();
     report_writing("25 TEC maps", &tec);
     report_writing("25 TEC and 25 RMS maps", &both);
     println!("ratio {ratio:.2}");
@@ -170,6 +172,32 @@ fn ask_library(given: &Given, question: &Question) -> i32 {
     let mut value = [0];
     assert_eq!(Archive.ask(given, &asked, &mut value), 0);
     value[0]
+}
+
+/// The first and the last second of each year from 1900 to 2199.
+fn ends_of_years() -> Vec<u64> {
+    let first = |year| seconds([year, 1, 1, 0, 0, 0]).expect("a date");
+    let last = |year| seconds([year, 12, 31, 23, 59, 59]).expect("a date");
+    (1900..2200)
+        .flat_map(|year| [first(year), last(year)])
+        .collect()
+}
+
+/// Each end of a year moved by 0 seconds: twice a second into its date, and twice back.
+fn report_moving() {
+    let ends = ends_of_years();
+    let mut best = Duration::MAX;
+    for _ in 0..ROUNDS {
+        timed(&mut best, || {
+            for &end in &ends {
+                let mut moved = [0];
+                assert_eq!(Archive.moved(black_box(end), 0, &mut moved), 0);
+                assert_eq!(moved[0], end, "a date is not its own second");
+            }
+        });
+    }
+    let each = micros(best) * 1000.0 / ends.len() as f64;
+    println!("one epoch moved: library {each:.0} ns");
 }
 
 fn report_writing(name: &str, text: &str) {

@@ -1,5 +1,7 @@
 //! The calendar against day counting by another formula.
 
+use compare::archive::Archive;
+use compare::boundary::Boundary;
 use second::calendar::{date, moved, seconds, END};
 
 /// Days from 1900-01-01, with the year counted from March (a day-of-era formula).
@@ -46,6 +48,23 @@ fn moving_is_adding() {
             let result = epoch as i64 + by;
             let good = (0..END as i64).contains(&result);
             assert_eq!(moved(epoch, by).ok(), good.then_some(result as u64));
+        }
+    }
+}
+
+#[test]
+fn the_library_moves_from_every_end_of_a_year() {
+    for year in 1900..=2199 {
+        for end in [[year, 1, 1, 0, 0, 0], [year, 12, 31, 23, 59, 59]] {
+            let epoch = seconds(end).unwrap();
+            for by in [-366 * 86_400, -86_400, -1, 0, 1, 86_400, 366 * 86_400] {
+                let mut result = [u64::MAX];
+                let answer = Archive.moved(epoch, by, &mut result);
+                match moved(epoch, by) {
+                    Ok(expected) => assert_eq!((answer, result), (0, [expected])),
+                    Err(_) => assert_eq!((answer, result), (7, [u64::MAX])),
+                }
+            }
         }
     }
 }

@@ -3,3 +3,4 @@ pub mod Sums
 pub mod Years
 pub mod SumLaws
 pub mod YearLaws
+pub mod Formula

@@ -1,43 +1,40 @@
--- `days::days_to_year` meets its contract. The loop's invariant: the days so far are those of the first k.
+-- `days::days_to_year` meets its contract: the formula is the sum.
+use borrow.Author.Needs.{needs}
 use native.Mathlib.Omega.{arith}
-use mathlib.Core.Path.{_≡_, refl, ap, _∙_}
-use Prim.Native.Nat.{_-_, _≤_}
-use Rattle.days.specs.Sums.{sum}
-use Rattle.days.specs.SumLaws.{sum-suc, sum-bound}
-use Rattle.days.specs.Years.{yearDays}
-use Rattle.days.specs.YearLaws.{year-le}
+use Prim.Native.Nat.{_+_}
+use Rattle.days.specs.Formula.{leap-le, years-by-formula}
 use Rattle.days.proofs.days_to_year.Statement.{statement}
 use Rattle.days.proofs.days_to_year.Tie as tie
 
-abbrev Inv-loop : tie.InvT-loop
-Inv-loop n days₀ k₀ days k = (k ≤ n) × (days ≡ sum yearDays k)
+mul-result : tie.Need-mul-result
+mul-result c = search needs
 
-abbrev μ-loop : tie.MeasureT-loop
-μ-loop n days₀ k₀ days k = n - k
+add-leap-days : tie.Need-add-leap-days
+add-leap-days c = search needs
 
-loop-holds : tie.Need-loop-holds Inv-loop μ-loop
-unfolding sum
-loop-holds c = (omega arith, refl)
+leap-days-requires : tie.Need-leap-days-requires
+leap-days-requires c κs = search needs
 
-year-days-requires : tie.Need-year-days-requires Inv-loop μ-loop
-year-days-requires c κs = omega arith
+add-result : tie.Need-add-result
+add-result c = record { fits = omega (arith, c .leap-days .ensures, leap-le (1899 + c .before .args .n)) }
 
-add-days : tie.Need-add-days Inv-loop μ-loop
-add-days c =
-    let k = c .before .before .loop .k in
-    record { fits = omega (arith, c .year-days .ensures, year-le k, sum-bound yearDays 366 (year-le) k) }
+leap-days-requires-2 : tie.Need-leap-days-requires-2
+leap-days-requires-2 c κs = search needs
 
-add-k : tie.Need-add-k Inv-loop μ-loop
-add-k c = omega arith
+sub-result : tie.Need-sub-result
+sub-result c = omega (arith, c .before .leap-days .ensures, c .leap-days2 .ensures, years-by-formula (c .before .before .args .n))
 
-loop-less : tie.Need-loop-less Inv-loop μ-loop
-loop-less c = omega arith
-
-loop-again : tie.Need-loop-again Inv-loop μ-loop
-loop-again c = (omega arith, omega (arith, sum-suc yearDays (c .before .before .loop .k), c .year-days .ensures))
-
-returns : tie.Need-returns Inv-loop μ-loop
-returns c = c .before .loop .inv .1 ∙ ap (sum yearDays) (omega arith)
+returns : tie.Need-returns
+returns c = omega (arith, c .before .leap-days .ensures, c .leap-days2 .ensures, years-by-formula (c .before .before .args .n))
 
 pub days-to-year-spec : {M : Type 1} → statement M
-days-to-year-spec = tie.close (tie.spec Inv-loop μ-loop loop-holds year-days-requires add-days add-k loop-less loop-again returns)
+days-to-year-spec =
+    tie.close
+    (tie.spec
+    mul-result
+    add-leap-days
+    leap-days-requires
+    add-result
+    leap-days-requires-2
+    sub-result
+    returns)

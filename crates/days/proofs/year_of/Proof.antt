@@ -1,42 +1,63 @@
--- `days::year_of` meets its contract. The loop's invariant: the days are the rest past those of the first k.
+-- `days::year_of` meets its contract: the year tried does not begin too late, and the next does not end too early.
+use borrow.Author.Needs.{needs}
 use native.Mathlib.Omega.{arith}
+use native.Mathlib.Decide.{decLe}
 use mathlib.Core.Path.{_≡_, ap}
-use Prim.Native.Nat.{_+_, _-_, _≤_}
-use Rattle.days.specs.Sums.{sum}
-use Rattle.days.specs.SumLaws.{sum-suc}
+use Prim.Native.Nat.{ℕ, _+_, _-_, _*_, _/_, _≤_, _<_}
+use Rattle.days.specs.Sums.{sum, Place}
+use Rattle.days.specs.SumLaws.{sum-suc, sum-bound}
 use Rattle.days.specs.Years.{yearDays}
+use Rattle.days.specs.YearLaws.{year-le, all-years}
+use Rattle.days.specs.Formula.{years-least}
 use Rattle.days.proofs.year_of.Statement.{statement}
 use Rattle.days.proofs.year_of.Tie as tie
 
-abbrev Inv-loop : tie.InvT-loop
-Inv-loop days rest₀ k₀ rest k = (k ≤ 299) × (days ≡ sum yearDays k + rest)
+module _ (days : ℕ) (p : days < sum yearDays 300) where
+  tried : days / 366 < 300
+  tried = omega (arith, all-years)
 
-abbrev μ-loop : tie.MeasureT-loop
-μ-loop days rest₀ k₀ rest k = 299 - k
+  begun : sum yearDays (days / 366) ≤ days
+  begun = omega (arith, sum-bound yearDays 366 (year-le) (days / 366))
 
-loop-holds : tie.Need-loop-holds Inv-loop μ-loop
-unfolding sum
-loop-holds c = (omega arith, omega arith)
+  not-last : (k : ℕ) → k ≤ 300 → sum yearDays k ≤ days → k < 300
+  not-last k h l = by (decLe 300 k)
+    where
+      by : Dec (300 ≤ k) → k < 300
+      by (yes g) = let e : k ≡ 300 = omega arith in absurd (omega (arith, ap (sum yearDays) e))
+      by (no g) = omega arith
 
-year-days-requires : tie.Need-year-days-requires Inv-loop μ-loop
-year-days-requires c κs = omega arith
+  here : (b n : ℕ) → b ≡ sum yearDays (days / 366) → n ≡ yearDays (days / 366) → days - b < n
+      → (days / 366 < 300) × Place yearDays days (days / 366) (days - b)
+  here b n e f h = (tried, record { at = omega (arith, begun); less = omega arith })
 
-returns : tie.Need-returns Inv-loop μ-loop
-returns c = (omega arith, record { at = c .before .before .before .loop .inv .1; less = omega (arith, c .before .year-days .ensures) })
+  next : (b n : ℕ) → b ≡ sum yearDays (days / 366) → n ≡ yearDays (days / 366) → n ≤ days - b
+      → (days / 366 + 1 < 300) × Place yearDays days (days / 366 + 1) (days - b - n)
+  next b n e f h =
+      let k = days / 366 in
+      let one : sum yearDays (k + 1) ≡ b + n = rw (e, f) (sum-suc yearDays k) in
+      let start = begun in
+      let some = tried in
+      let ends : days < sum yearDays (k + 1 + 1) = omega (arith, years-least (k + 1 + 1)) in
+      (not-last (k + 1) (omega arith) (omega arith), record { at = omega arith; less = omega (arith, sum-suc yearDays (k + 1)) })
 
-add-k : tie.Need-add-k Inv-loop μ-loop
-add-k c = omega arith
+days-to-year-requires : tie.Need-days-to-year-requires
+days-to-year-requires c κs = tried _ (c .pre)
 
-loop-less : tie.Need-loop-less Inv-loop μ-loop
-loop-less c = omega arith
+sub-rest : tie.Need-sub-rest
+sub-rest c = omega (arith, c .days-to-year .ensures, begun _ (c .before .pre))
 
-loop-again : tie.Need-loop-again Inv-loop μ-loop
-loop-again c = (omega arith, omega (arith, sum-suc yearDays (c .before .before .before .loop .k), c .before .year-days .ensures))
+year-days-requires : tie.Need-year-days-requires
+year-days-requires c κs = tried _ (c .before .pre)
 
-returns-2 : tie.Need-returns-2 Inv-loop μ-loop
-returns-2 c =
-    let k : c .before .loop .k ≡ 299 = omega arith in
-    (omega arith, record { at = c .before .loop .inv .1; less = omega (arith, ap (sum yearDays) k, ap yearDays k, sum-suc yearDays 299, c .before .before .pre) })
+returns : tie.Need-returns
+returns c = here _ (c .before .before .before .pre) _ _ (c .before .before .days-to-year .ensures) (c .before .year-days .ensures) (c .if1 .taken)
+
+add-t5 : tie.Need-add-t5
+add-t5 c = search needs
+
+returns-2 : tie.Need-returns-2
+returns-2 c = next _ (c .before .before .before .pre) _ _ (c .before .before .days-to-year .ensures) (c .before .year-days .ensures) (c .if1 .left)
 
 pub year-of-spec : {M : Type 1} → statement M
-year-of-spec = tie.close (tie.spec Inv-loop μ-loop loop-holds year-days-requires returns add-k loop-less loop-again returns-2)
+year-of-spec =
+    tie.close (tie.spec days-to-year-requires sub-rest year-days-requires returns add-t5 returns-2)
