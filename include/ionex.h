@@ -178,7 +178,8 @@ enum ionex_method {
  * Answers for the value at a place and second, interpolated between the four nodes around the place. The exact fraction
  * is rounded once, halves away from zero.
  *
- *   lat, lon   hundredths of a degree; whole turns of longitude make no difference
+ *   lat, lon   hundredths of a degree; whole turns of longitude make no difference. Where LON2 + DLON is LON1 + 360.0,
+ *              the column after the last is the first, so that no longitude is outside; else x beyond LON2 is
  *   layer      counted from 0
  *   second     seconds from 1900-01-01 00:00:00
  *

@@ -23,11 +23,17 @@ pub struct Question {
     pub second: u64,
 }
 
-/// A line or map, its share, and the share of the next one.
+/// Two neighbouring lines or maps, and the share of each.
 #[derive(Clone, Copy)]
 struct Between {
-    at: usize,
+    at: [usize; 2],
     shares: [i64; 2],
+}
+
+impl Between {
+    fn parts(self) -> impl Iterator<Item = (usize, i64)> {
+        self.at.into_iter().zip(self.shares)
+    }
 }
 
 /// Thousandths of a TECU or of a kilometre, or a refusal: 23, 31, 20, 21, 22.
@@ -46,8 +52,7 @@ pub fn ask(header: &Header, view: &View, question: &Question) -> Result<i32, u8>
     }
     let latitude = i64::from(question.lat) - 10 * header.latitudes.first;
     let row = along(&header.latitudes, latitude * header.latitudes.step.signum()).ok_or(21)?;
-    let longitude = i64::from(question.lon) - 10 * header.longitudes.first;
-    let column = along(&header.longitudes, longitude.rem_euclid(36_000)).ok_or(21)?;
+    let column = around(&header.longitudes, i64::from(question.lon)).ok_or(21)?;
     value(
         header,
         view,
@@ -66,16 +71,38 @@ fn along(axis: &Axis, offset: i64) -> Option<Between> {
     if offset < 0 || offset > 10 * (axis.last - axis.first).abs() {
         return None;
     }
+    Some(between(offset, step))
+}
+
+/// The line at or before an offset, and the next one.
+fn between(offset: i64, step: i64) -> Between {
+    let at = (offset / step) as usize;
     let share = offset % step;
-    Some(Between {
-        at: (offset / step) as usize,
+    Between {
+        at: [at, at + 1],
         shares: [step - share, share],
-    })
+    }
+}
+
+/// The two columns around a longitude; after the last comes the first where one step more is a whole turn.
+fn around(axis: &Axis, lon: i64) -> Option<Between> {
+    let offset = (lon - 10 * axis.first).rem_euclid(36_000);
+    if axis.last + axis.step != axis.first + 3600 {
+        return along(axis, offset);
+    }
+    let mut column = between(offset, 10 * axis.step);
+    if column.at[1] == axis.count() {
+        column.at[1] = 0;
+    }
+    Some(column)
 }
 
 fn in_time(epochs: &[u64], question: &Question) -> Option<Between> {
     let second = question.second;
-    let alone = |at| Between { at, shares: [1, 0] };
+    let alone = |at| Between {
+        at: [at, at],
+        shares: [1, 0],
+    };
     if second < epochs[0] || second > epochs[epochs.len() - 1] {
         return None;
     }
@@ -87,7 +114,7 @@ fn in_time(epochs: &[u64], question: &Question) -> Option<Between> {
     Some(match question.method {
         0 => alone(if after <= before { at } else { at + 1 }),
         _ => Between {
-            at,
+            at: [at, at + 1],
             shares: [before, after],
         },
     })
@@ -106,9 +133,9 @@ fn value(
 ) -> Option<i32> {
     let mut sum = 0;
     let mut all = 0;
-    for (map, a) in (time.at..).zip(time.shares) {
-        for (row, b) in (row.at..).zip(row.shares) {
-            for (column, c) in (column.at..).zip(column.shares) {
+    for (map, a) in time.parts() {
+        for (row, b) in row.parts() {
+            for (column, c) in column.parts() {
                 let weight = a * b * c;
                 if weight != 0 {
                     sum += weight * node(header, view, kind, map, layer, row, column)?;

@@ -49,17 +49,14 @@ impl Split {
 
     /// From `place` towards the next one by `offset` of `width`.
     fn between(place: usize, offset: i128, width: i128) -> Split {
+        Split::towards(place, place + 1, offset, width)
+    }
+
+    /// From `place` towards `next` by `offset` of `width`.
+    fn towards(place: usize, next: usize, offset: i128, width: i128) -> Split {
+        let part = |place, shares| Part { place, shares };
         Split {
-            parts: [
-                Part {
-                    place,
-                    shares: width - offset,
-                },
-                Part {
-                    place: place + 1,
-                    shares: offset,
-                },
-            ],
+            parts: [part(place, width - offset), part(next, offset)],
             all: width,
         }
     }
@@ -132,22 +129,38 @@ fn latitude(axis: &Axis, hundredths: i64) -> Option<Split> {
 }
 
 /// "The longitude is brought by whole turns into LON1 <= x < LON1 + 360.00; x
-/// beyond LON2 is outside."
+/// beyond LON2 is outside", but for the strip of 02's Ask 2, where "the column
+/// after the last is the first".
 fn longitude(axis: &Axis, hundredths: i64) -> Option<Split> {
     let from_first = i128::from(hundredths) - i128::from(axis.first) * 10;
-    along(axis, from_first.rem_euclid(36_000))
+    let offset = from_first.rem_euclid(36_000);
+    let beyond = offset - length(axis);
+    if beyond > 0 && axis.has_strip() {
+        let last = usize::try_from(axis.count() - 1).ok()?;
+        return Some(Split::towards(last, 0, beyond, width(axis)));
+    }
+    along(axis, offset)
 }
 
 /// The grid line at or before an offset in hundredths from the axis' first. On
 /// the last line the neighbour, which does not exist, has weight zero.
 fn along(axis: &Axis, offset: i128) -> Option<Split> {
-    let length = i128::from((axis.last - axis.first).abs()) * 10;
-    let width = i128::from(axis.step.abs()) * 10;
-    if offset < 0 || offset > length {
+    if offset < 0 || offset > length(axis) {
         return None;
     }
+    let width = width(axis);
     let place = usize::try_from(offset / width).ok()?;
     Some(Split::between(place, offset % width, width))
+}
+
+/// From the first line to the last, in hundredths.
+fn length(axis: &Axis) -> i128 {
+    i128::from((axis.last - axis.first).abs()) * 10
+}
+
+/// From one line to the next, in hundredths.
+fn width(axis: &Axis) -> i128 {
+    i128::from(axis.step.abs()) * 10
 }
 
 /// "the nearest map, the earlier of two equally near"
@@ -270,17 +283,39 @@ mod tests {
         );
         let axis = Axis {
             first: 0,
-            last: 3550,
+            last: 3500,
             step: 50,
         };
-        assert_eq!(longitude(&axis, 35_501), None);
-        assert_eq!(longitude(&axis, 35_500), Some(Split::between(71, 0, 500)));
-        assert_eq!(longitude(&axis, -500), Some(Split::between(71, 0, 500)));
+        assert_eq!(longitude(&axis, 35_001), None);
+        assert_eq!(longitude(&axis, 35_000), Some(Split::between(70, 0, 500)));
+        assert_eq!(longitude(&axis, -1000), Some(Split::between(70, 0, 500)));
+        assert_eq!(longitude(&axis, -999), None);
         // 9,223,372,036,854,775,807 = 36,000 * 256,204,778,801,521 + 19,807.
         assert_eq!(
             longitude(&axis, i64::MAX),
             Some(Split::between(19_807 / 500, 19_807 % 500, 500))
         );
         assert!(longitude(&axis, i64::MIN).is_some());
+    }
+
+    #[test]
+    fn strip_goes_to_the_first_column() {
+        let strip = |first, last, step| Axis { first, last, step };
+        let axis = strip(0, 3575, 25);
+        let of = |beyond| Some(Split::towards(143, 0, beyond, 250));
+        assert_eq!(longitude(&axis, 35_751), of(1));
+        assert_eq!(longitude(&axis, 35_999), of(249));
+        assert_eq!(longitude(&axis, -1), of(249));
+        assert_eq!(longitude(&axis, 35_750), Some(Split::between(143, 0, 250)));
+        assert_eq!(longitude(&axis, 36_000), Some(Split::between(0, 0, 250)));
+        let axis = strip(-1800, 1750, 50);
+        let of = |beyond| Some(Split::towards(71, 0, beyond, 500));
+        assert_eq!(longitude(&axis, 17_501), of(1));
+        assert_eq!(longitude(&axis, -18_001), of(499));
+        assert_eq!(longitude(&axis, 17_999 + 36_000), of(499));
+        // One column less, or the half of a strip: outside.
+        assert_eq!(longitude(&strip(0, 3550, 25), 35_501), None);
+        assert_eq!(longitude(&strip(0, 3500, 50), 35_001), None);
+        assert_eq!(longitude(&strip(-1800, 1700, 50), 17_001), None);
     }
 }

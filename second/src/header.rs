@@ -177,6 +177,12 @@ impl Axis {
         self.first % self.step == 0 && self.last % self.step == 0
     }
 
+    /// 02, Ask 2: "Where LON2 + DLON = LON1 + 360.0, the column after the last is
+    /// the first." For longitudes without a fault.
+    pub fn has_strip(&self) -> bool {
+        self.last + self.step == self.first + 3600
+    }
+
     /// The number of grid lines, for an axis without a fault.
     pub fn count(&self) -> i64 {
         if self.step == 0 {

@@ -2,8 +2,8 @@
 //! written from the documents only. It reads text into lent areas, writes a
 //! map set as canonical text, and answers for the value at a place and second.
 //!
-//! "01" in comments is the scope paper; "001" and "000" are the two source
-//! documents (IONEX 1.1 and version 1).
+//! "01" in comments is the scope paper and "02" the paper of change requests;
+//! "001" and "000" are the two source documents (IONEX 1.1 and version 1).
 
 #![forbid(unsafe_code)]
 

@@ -2,7 +2,7 @@
 
 mod common;
 use common::*;
-use second::{ask, Answer, Header, Question, Texts};
+use second::{ask, Answer, Axis, Header, Question, Texts};
 
 type Set = (Header, Texts, Own);
 
@@ -162,6 +162,78 @@ fn in_space() {
     assert_eq!(answer(&mut set, &question), Err(21));
     question.layer = i64::MIN;
     assert_eq!(answer(&mut set, &question), Err(21));
+}
+
+/// The base set on a grid of other columns, in tenths: the values of a row go up by 10 from 100 at its first column.
+fn around(first: i64, last: i64, step: i64) -> Set {
+    let (mut header, texts, _) = set();
+    header.longitudes = Axis { first, last, step };
+    let columns = header.longitudes.count() as usize;
+    let mut own = Own::new([4 * columns, 0, 0, 12, 2, 2]);
+    for (at, value) in own.tec.iter_mut().enumerate() {
+        *value = 100 + 10 * (at % columns) as i32;
+    }
+    own.exponents.fill(-3);
+    own.epochs = vec![FIRST, FIRST + 7200];
+    own.marks.fill(0);
+    (header, texts, own)
+}
+
+#[test]
+fn in_the_strip() {
+    // 02, Ask 2: the last column, 143, has 1530, and the first has 100.
+    let mut set = around(0, 3575, 25);
+    for (longitude, value) in [
+        (35_750, 1530),
+        // 1430 / 250 = 5.72 for each hundredth of a degree.
+        (35_751, 1524),
+        (35_850, 958),
+        // 815, halfway.
+        (35_875, 815),
+        (35_999, 106),
+        (36_000, 100),
+        (-1, 106),
+        (-125 - 36_000 * 7, 815),
+    ] {
+        let mut question = at(1000, longitude, 0);
+        for method in [0, 1] {
+            question.method = method;
+            assert_eq!(answer(&mut set, &question), tecu(value), "{longitude}");
+        }
+    }
+    // The first column of each row has no value: only the last column itself is left of the strip.
+    for row in 0..4 {
+        set.2.tec[144 * row] = 9999;
+    }
+    assert_eq!(answer(&mut set, &at(1000, 35_750, 0)), tecu(1530));
+    assert_eq!(answer(&mut set, &at(1000, 35_751, 0)), Err(22));
+    assert_eq!(answer(&mut set, &at(1000, 35_749, 0)), tecu(1530));
+    // Two other grids with a strip, whose last column, 71, has 810.
+    for (first, last) in [(0, 3550), (-1800, 1750)] {
+        let mut set = around(first, last, 50);
+        let longitude = last * 10 + 250;
+        assert_eq!(answer(&mut set, &at(500, longitude, 0)), tecu(455));
+        assert_eq!(answer(&mut set, &at(-1, longitude, 0)), Err(21));
+    }
+}
+
+#[test]
+fn no_strip() {
+    // One column less than a strip needs; LON2 = LON1 + 360.0 keeps its two end columns.
+    for (last, step) in [(3550, 25), (3500, 50)] {
+        let mut set = around(0, last, step);
+        let end = 10 * last;
+        let columns = last / step;
+        assert_eq!(answer(&mut set, &at(0, end, 0)), tecu(100 + 10 * columns));
+        assert_eq!(answer(&mut set, &at(0, end + 1, 0)), Err(21));
+        assert_eq!(answer(&mut set, &at(0, -1, 0)), Err(21));
+    }
+    let mut set = around(0, 3600, 50);
+    assert_eq!(answer(&mut set, &at(0, 35_750, 0)), tecu(815));
+    assert_eq!(answer(&mut set, &at(0, 36_000, 0)), tecu(100));
+    set.2.tec[73] = 9999;
+    assert_eq!(answer(&mut set, &at(0, 35_750, 0)), tecu(815));
+    assert_eq!(answer(&mut set, &at(0, 36_000, 0)), Err(22));
 }
 
 #[test]

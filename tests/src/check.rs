@@ -22,6 +22,8 @@ pub struct Counts {
     pub accepted: u64,
     pub written: u64,
     pub answered: u64,
+    /// Between the last column and the first.
+    pub in_strip: u64,
     pub moved: u64,
     /// Refusals of reading by number, and those after END OF HEADER.
     pub reading: [u64; 12],
@@ -46,7 +48,10 @@ impl Counts {
             }
             (Job::Write { .. }, None) => self.written += 1,
             (Job::Write { .. }, Some(number)) => self.writing[number] += 1,
-            (Job::Ask { .. }, None) => self.answered += 1,
+            (Job::Ask { set, question, .. }, None) => {
+                self.answered += 1;
+                self.in_strip += u64::from(set.in_strip(question.longitude));
+            }
             (Job::Ask { .. }, Some(number)) => self.asking[number] += 1,
             (Job::Move { .. }, None) => self.moved += 1,
             (Job::Move { .. }, Some(_)) => self.moving += 1,
@@ -67,6 +72,7 @@ impl Counts {
             rows.push((format!("writing refused {number}"), self.writing[number]));
         }
         rows.push(("answered".to_string(), self.answered));
+        rows.push(("answered in the strip".to_string(), self.in_strip));
         for number in [20, 21, 22, 23, 31] {
             rows.push((format!("asking refused {number}"), self.asking[number]));
         }

@@ -1103,7 +1103,12 @@ pub fn question(rng: &mut Rng, set: &MapSet) -> Question {
                 1 => rng.range(-50_000, 50_000),
                 _ => 0,
             };
-            let place = place(rng, low, high, header.longitudes.step) + 36_000 * turns;
+            let step = header.longitudes.step;
+            let place = match 3600 - (high - low) {
+                gap if gap > 0 && gap <= 2 * step && rng.once_in(2) => beyond(rng, high, gap),
+                _ => place(rng, low, high, step),
+            };
+            let place = place + 36_000 * turns;
             // The library takes places of 32 bits.
             place.clamp(i64::from(i32::MIN), i64::from(i32::MAX))
         },
@@ -1129,6 +1134,17 @@ fn place(rng: &mut Rng, low: i64, high: i64, step: i64) -> i64 {
         9..=12 => (node + step / 2).min(high),
         13..=14 => (node + rng.pick(&[-1, 1])).clamp(low, high),
         _ => rng.range(low, high),
+    }
+}
+
+/// A place between the last column and the first, in hundredths, for columns that leave a small gap.
+fn beyond(rng: &mut Rng, last: i64, gap: i64) -> i64 {
+    let (last, gap) = (10 * last, 10 * gap);
+    last + match rng.below(6) {
+        0 => 1,
+        1 => gap - 1,
+        2 => gap / 2,
+        _ => rng.range(1, gap - 1),
     }
 }
 

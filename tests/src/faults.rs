@@ -65,6 +65,8 @@ pub enum Fault {
     ZeroWeight,
     /// 9999 taken as a value.
     AbsentAsValue,
+    /// In the strip, the column before the last in the place of the first.
+    ColumnBefore,
     // Moving.
     MovedValue,
     MovedRefusal,
@@ -108,6 +110,7 @@ pub fn all() -> Vec<Fault> {
         LaterMap,
         ZeroWeight,
         AbsentAsValue,
+        ColumnBefore,
         MovedValue,
         MovedRefusal,
     ];
@@ -231,6 +234,11 @@ impl Library for Faulty {
                     }
                 }
                 Second.ask(&filled, question)
+            }
+            (Fault::ColumnBefore, Ok(_) | Err(Refusal::Bare { number: 22 }))
+                if set.in_strip(question.longitude) =>
+            {
+                Second.ask(&with_column_before(set), question)
             }
             _ => answer,
         }
@@ -420,6 +428,19 @@ fn with_resets(text: &[u8]) -> Vec<u8> {
         }
     }
     lines.join(&b'\n')
+}
+
+/// The set with the column before the last in the place of the first.
+fn with_column_before(set: &MapSet) -> MapSet {
+    let mut changed = set.clone();
+    let columns = set.grid().columns;
+    let areas = &mut changed.areas;
+    for values in [&mut areas.tec, &mut areas.rms, &mut areas.height] {
+        for row in values.chunks_exact_mut(columns) {
+            row[0] = row[columns - 2];
+        }
+    }
+    changed
 }
 
 fn rounded_twice(set: &MapSet, question: &Question) -> Option<Answer> {

@@ -39,8 +39,41 @@ fn sizes(rng: &mut Rng) -> [i64; 4] {
     }
 }
 
+/// Columns that go round the Earth, with a strip from the last to the first or with LON1 a second time at LON1 + 360.0,
+/// and some that nearly do; in tenths.
+const ROUND: [Axis; 12] = [
+    round(0, 3575, 25),
+    round(0, 3550, 50),
+    round(-1800, 1750, 50),
+    round(0, 3450, 150),
+    round(-1800, 1650, 150),
+    round(0, 3600, 50),
+    round(0, 3600, 150),
+    round(-1800, 1800, 150),
+    round(0, 3550, 25),
+    round(0, 3500, 50),
+    round(0, 3300, 150),
+    round(-1650, 1650, 150),
+];
+
+const fn round(first: i64, last: i64, step: i64) -> Axis {
+    Axis { first, last, step }
+}
+
+/// The columns and all sizes.
+fn columns_and_sizes(rng: &mut Rng) -> (Axis, [i64; 4]) {
+    if rng.once_in(4) {
+        let axis = rng.pick(&ROUND);
+        let [maps, layers, rows] =
+            rng.pick(&[[1, 1, 2], [2, 1, 1], [2, 1, 2], [3, 1, 1], [2, 2, 1]]);
+        return (axis, [maps, layers, rows, axis.count()]);
+    }
+    let sizes = sizes(rng);
+    (longitudes(rng, sizes[3]), sizes)
+}
+
 fn header(rng: &mut Rng) -> Header {
-    let [maps, layers, rows, columns] = sizes(rng);
+    let (longitudes, [maps, layers, rows, _]) = columns_and_sizes(rng);
     let mut header = Header {
         version: 11,
         file_type: b'I',
@@ -63,7 +96,7 @@ fn header(rng: &mut Rng) -> Header {
         header.heights = heights(rng, layers);
     }
     header.latitudes = latitudes(rng, rows);
-    header.longitudes = longitudes(rng, columns);
+    header.longitudes = longitudes;
     if rng.once_in(2) {
         header.stations = a_count(rng);
     }
@@ -167,10 +200,6 @@ fn latitudes(rng: &mut Rng, rows: i64) -> Axis {
 
 fn longitudes(rng: &mut Rng, columns: i64) -> Axis {
     let mut step = step(rng, columns, 3600);
-    // A whole turn, with or without its last column, is of interest.
-    if rng.once_in(4) && (2..=25).contains(&columns) && 3600 % (columns - 1) == 0 {
-        step = (3600 / (columns - 1)).min(150);
-    }
     let (first, last) = loop {
         if let Some(ends) = multiples(rng, columns, step, -1800, 3600) {
             break ends;

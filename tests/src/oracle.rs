@@ -3,7 +3,7 @@
 //! rather than done.
 
 use crate::set::MapSet;
-use second::{Answer, Question, Refusal};
+use second::{Answer, Axis, Question, Refusal};
 
 /// Says what is wrong with the answer about a valid set, if anything is.
 pub fn wrong(
@@ -69,25 +69,24 @@ fn expect(set: &MapSet, question: &Question) -> Expected {
     while longitude >= i128::from(header.longitudes.first * 10) + 36_000 {
         longitude -= 36_000;
     }
+    // As many columns as a turn has steps: between the last and the first there is one step too.
+    let strip = grid.columns as i64 * header.longitudes.step == 3600;
     let inside = (0..grid.layers as i64).contains(&question.layer)
         && latitude >= i128::from(lat_ends[0].min(lat_ends[1]))
         && latitude <= i128::from(lat_ends[0].max(lat_ends[1]))
-        && longitude <= i128::from(header.longitudes.last * 10);
+        && (strip || longitude <= i128::from(header.longitudes.last * 10));
     if !inside {
         return Expected::Refused(21);
     }
-    let rows = hats(
-        header.latitudes.first,
-        header.latitudes.step,
-        grid.rows,
-        latitude,
-    );
-    let columns = hats(
-        header.longitudes.first,
-        header.longitudes.step,
-        grid.columns,
-        longitude,
-    );
+    let rows = hats(&header.latitudes, grid.rows, |line| (latitude - line).abs());
+    let columns = hats(&header.longitudes, grid.columns, |line| {
+        let apart = (longitude - line).abs();
+        if strip {
+            apart.min(36_000 - apart)
+        } else {
+            apart
+        }
+    });
     let (maps, time_all) = if question.method == 0 {
         (vec![(nearest(epochs, time), 1)], 1)
     } else {
@@ -119,13 +118,13 @@ fn expect(set: &MapSet, question: &Question) -> Expected {
     }
 }
 
-/// Every grid line with a weight, as shares of the step.
-fn hats(first: i64, step: i64, count: usize, at: i128) -> Vec<(usize, i128)> {
-    let width = i128::from(step.abs() * 10);
+/// Every grid line with a weight, as shares of the step, by how far the place is from it.
+fn hats(axis: &Axis, count: usize, distance: impl Fn(i128) -> i128) -> Vec<(usize, i128)> {
+    let width = i128::from(axis.step.abs() * 10);
     (0..count)
         .map(|k| {
-            let line = i128::from((first + k as i64 * step) * 10);
-            (k, width - (at - line).abs())
+            let line = i128::from((axis.first + k as i64 * axis.step) * 10);
+            (k, width - distance(line))
         })
         .filter(|&(_, shares)| shares > 0)
         .collect()

@@ -2,7 +2,7 @@
 
 use crate::rng::Rng;
 use second::maps::Grid;
-use second::{Areas, Header, Texts, View};
+use second::{Areas, Axis, Header, Texts, View};
 
 /// The six areas.
 #[derive(Clone, Debug, Default, PartialEq, Eq)]
@@ -101,6 +101,13 @@ impl MapSet {
 
     pub fn needs(&self) -> [usize; 6] {
         self.grid().needs(&self.areas.marks)
+    }
+
+    /// Whether a longitude in hundredths is beyond the last column, and a step behind that is the first again.
+    pub fn in_strip(&self, longitude: i64) -> bool {
+        let Axis { first, last, step } = self.header.longitudes;
+        let from_first = (longitude - 10 * first).rem_euclid(36_000);
+        last + step == first + 3600 && from_first > 10 * (last - first)
     }
 
     /// The set up to each need.

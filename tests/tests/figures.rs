@@ -1,9 +1,9 @@
 //! The figures of the scope paper that are not proved, and what it calls easy to get wrong, by the second program and
 //! by the library where it is linked.
 
-use compare::library::{self, Library};
+use compare::library::{self, Library, Second};
 use compare::set::{Buffers, MapSet};
-use second::{Answer, Question, Reading, Refusal};
+use second::{Answer, Axis, Question, Reading, Refusal};
 
 /// 2000-01-01 00:00:00.
 const START: u64 = 3_155_673_600;
@@ -235,10 +235,14 @@ fn no(number: u8) -> Result<Answer, Refusal> {
     Err(Refusal::Bare { number })
 }
 
+fn one_map(values: [[i32; 2]; 2]) -> String {
+    header(1, 0, "") + &map("TEC", 1, Some(0), values, "") + &end()
+}
+
 /// "Treating 9999 as 999.9 TECU, or refusing for an absent node whose weight is zero."
 #[test]
 fn absent_nodes() {
-    let text = header(1, 0, "") + &map("TEC", 1, Some(0), [[100, 9999], [300, 400]], "") + &end();
+    let text = one_map([[100, 9999], [300, 400]]);
     each(|library| {
         let set = read(library, &text).expect("accepted");
         let ask = |latitude, longitude| library.ask(&set, &question(latitude, longitude, 0, 1));
@@ -289,11 +293,47 @@ fn rounded_once() {
     });
 }
 
+/// A set of one map with two rows and these columns, in tenths; the values are 100 at the first
+/// column and 10 more at each next one, in thousandths.
+fn columns(first: i64, last: i64, step: i64) -> MapSet {
+    let mut set = read(&Second, &one_map(ZEROS)).expect("accepted");
+    set.header.longitudes = Axis { first, last, step };
+    let count = (last - first) / step + 1;
+    let row = (0..count).map(|column| 100 + 10 * column as i32);
+    set.areas.tec = row.clone().chain(row).collect();
+    set.areas.exponents.fill(-3);
+    set
+}
+
+/// The strip of document 02's second request: three grids have one, and two that lack a column do not.
+#[test]
+fn the_strip() {
+    each(|library| {
+        let ask = |set: &MapSet, longitude| library.ask(set, &question(500, longitude, 0, 1));
+        for (first, last, step, halfway) in [
+            (0, 3575, 25, 815),
+            (0, 3550, 50, 455),
+            (-1800, 1750, 50, 455),
+        ] {
+            let set = columns(first, last, step);
+            assert_eq!(ask(&set, 10 * last + 5 * step), tecu(halfway));
+            assert_eq!(ask(&set, 10 * first - 5 * step), tecu(halfway));
+            assert_eq!(ask(&set, 10 * first), tecu(100));
+        }
+        for (last, step) in [(3550, 25), (3500, 50)] {
+            let set = columns(0, last, step);
+            assert_eq!(ask(&set, 10 * last), tecu(100 + 10 * last / step));
+            assert_eq!(ask(&set, 10 * last + 1), no(21));
+            assert_eq!(ask(&set, -1), no(21));
+        }
+    });
+}
+
 /// The figures of interpolation that are proved, run as well.
 #[test]
 fn corners_and_halves() {
     let corners = [[100, 200], [300, 400]];
-    let text = header(1, 0, "") + &map("TEC", 1, Some(0), corners, "") + &end();
+    let text = one_map(corners);
     let halves = |one: i32| {
         header(1, 0, &exponent(-3)) + &map("TEC", 1, Some(0), [[0, one]; 2], "") + &end()
     };

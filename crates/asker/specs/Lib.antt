@@ -6,4 +6,5 @@ pub mod AskLaws
 pub mod Once
 pub mod Between
 pub mod AtEpoch
+pub mod Strip
 pub mod Sample

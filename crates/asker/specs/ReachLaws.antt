@@ -60,7 +60,7 @@ module _ (s : Shape) (vs ks : List ℤ) (ms : List ℕ) where
   spread-weight h c d p q p′ q′ =
       weight-append (corners (h .early) (h .map) c) (corners (h .late) (h .map + 1) d) ∙ ap₂ _+_ (corners-weight (h .early) (h .map) c p q) (corners-weight (h .late) (h .map + 1) d p′ q′)
 
-all-append : (P : Weighed → Type 0) (l m : List Weighed) → All P l → All P m → All P (l ++ m)
+pub all-append : (P : Weighed → Type 0) (l m : List Weighed) → All P l → All P m → All P (l ++ m)
 all-append P [] m a b = b
 all-append P (n ∷ l) m a b = (a .0, all-append P l m (a .1) b)
 
@@ -131,7 +131,7 @@ module _ (q : Question) (s : Sound (q .header) (q .texts) (q .areas)) where
     corners-reach t m (inr h) =
         let row = i .row .sits in
         let col = i .column .sits in
-        let east : (c .across ≡ 0) ⊎ (c .right < C) = ⊎-elim inl (λ j. inr (omega (arith, i .right))) (col .next) in (
+        let east : (c .across ≡ 0) ⊎ (c .right < C) = col .next in (
           inr (reached k l _ h (row .node) (col .node)),
           (
             ⊎-elim (λ z. inl (rw z (omega arith))) (λ e. inr (reached k l _ h (row .node) e)) east,

@@ -24,7 +24,7 @@ use Rattle.mapset.specs.declared.System.{System}
 use Rattle.mapset.specs.declared.Header.{Header}
 use Rattle.mapset.specs.declared.Texts.{Texts}
 use Rattle.rounding.specs.Round.{rounded}
-use Rattle.cells.specs.Place.{InCell100}
+use Rattle.cells.specs.Place.{next, InCell100}
 use Rattle.spans.specs.Time.{alone, Uses, nearest}
 use Rattle.nodes.specs.Value.{is-value?, worth, value}
 use Rattle.sums.specs.Mean.{corners, spread, terms, weighted, weight, valued?, mean}
@@ -77,8 +77,7 @@ unfolding header axis middle
 inside = record {
   row = record { far = 50; from-first = refl; sits = record { place = refl; less = omega arith; node = omega arith; next = inr (omega arith) } };
   tall = refl;
-  column = record { east = 50; from-first = record { below = omega arith; turns = pos 0; whole = refl }; sits = record { place = refl; less = omega arith; node = omega arith; next = inr (omega arith) } };
-  right = refl;
+  column = record { east = 50; from-first = record { below = omega arith; turns = pos 0; whole = refl }; right = next (λ h. omega (arith, h .1)); sits = record { place = refl; less = omega arith; node = omega arith; next = inr (omega arith) } };
   wide = refl;
 }
 

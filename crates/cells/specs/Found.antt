@@ -1,10 +1,14 @@
 -- What the search of a place answers: the place where there is one, and outside only where there is none.
 use mathlib.Core.Path.{_≡_}
-use Prim.Native.Nat.{ℕ}
-use lib.IntN.{ℤ}
+use mathlib.Core.Bool.{Bool, true, false}
+use Prim.Native.Nat.{ℕ, _+_}
+use native.Mathlib.Decide.{ℕ-discrete}
+use lib.IntN.{ℤ, pos, _+ℤ_}
+use Rattle.kit.specs.Answer.{pick}
+use Rattle.kit.specs.Integer.{int?}
 use Rattle.mapset.specs.declared.Axis.{Axis}
 use Rattle.mapset.specs.declared.Grid.{Grid}
-use Rattle.cells.specs.Place.{Sits, along, InRow, InColumn, InCell100}
+use Rattle.cells.specs.Place.{Sits, along, InRow, Strip, InColumn, InCell100}
 use Rattle.cells.specs.declared.Cell.{Cell}
 use Rattle.cells.specs.declared.Way.{Way}
 use Rattle.cells.specs.declared.Way.the-variants as W
@@ -18,17 +22,26 @@ abbrev pub IsWay : ℤ → ℤ → Way → Type 0
 IsWay x d (W.Ahead k) = x ≡ along d k
 IsWay x d W.Behind = (k : ℕ) → ¬ (x ≡ along d k)
 
-abbrev pub Located : ℕ → ℕ → ℕ → Spot → Type 0
-Located x step n (S.At i part) = Sits step n x i part
-Located x step n S.Outside = (i part : ℕ) → ¬ Sits step n x i part
+-- whether the column after the last is the first
+unfoldable pub strip? : (a : Axis) → Dec (Strip a)
+strip? a = int? (a .last +ℤ a .step) (a .first +ℤ pos 3600)
+
+-- the node after node i of n, where the first comes after the last or nothing does
+unfoldable pub after : Bool → ℕ → ℕ → ℕ
+after false n i = i + 1
+after true n i = pick (ℕ-discrete (i + 1) n) 0 (i + 1)
+
+abbrev pub Located : Bool → ℕ → ℕ → ℕ → Spot → Type 0
+Located around x step n (S.At i j part) = Sits step n x i j part × (j ≡ after around n i)
+Located around x step n S.Outside = (i part : ℕ) → ¬ Sits step n x i (after around n i) part
 
 abbrev pub RowFound : Axis → ℤ → Spot → Type 0
-RowFound a lat (S.At i part) = InRow a lat i part
+RowFound a lat (S.At i j part) = InRow a lat i part
 RowFound a lat S.Outside = (i part : ℕ) → ¬ InRow a lat i part
 
 abbrev pub ColumnFound : Axis → ℤ → Spot → Type 0
-ColumnFound a lon (S.At i part) = InColumn 10 36000 a lon i part
-ColumnFound a lon S.Outside = (i part : ℕ) → ¬ InColumn 10 36000 a lon i part
+ColumnFound a lon (S.At i r part) = InColumn 10 36000 a lon i r part
+ColumnFound a lon S.Outside = (i r part : ℕ) → ¬ InColumn 10 36000 a lon i r part
 
 abbrev pub CellFound : Grid → ℤ → ℤ → Found → Type 0
 CellFound g lat lon (F.In c) = InCell100 g lat lon c

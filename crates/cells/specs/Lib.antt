@@ -2,3 +2,4 @@
 pub mod Place
 pub mod Found
 pub mod PlaceLaws
+pub mod EarthLaws

@@ -1,9 +1,11 @@
 // Where a place lies among the rows and columns of a grid.
 ghost use mathlib.Core.Path.{_≡_};
 ghost use Prim.Native.Nat.{_*_, _<_, _^_};
-ghost use lib.IntN.{ℤ, pos, natAbs, _-ℤ_, _*ℤ_};
+ghost use lib.IntN.{ℤ, pos, natAbs, _+ℤ_, _-ℤ_, _*ℤ_};
 ghost use Rattle.cells.specs.Place.{Turned};
-ghost use Rattle.cells.specs.Found.{IsWay, Located, RowFound, ColumnFound, CellFound};
+ghost use Rattle.kit.specs.Integer.{int?};
+ghost use Rattle.kit.specs.Truth.{truth};
+ghost use Rattle.cells.specs.Found.{IsWay, strip?, after, Located, RowFound, ColumnFound, CellFound};
 use mapset::Axis;
 use mapset::Grid;
 use mapset::axes;
@@ -26,9 +28,9 @@ enum Way {
     Behind,
 }
 
-// A node of an axis and how far past it.
+// A node of an axis, the one after it, and how far past it.
 enum Spot {
-    At(u64, u64),
+    At(u64, u64, u64),
     Outside,
 }
 
@@ -68,22 +70,51 @@ fn toward(x: i64, d: i64) -> Way
     }
 }
 
+// The node after node i of n; where the nodes go round, after the last comes the first.
+fn next_of(i: u64, n: u64, around: bool) -> u64
+    requires { ⌜ i < n ⌝ }
+    ensures { λ r. ⌜ r ≡ after around n i ⌝ }
+{
+    if !around {
+        return i + 1;
+    }
+    if i + 1 == n {
+        return 0;
+    }
+    i + 1
+}
+
 // x along n nodes that stand step apart.
-fn locate(x: u64, step: u64, n: u64) -> Spot
+fn locate(x: u64, step: u64, n: u64, around: bool) -> Spot
     requires { ⌜ 0 < step ⌝ }
-    ensures { λ r. ⌜ Located x step n r ⌝ }
+    ensures { λ r. ⌜ Located around x step n r ⌝ }
 {
     let i = x / step;
     let part = x % step;
     if i < n {
+        let next = next_of(i, n, around);
         if part == 0 {
-            return Spot::At(i, part);
+            return Spot::At(i, next, part);
         }
-        if i + 1 < n {
-            return Spot::At(i, part);
+        if next < n {
+            return Spot::At(i, next, part);
         }
     }
     Spot::Outside
+}
+
+// Whether x + d is a full turn past o, in tenths of a degree.
+fn is_turn(x: i32, d: i32, o: i32) -> bool
+    ensures { λ r. ⌜ r ≡ truth (int? (x +ℤ d) (o +ℤ pos 3600)) ⌝ }
+{
+    kit::magnitude(((x as i64) + (d as i64)) - ((o as i64) + 3600)) == 0
+}
+
+// Whether the column after the last is the first.
+fn is_strip(a: Axis) -> bool
+    ensures { λ r. ⌜ r ≡ truth (strip? a) ⌝ }
+{
+    is_turn(a.last, a.step, a.first)
 }
 
 // x brought by whole turns into 0 ≤ r < turn.
@@ -112,7 +143,7 @@ fn row_of(a: Axis, lat: i32) -> Spot
 {
     match toward(offset(lat, a.first), a.step as i64) {
         Way::Behind => Spot::Outside,
-        Way::Ahead(x) => locate(x, step_of(a), axes::nodes(a)),
+        Way::Ahead(x) => locate(x, step_of(a), axes::nodes(a), false),
     }
 }
 
@@ -124,6 +155,7 @@ fn column_of(a: Axis, lon: i32) -> Spot
         turned(offset(lon, a.first), 36000),
         step_of(a),
         axes::nodes(a),
+        is_strip(a),
     )
 }
 
@@ -133,14 +165,14 @@ pub fn cell_of(g: Grid, lat: i32, lon: i32) -> Found
 {
     match row_of(g.latitudes, lat) {
         Spot::Outside => Found::Outside,
-        Spot::At(row, down) => match column_of(g.longitudes, lon) {
+        Spot::At(row, _next, down) => match column_of(g.longitudes, lon) {
             Spot::Outside => Found::Outside,
-            Spot::At(column, across) => Found::In(Cell {
+            Spot::At(column, right, across) => Found::In(Cell {
                 row: row,
                 down: down,
                 tall: step_of(g.latitudes),
                 column: column,
-                right: column + 1,
+                right: right,
                 across: across,
                 wide: step_of(g.longitudes),
             }),

@@ -4,7 +4,6 @@ use mathlib.Core.Path.{refl}
 use native.Mathlib.Omega.{arith}
 use mir.Facts.{toZ-ofZ}
 use Rattle.cells.specs.Found.{RowFound, ColumnFound}
-use Rattle.cells.specs.PlaceLaws.{column-small}
 use Rattle.cells.proofs.cell_of.Statement.{statement}
 use Rattle.cells.proofs.cell_of.Tie as tie
 
@@ -35,13 +34,6 @@ enum-known-column c = search needs
 step-of-requires : tie.Need-step-of-requires
 step-of-requires c κs = search needs
 
-add-t13 : tie.Need-add-t13
-add-t13 c =
-    let k = c .before .before in
-    let m = k .before .before in
-    let s = m .before .before .before .before .before in
-    omega (arith, column-small (s .args .g .longitudes) (s .args .lon) _ _ (s .pre .1) (rw (k .column .given .1) at (column-is m)))
-
 step-of-requires-2 : tie.Need-step-of-requires-2
 step-of-requires-2 c κs = search needs
 
@@ -49,7 +41,7 @@ returns : tie.Need-returns
 returns c = λ d i. (rw (c .enum-told .given .1) at (row-is (c .before .before))) (d .row) (d .down) (i .row)
 
 returns-2 : tie.Need-returns-2
-returns-2 c = λ d i. (rw (c .enum-told2 .given .1) at (column-is (c .before .before))) (d .column) (d .across) (i .column)
+returns-2 c = λ d i. (rw (c .enum-told2 .given .1) at (column-is (c .before .before))) (d .column) (d .right) (d .across) (i .column)
 
 returns-3 : tie.Need-returns-3
 returns-3 c =
@@ -60,7 +52,6 @@ returns-3 c =
       row = rw (r .row .given .1) at (row-is (r .before .before));
       tall = c .before .step-of .ensures;
       column = rw (k .column .given .1) at (column-is m);
-      right = refl;
       wide = c .step-of2 .ensures;
     }
 
@@ -75,7 +66,6 @@ cell-of-spec =
     enum-told-2
     enum-known-column
     step-of-requires
-    add-t13
     step-of-requires-2
     returns
     returns-2

@@ -32,14 +32,17 @@ step-of-requires c κs = search needs
 nodes-requires : tie.Need-nodes-requires
 nodes-requires c κs = search needs
 
+is-strip-requires : tie.Need-is-strip-requires
+is-strip-requires c κs = search needs
+
 locate-requires : tie.Need-locate-requires
 locate-requires c κs = search needs
 
 returns : tie.Need-returns
 returns c =
-    let t = c .before .before .before in
+    let t = c .before .before .before .before in
     let s = t .before .before .before in
-    column-found (s .args .a) (s .args .lon) (t .turned .result) (c .locate .result) (rw (off (t .before)) at (t .turned .ensures)) (rw (c .before .before .step-of .ensures, c .before .nodes .ensures) at (c .locate .ensures))
+    column-found (s .args .a) (s .args .lon) (t .turned .result) (c .locate .result) (rw (off (t .before)) at (t .turned .ensures)) (rw (c .before .before .before .step-of .ensures, c .before .before .nodes .ensures, c .before .is-strip .ensures) at (c .locate .ensures))
 
 pub column-of-spec : {M : Type 1} → statement M
 column-of-spec =
@@ -49,5 +52,6 @@ column-of-spec =
     turned-requires
     step-of-requires
     nodes-requires
+    is-strip-requires
     locate-requires
     returns)
