@@ -99,12 +99,13 @@ fn bad_byte<T>(text: &[u8], at: usize) -> Step<T> {
     fault(2, at + 1)
 }
 
-/// Blanks, an optional minus, then digits to the last column: the sign and the size.
-fn signed(field: &[u8]) -> Option<(bool, i32)> {
-    let start = field.iter().position(|&b| b != b' ')?;
-    let minus = field[start] == b'-';
+/// Blanks, an optional minus, then so many digits at least, to the last column: the sign and the size.
+fn signed(field: &[u8], least: usize) -> Option<(bool, i32)> {
+    let blanks = field.iter().position(|&b| b != b' ');
+    let start = blanks.unwrap_or(field.len());
+    let minus = field.get(start) == Some(&b'-');
     let digits = &field[start + usize::from(minus)..];
-    if digits.is_empty() {
+    if digits.len() < least {
         return None;
     }
     let mut size = 0;
@@ -119,16 +120,16 @@ fn signed(field: &[u8]) -> Option<(bool, i32)> {
 }
 
 fn integer(field: &[u8]) -> Option<i32> {
-    let (minus, size) = signed(field)?;
+    let (minus, size) = signed(field, 1)?;
     Some(if minus { -size } else { size })
 }
 
-/// A number with one digit behind its point, in tenths.
+/// A number with one digit behind its point, and any number of them before it, in tenths.
 fn tenths(field: &[u8]) -> Option<i32> {
     let [front @ .., b'.', digit @ b'0'..=b'9'] = field else {
         return None;
     };
-    let (minus, size) = signed(front)?;
+    let (minus, size) = signed(front, 0)?;
     let size = 10 * size + i32::from(digit - b'0');
     Some(if minus { -size } else { size })
 }

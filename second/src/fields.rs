@@ -7,14 +7,18 @@ pub fn integer(field: &[u8]) -> Option<i64> {
     Some(apply(negative, digits(rest)?))
 }
 
-/// "Fn.1 is the same with a point and one digit more." The value in tenths.
+/// "Fn.1 is the same with a point and one digit more." Before the point no digit
+/// is asked for (02, Ask 4). The value in tenths.
 pub fn tenths(field: &[u8]) -> Option<i64> {
     let (negative, rest) = sign(field);
     let point = rest.len().checked_sub(2)?;
     if rest[point] != b'.' {
         return None;
     }
-    let whole = digits(&rest[..point])?;
+    let whole = match &rest[..point] {
+        [] => 0,
+        body => digits(body)?,
+    };
     let tenth = digits(&rest[point + 1..])?;
     Some(apply(negative, whole * 10 + tenth))
 }
@@ -50,8 +54,8 @@ pub fn integer_text(value: i64, width: usize) -> String {
     format!("{value:>width$}")
 }
 
-/// A number of tenths with its point; the digit before the point is no
-/// needless zero, as Fn.1 asks for one or more digits there.
+/// A number of tenths with its point and a digit before it: "Canonical text goes
+/// on writing `0.5`" (02, Ask 4).
 pub fn tenths_text(value: i64, width: usize) -> String {
     let minus = if value < 0 { "-" } else { "" };
     let size = value.unsigned_abs();
@@ -93,8 +97,13 @@ mod tests {
         assert_eq!(tenths(b"  -0.5"), Some(-5));
         assert_eq!(tenths(b"0000.1"), Some(1));
         assert_eq!(tenths(b"9999.9"), Some(99999));
-        assert_eq!(tenths(b"    .5"), None);
-        assert_eq!(tenths(b"   -.5"), None);
+        assert_eq!(tenths(b"    .5"), Some(5));
+        assert_eq!(tenths(b"   -.5"), Some(-5));
+        assert_eq!(tenths(b"   -.0"), Some(0));
+        assert_eq!(tenths(b"  - .5"), None);
+        assert_eq!(tenths(b"     ."), None);
+        assert_eq!(tenths(b"    -."), None);
+        assert_eq!(tenths(b"    . "), None);
         assert_eq!(tenths(b"    5."), None);
         assert_eq!(tenths(b"     5"), None);
         assert_eq!(tenths(b"  5.00"), None);

@@ -632,6 +632,73 @@ fn sixteen_to_a_line() {
     assert_eq!(outcome_of(&lines), place(6, 21, 9));
 }
 
+/// 02, Ask 4: `.5` and `-.5` mean what `0.5` and `-0.5` mean, wherever an Fn.1 field stands.
+#[test]
+fn no_digit_before_the_point() {
+    let mut lines = base();
+    lines[7] = rec("      .5", "ELEVATION CUTOFF");
+    lines[11] = rec("      .5    .5    .0", "HGT1 / HGT2 / DHGT");
+    lines[12] = rec("      .5   -.5   -.5", "LAT1 / LAT2 / DLAT");
+    lines[13] = rec("     -.5    .5    .5", "LON1 / LON2 / DLON");
+    let opening = |latitude: &str, height: &str| {
+        let body = format!("  {latitude}   -.5    .5  00.5{height}");
+        rec(&body, "LAT/LON1/LON2/DLON/H")
+    };
+    for (rows, height) in [
+        ([18, 20], "    .0"),
+        ([25, 27], " -00.5"),
+        ([31, 33], "   -.5"),
+    ] {
+        lines[rows[0] - 1] = opening("    .5", height);
+        lines[rows[1] - 1] = opening("    .0", height);
+    }
+    // Here are three rows: 0.5, 0.0 and -0.5.
+    let row = opening("   -.5", "   0.5");
+    for end in [35, 29, 22] {
+        lines.insert(end - 1, "    7    8    9".to_string());
+        lines.insert(end - 1, row.clone());
+    }
+    let plain = |text: &[String]| -> Vec<String> {
+        let zero = |line: &String| line.replace(" -.", "-0.").replace(" .", "0.");
+        text.iter().map(zero).collect()
+    };
+    assert_eq!(accepted(&lines, [18; 6]), accepted(&plain(&lines), [18; 6]));
+    let (header, _, _) = accepted(&lines, [18; 6]);
+    assert_eq!((header.cutoff, header.heights.first), (5, 5));
+    let axis = |first, last, step| Axis { first, last, step };
+    assert_eq!(header.latitudes, axis(5, -5, -5));
+    assert_eq!(header.longitudes, axis(-5, 5, 5));
+}
+
+/// "The digit after it stays required."
+#[test]
+fn no_digit_after_the_point() {
+    let version = |field: &str| {
+        let body = format!("{field}            IONOSPHERE MAPS     GNS");
+        rec(&body, "IONEX VERSION / TYPE")
+    };
+    for field in ["       .", "      -.", "      . ", "     1. "] {
+        refuses(1, &version(field), 6, 1);
+        refuses(8, &rec(field, "ELEVATION CUTOFF"), 6, 1);
+        refuses(10, &rec(field, "BASE RADIUS"), 6, 1);
+    }
+    // A version of 0.1 and of -0.1: a number, but not 1.1.
+    refuses(1, &version("      .1"), 3, 1);
+    refuses(1, &version("     -.1"), 3, 1);
+    for field in [
+        "     .", "    -.", "    . ", "   -. ", "  - .5", "   5. ", "     5",
+    ] {
+        let axis = format!("    10.0{field} -10.0");
+        refuses(13, &rec(&axis, "LAT1 / LAT2 / DLAT"), 6, 9);
+        let opening = format!("    10.0   0.0  20.0  10.0{field}");
+        refuses(18, &rec(&opening, "LAT/LON1/LON2/DLON/H"), 6, 27);
+    }
+    // A whole number has no point at all.
+    for field in ["    .5", "    5.", "    .0"] {
+        refuses(5, &rec(field, "INTERVAL"), 6, 1);
+    }
+}
+
 #[test]
 fn the_exponent_stays_in_force() {
     let exponent = |k: i32| rec(&format!("{k:>6}"), "EXPONENT");

@@ -287,9 +287,10 @@ fn some_field(rng: &mut Rng, page: &Page) -> Option<(usize, Field)> {
     }
 }
 
-const ILL: [&str; 22] = [
+/// Most of these are no number; some are one in a field with a point, or in one without.
+const ILL: [&str; 28] = [
     "", "-", "+5", "5 ", ".5", "-.5", "5.", "1e2", "1 2", "--1", "- 1", "0x1", "1,0", "5.00", "5",
-    "5.0", " .0", "NaN", "1.-", "-0 ", "+0.0", ".",
+    "5.0", " .0", "NaN", "1.-", "-0 ", "+0.0", ".", "-.", ". ", "-. ", "- .5", "+.5", "-.0",
 ];
 
 fn ill_formed_field(rng: &mut Rng, page: &mut Page) {

@@ -46,6 +46,8 @@ pub enum Fault {
     Touched(usize),
     /// The exponent set back to -1 at each map.
     ExponentReset,
+    /// A point with no digit after it taken as 0.
+    PointAlone,
     // Writing.
     WrittenByte,
     WrittenPast,
@@ -97,6 +99,7 @@ pub fn all() -> Vec<Fault> {
         SatellitesFlag,
         SatellitesCount,
         ExponentReset,
+        PointAlone,
         WrittenByte,
         WrittenPast,
         WrittenLength,
@@ -160,7 +163,10 @@ impl Library for Faulty {
             Reading::Accepted { header, texts } => {
                 self.accepted(text, before, areas, header, texts)
             }
-            Reading::Refused(refusal) => self.refused(areas, refusal),
+            Reading::Refused(refusal) => match with_zero(text, refusal) {
+                Some(text) if self.0 == Fault::PointAlone => Second.read(&text, areas),
+                _ => self.refused(areas, refusal),
+            },
         }
     }
 
@@ -428,6 +434,35 @@ fn with_resets(text: &[u8]) -> Vec<u8> {
         }
     }
     lines.join(&b'\n')
+}
+
+/// The text with 0.0 in the place of a point alone, where that is what is refused.
+fn with_zero(text: &[u8], refusal: Refusal) -> Option<Vec<u8>> {
+    let Refusal::Place {
+        number: 6,
+        line,
+        column,
+    } = refusal
+    else {
+        return None;
+    };
+    let before: usize = text
+        .split_inclusive(|&b| b == b'\n')
+        .take(line as usize - 1)
+        .map(<[u8]>::len)
+        .sum();
+    let start = before + column as usize - 1;
+    [6, 8].into_iter().find_map(|width| {
+        let mut changed = text.to_vec();
+        let field = changed.get_mut(start..start + width)?;
+        let zero = match field.trim_ascii_start() {
+            b"." => "0.0",
+            b"-." => "-0.0",
+            _ => return None,
+        };
+        field.copy_from_slice(format!("{zero:>width$}").as_bytes());
+        Some(changed)
+    })
 }
 
 /// The set with the column before the last in the place of the first.

@@ -432,7 +432,9 @@ impl Pen<'_> {
 
     fn number(&mut self, value: i64, width: usize, decimal: bool) -> String {
         let size = value.unsigned_abs();
-        let mut digits = if decimal {
+        let mut digits = if decimal && size < 10 && self.rng.once_in(2) {
+            format!(".{size}")
+        } else if decimal {
             format!("{}.{}", size / 10, size % 10)
         } else {
             size.to_string()

@@ -3,15 +3,16 @@ use mathlib.Core.Path.{_≡_, refl, sym, ap, _∙_}
 use mathlib.Core.Bool.{Bool, true, false, _&&_, _||_}
 use mathlib.Core.Logic.{_⊎_, inl, inr, ⊎-elim}
 use mathlib.Core.List.{List, [], _∷_, _++_, append-assoc, append-nil}
-use Prim.Native.Nat.{ℕ, zero, suc, _^_, _≤_, _<_}
+use Prim.Native.Nat.{ℕ, zero, suc, _+_, _^_, _≤_, _<_}
 use native.Mathlib.Nat.{pow-le-pow-right}
 use native.Mathlib.Omega.{arith}
-use lib.ListN.{length, replicate, length-append}
+use lib.ListN.{length, take, replicate, length-append}
+use lib.Seq.{take-at}
 use lib.IntN.{ℤ}
 use lib.Dec.{leb, eqb}
 use borrow.Author.Tests.{le-leb, leb-true, ne-eqb, eqb-true}
 use Rattle.kit.specs.Answer.{All}
-use Rattle.forms.specs.Form.{decimal, I, Digit, numeral, sign, signed, pointed, Spells}
+use Rattle.forms.specs.Form.{fewest, decimal, I, Digit, numeral, sign, signed, pointed, Spells}
 use Rattle.forms.specs.Read.{readField, isNumber}
 use Rattle.forms.specs.FieldLaws.{read-made, made-read}
 use Rattle.forms.specs.ShowLaws.{all-append, numeral-append, numeral-below}
@@ -39,11 +40,10 @@ well [] = false
 well (b ∷ []) = isDigit b
 well (b ∷ c ∷ l) = mayPrecede b c && well (c ∷ l)
 
--- blanks, a minus or none, digits
+-- blanks, a minus or none, digits or none
 pub record Whole (minus : Bool) (ds f : List ℕ) : Type 0 where
   pub blanks : ℕ
   pub digits : All Digit ds
-  pub some : 0 < length ds
   pub bytes : f ≡ replicate blanks 32 ++ (sign minus ++ ds)
 
 -- ---- from the bytes to their shape
@@ -58,24 +58,24 @@ well-digits b (c ∷ l) h e =
     let a = and-true (mayPrecede b c) (well (c ∷ l)) e in
     (h, well-digits c l (true-digit c (sym (digit-next b c h) ∙ a .0)) (a .1))
 
-pub well-whole : (f : List ℕ) → well f ≡ true → (minus : Bool) × (ds : List ℕ) × Whole minus ds f
+pub well-whole : (f : List ℕ) → well f ≡ true → (minus : Bool) × (ds : List ℕ) × (0 < length ds) × Whole minus ds f
 well-whole [] e = let z : _≡_ {A = ℕ} 0 1 = cc in absurd (omega arith)
-well-whole (b ∷ []) e = (false, b ∷ [], record { blanks = 0; digits = (true-digit b e, tt); some = omega arith; bytes = refl })
+well-whole (b ∷ []) e = (false, b ∷ [], omega arith, record { blanks = 0; digits = (true-digit b e, tt); bytes = refl })
 well-whole (b ∷ c ∷ l) e =
     let a = and-true (mayPrecede b c) (well (c ∷ l)) e in
     ⊎-elim (blank (well-whole (c ∷ l) (a .1))) (other (a .1)) (or-true (eqb b 32) ((eqb b 45 || isDigit b) && isDigit c) (a .0))
   where
-    blank : (minus : Bool) × (ds : List ℕ) × Whole minus ds (c ∷ l) → eqb b 32 ≡ true → (minus : Bool) × (ds : List ℕ) × Whole minus ds (b ∷ c ∷ l)
+    blank : (minus : Bool) × (ds : List ℕ) × (0 < length ds) × Whole minus ds (c ∷ l) → eqb b 32 ≡ true → (minus : Bool) × (ds : List ℕ) × (0 < length ds) × Whole minus ds (b ∷ c ∷ l)
     blank w p =
-        let r = w .2 in
-        (w .0, w .1, rw (eqb-true b 32 p) (record { blanks = suc (r .blanks); digits = r .digits; some = r .some; bytes = ap (_∷_ 32) (r .bytes) }))
+        let r = w .3 in
+        (w .0, w .1, w .2, rw (eqb-true b 32 p) (record { blanks = suc (r .blanks); digits = r .digits; bytes = ap (_∷_ 32) (r .bytes) }))
 
-    other : well (c ∷ l) ≡ true → ((eqb b 45 || isDigit b) && isDigit c) ≡ true → (minus : Bool) × (ds : List ℕ) × Whole minus ds (b ∷ c ∷ l)
+    other : well (c ∷ l) ≡ true → ((eqb b 45 || isDigit b) && isDigit c) ≡ true → (minus : Bool) × (ds : List ℕ) × (0 < length ds) × Whole minus ds (b ∷ c ∷ l)
     other h p =
         let a = and-true (eqb b 45 || isDigit b) (isDigit c) p in
         let ds = well-digits c l (true-digit c (a .1)) h in
-        ⊎-elim (λ q. (true, c ∷ l, rw (eqb-true b 45 q) (record { blanks = 0; digits = ds; some = omega arith; bytes = refl })))
-        (λ q. (false, b ∷ c ∷ l, record { blanks = 0; digits = (true-digit b q, ds); some = omega arith; bytes = refl }))
+        ⊎-elim (λ q. (true, c ∷ l, omega arith, rw (eqb-true b 45 q) (record { blanks = 0; digits = ds; bytes = refl })))
+        (λ q. (false, b ∷ c ∷ l, omega arith, record { blanks = 0; digits = (true-digit b q, ds); bytes = refl }))
         (or-true (eqb b 45) (isDigit b) (a .0))
 
 -- ---- from the shape to the bytes
@@ -118,8 +118,8 @@ blanks-numeral zero l = refl
 blanks-numeral (suc n) l = blanks-numeral n l
 
 module _ {minus : Bool} {ds f : List ℕ} (w : Whole minus ds f) where
-  pub whole-well : well f ≡ true
-  whole-well = rw (w .bytes, well-blanks) (sign-well minus ds (w .digits) (w .some))
+  pub whole-well : 0 < length ds → well f ≡ true
+  whole-well h = rw (w .bytes, well-blanks) (sign-well minus ds (w .digits) h)
 
   whole-minus : hasMinus f ≡ minus
   whole-minus = rw (w .bytes, blanks-minus) (sign-minus minus ds (w .digits))
@@ -134,6 +134,47 @@ module _ {minus : Bool} {ds f : List ℕ} (w : Whole minus ds f) where
       let power : 10 ^ length ds ≤ 10 ^ length f = pow-le-pow-right (omega arith) k in
       rw whole-numeral (omega arith)
 
+-- ---- what may stand before a digit
+
+pub all-parts : (xs ys : List ℕ) → All Digit (xs ++ ys) → All Digit xs × All Digit ys
+all-parts [] ys h = (tt, h)
+all-parts (x ∷ xs) ys h = let k = all-parts xs ys (h .1) in ((h .0, k .0), k .1)
+
+-- the last of a list, and what stands before it
+snoc-of : (l : List ℕ) → 0 < length l → (xs : List ℕ) × (x : ℕ) × (l ≡ xs ++ (x ∷ []))
+snoc-of [] h = absurd (omega arith)
+snoc-of (x ∷ []) h = ([], x, refl)
+snoc-of (x ∷ y ∷ l) h = let s = snoc-of (y ∷ l) (omega arith) in (x ∷ s .0, s .1, ap (_∷_ x) (s .2))
+
+before-last : (xs ys : List ℕ) (x y : ℕ) → xs ++ (x ∷ []) ≡ ys ++ (y ∷ []) → xs ≡ ys
+before-last xs ys x y e =
+    let n : length xs + 1 ≡ length ys + 1 = sym (length-append xs (x ∷ [])) ∙ ap length e ∙ length-append ys (y ∷ []) in
+    sym (take-at xs (x ∷ []) (length xs) refl) ∙ ap (take (length xs)) e ∙ take-at ys (y ∷ []) (length xs) (omega arith)
+
+pub well-lead : (f : List ℕ) (d : ℕ) → well (f ++ (d ∷ [])) ≡ true → (minus : Bool) × (ds : List ℕ) × Whole minus ds f
+well-lead f d e =
+    let w = well-whole (f ++ (d ∷ [])) e in
+    let s = snoc-of (w .1) (w .2) in
+    let r = w .3 in
+    let b : f ++ (d ∷ []) ≡ (replicate (r .blanks) 32 ++ (sign (w .0) ++ s .0)) ++ (s .1 ∷ []) =
+    r .bytes ∙ ap (λ (l : List ℕ). replicate (r .blanks) 32 ++ (sign (w .0) ++ l)) (s .2) ∙ simp append-assoc in (
+      w .0,
+      s .0,
+      record { blanks = r .blanks; digits = all-parts (s .0) (s .1 ∷ []) (rw (s .2) at (r .digits)) .0; bytes = before-last f _ d (s .1) b },
+    )
+
+pub well-last : (f : List ℕ) (d : ℕ) → well (f ++ (d ∷ [])) ≡ true → Digit d
+well-last [] d e = true-digit d e
+well-last (b ∷ []) d e = true-digit d (and-true (mayPrecede b d) (isDigit d) e .1)
+well-last (b ∷ c ∷ l) d e = well-last (c ∷ l) d (and-true (mayPrecede b c) (well (c ∷ l ++ (d ∷ []))) e .1)
+
+pub lead-well : {minus : Bool} {ds f : List ℕ} {d : ℕ} → Whole minus ds f → Digit d → well (f ++ (d ∷ [])) ≡ true
+lead-well {minus} {ds} {f} {d} w h =
+    let k : length (ds ++ (d ∷ [])) ≡ length ds + 1 = length-append ds (d ∷ []) in
+    let both : Whole minus (ds ++ (d ∷ [])) (f ++ (d ∷ [])) =
+    record { blanks = w .blanks; digits = all-append ds (d ∷ []) (w .digits) (h, tt); bytes = ap (λ (l : List ℕ). l ++ (d ∷ [])) (w .bytes) ∙ simp append-assoc } in
+    whole-well both (omega arith)
+
 -- ---- a number field: such a whole, and where the form has it the point and its digits
 
 pub record Parts (after : ℕ) (z : ℤ) (f : List ℕ) : Type 0 where
@@ -142,14 +183,11 @@ pub record Parts (after : ℕ) (z : ℤ) (f : List ℕ) : Type 0 where
   pub front : List ℕ
   pub part : List ℕ
   pub whole : Whole minus ds front
+  pub enough : fewest after ≤ length ds
   pub digits : All Digit part
   pub places : length part ≡ after
   pub bytes : f ≡ front ++ pointed part
   pub number : z ≡ signed minus (numeral 0 (ds ++ part))
-
-pub all-parts : (xs ys : List ℕ) → All Digit (xs ++ ys) → All Digit xs × All Digit ys
-all-parts [] ys h = (tt, h)
-all-parts (x ∷ xs) ys h = let k = all-parts xs ys (h .1) in ((h .0, k .0), k .1)
 
 module _ {after : ℕ} {z : ℤ} {f : List ℕ} where
   parts-spells : Parts after z f → Spells (decimal after) (length f) z f
@@ -161,7 +199,7 @@ module _ {after : ℕ} {z : ℤ} {f : List ℕ} where
         whole = p .ds;
         part = p .part;
         digits = all-append (p .ds) (p .part) (w .digits) (p .digits);
-        enough = w .some;
+        enough = p .enough;
         places = p .places;
         bytes = p .bytes ∙ ap (λ (l : List ℕ). l ++ pointed (p .part)) (w .bytes) ∙ simp append-assoc;
         number = p .number;
@@ -176,7 +214,8 @@ module _ {after : ℕ} {z : ℤ} {f : List ℕ} where
         ds = s .whole;
         front = replicate (s .blanks) 32 ++ (sign (s .minus) ++ s .whole);
         part = s .part;
-        whole = record { blanks = s .blanks; digits = d .0; some = s .enough; bytes = refl };
+        whole = record { blanks = s .blanks; digits = d .0; bytes = refl };
+        enough = s .enough;
         digits = d .1;
         places = s .places;
         bytes = s .bytes ∙ simp append-assoc;
@@ -214,10 +253,10 @@ int-judged f = judged 0 f (well f) there back
     there : well f ≡ true → (z : ℤ) × Parts 0 z f
     there e =
         let w = well-whole f e in
-        (_, record { minus = w .0; ds = w .1; front = f; part = []; whole = w .2; digits = tt; places = refl; bytes = sym (append-nil f); number = refl })
+        (_, record { minus = w .0; ds = w .1; front = f; part = []; whole = w .3; enough = w .2; digits = tt; places = refl; bytes = sym (append-nil f); number = refl })
 
     back : (z : ℤ) → Parts 0 z f → well f ≡ true
-    back z p = rw (p .bytes, nil-of (p .part) (p .places), append-nil) (whole-well (p .whole))
+    back z p = rw (p .bytes, nil-of (p .part) (p .places), append-nil) (whole-well (p .whole) (p .enough))
 
 -- ---- what the test says of the field
 

@@ -9,7 +9,7 @@ use lib.Seq.{take-suc-set}
 use lib.IntN.{ℤ}
 use borrow.Author.Tests.{eq-eqb, ne-eqb}
 use Rattle.kit.specs.Answer.{All}
-use Rattle.forms.specs.Form.{Form, decimal, Digit, sign, pointed, Spells}
+use Rattle.forms.specs.Form.{Form, fewest, decimal, Digit, sign, pointed, Spells}
 use Rattle.forms.specs.Read.{readField}
 use Rattle.forms.specs.Columns.{columns, further, firstNotBlank}
 use Rattle.forms.specs.FieldLaws.{made-read}
@@ -59,8 +59,12 @@ no-digit-last fm f h n = go (readField fm f) refl
 
 module _ (after : ℕ) (line : List ℕ) (a : ℕ) where
   pub short : (n : ℕ) → length line < a + n → Bad ≡ readField (decimal after) (columns line a n)
-  short n h = no-digit-last (decimal after) (columns line a n) (omega arith) (missing n h)
+  short n h = no-digit-last (decimal after) (columns line a n) (some after) (missing n h)
     where
+      some : (after : ℕ) → 0 < fewest after + after
+      some zero = omega arith
+      some (suc n) = omega arith
+
       missing : (n : ℕ) → length line < a + n → Digit (last 0 (columns line a n)) → ⊥
       missing zero h d = let z : Digit (last 0 []) = (unfold columns in d) in omega arith
       missing (suc n) h d =

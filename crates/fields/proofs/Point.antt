@@ -13,12 +13,12 @@ use lib.IntN.{ℤ}
 use lib.Dec.{eqb}
 use borrow.Author.Tests.{eq-eqb, eqb-true}
 use Rattle.kit.specs.Answer.{All}
-use Rattle.forms.specs.Form.{decimal, I, Digit, numeral, signed, pointed, dot}
+use Rattle.forms.specs.Form.{fewest, decimal, I, Digit, numeral, signed, pointed, dot}
 use Rattle.forms.specs.Read.{readField, isNumber}
 use Rattle.forms.specs.ShowLaws.{numeral-below}
-use Rattle.forms.specs.Bytes.{isDigit, hasMinus, Small}
+use Rattle.forms.specs.Bytes.{hasMinus, Small}
 use Rattle.forms.specs.declared.Field.the-variants.{Number}
-use Rattle.fields.proofs.Judged.{Parts, well, well-whole, well-digits, digits-well, whole-well, whole-below, and-true, digit-true, true-digit, judged, judged-parts, parts-number, int-judged}
+use Rattle.fields.proofs.Judged.{Parts, well, well-lead, well-last, lead-well, well-digits, digits-well, whole-below, and-true, judged, judged-parts, parts-number, int-judged}
 use Rattle.fields.proofs.Steps.{drop-next}
 
 -- a point in front of one or more digits
@@ -89,9 +89,16 @@ module _ (after : ℕ) (some : 0 < after) (f : List ℕ) where
 
   -- ---- the test
 
-  module _ (long : after < length f) (x y : Bool) (ex : x ≡ isNumber (readField I (take (pointAt f after) f))) (ey : y ≡ isNumber (readField I (drop (pointAt f after + 1) f))) where
+  none-asked : (n : ℕ) → fewest after ≤ n
+  none-asked n = go after some
+    where
+      go : (m : ℕ) → 0 < m → fewest m ≤ n
+      go zero h = absurd (omega arith)
+      go (suc m) h = omega arith
+
+  module _ (long : after < length f) (x y : Bool) (ex : x ≡ isNumber (readField I (take (pointAt f after) f ++ (getD f (pointAt f after + 1) 0 ∷ [])))) (ey : y ≡ isNumber (readField I (drop (pointAt f after + 1) f))) where
     abbrev test : Bool
-    test = ((x && eqb (getD f (pointAt f after) 0) 46) && isDigit (getD f (pointAt f after + 1) 0)) && y
+    test = (x && eqb (getD f (pointAt f after) 0) 46) && y
 
     next : drop (pointAt f after + 1) f ≡ getD f (pointAt f after + 1) 0 ∷ drop (pointAt f after + 1 + 1) f
     next = drop-next f (pointAt f after + 1) (omega arith)
@@ -99,10 +106,10 @@ module _ (after : ℕ) (some : 0 < after) (f : List ℕ) where
     passes : test ≡ true → (z : ℤ) × Parts after z f
     passes e =
         let k = pointAt f after in
-        let a = and-true ((x && eqb (getD f k 0) 46) && isDigit (getD f (k + 1) 0)) y e in
-        let b = and-true (x && eqb (getD f k 0) 46) (isDigit (getD f (k + 1) 0)) (a .0) in
-        let d = and-true x (eqb (getD f k 0) 46) (b .0) in
-        let w = well-whole (take k f) (int-judged (take k f) ∙ sym ex ∙ d .0) in
+        let a = and-true (x && eqb (getD f k 0) 46) y e in
+        let d = and-true x (eqb (getD f k 0) 46) (a .0) in
+        let led : well (take k f ++ (getD f (k + 1) 0 ∷ [])) ≡ true = int-judged _ ∙ sym ex ∙ d .0 in
+        let w = well-lead (take k f) (getD f (k + 1) 0) led in
         let last : well (drop (k + 1) f) ≡ true = int-judged (drop (k + 1) f) ∙ sym ey ∙ a .1 in
         let point : getD f k 0 ≡ 46 = eqb-true (getD f k 0) 46 (d .1) in
         let size : length (drop (k + 1) f) ≡ after = length-drop (k + 1) f ∙ omega arith in (
@@ -113,7 +120,8 @@ module _ (after : ℕ) (some : 0 < after) (f : List ℕ) where
             front = take k f;
             part = drop (k + 1) f;
             whole = w .2;
-            digits = rw next (well-digits (getD f (k + 1) 0) (drop (k + 1 + 1) f) (true-digit _ (b .1)) (rw next at last));
+            enough = none-asked (length (w .1));
+            digits = rw next (well-digits (getD f (k + 1) 0) (drop (k + 1 + 1) f) (well-last (take k f) _ led) (rw next at last));
             places = size;
             bytes = split-at f k 0 (omega arith) ∙ (rw (point, point-digits (drop (k + 1) f) (omega arith), add-one));
             number = refl;
@@ -125,9 +133,9 @@ module _ (after : ℕ) (some : 0 < after) (f : List ℕ) where
         let k = pointAt f after in
         let c = cut z p in
         let digits : All Digit (getD f (k + 1) 0 ∷ drop (k + 1 + 1) f) = rw (← c .part, next) at (p .digits) in
-        let one : x ≡ true = ex ∙ sym (int-judged (take k f)) ∙ ap well (c .front) ∙ whole-well (p .whole) in
+        let one : x ≡ true = ex ∙ sym (int-judged _) ∙ ap (λ (l : List ℕ). well (l ++ (getD f (k + 1) 0 ∷ []))) (c .front) ∙ lead-well (p .whole) (digits .0) in
         let two : y ≡ true = ey ∙ sym (int-judged (drop (k + 1) f)) ∙ ap well next ∙ digits-well (getD f (k + 1) 0) (drop (k + 1 + 1) f) digits in
-        rw (one, two, eq-eqb _ _ (c .point), digit-true _ (digits .0))
+        rw (one, two, eq-eqb _ _ (c .point))
 
     pub decimal-judged : test ≡ isNumber (readField (decimal after) f)
     decimal-judged = judged after f test passes passed

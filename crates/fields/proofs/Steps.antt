@@ -1,7 +1,7 @@
 -- One byte of a field, as the loops pass it.
-use mathlib.Core.Path.{_≡_, refl, ap, _∙_}
+use mathlib.Core.Path.{_≡_, refl, sym, ap, _∙_}
 use mathlib.Core.Bool.{Bool, true, false, _&&_, _||_}
-use mathlib.Core.List.{List, [], _∷_}
+use mathlib.Core.List.{List, [], _∷_, _++_}
 use Prim.Native.Nat.{ℕ, _+_, _-_, _*_, _^_, _≤_, _<_}
 use native.Mathlib.Nat.{pow-suc, pow-le-pow-right}
 use native.Mathlib.Numerals.{add-one}
@@ -69,3 +69,27 @@ module _ (f : List ℕ) (i : ℕ) (ok : Bool) where
   well-end h =
       let k : i < length f = omega arith in
       rw (drop-next f i k, drop-end f (i + 1) (omega arith))
+
+-- ---- what stands before a digit d, from its end on
+
+-- from place i on, and with d, it is all well so far, and begins with `next`
+pub record Led (f : List ℕ) (d : ℕ) (ok : Bool) (next i : ℕ) : Type 0 where
+  pub rest : List ℕ
+  pub bytes : drop i f ++ (d ∷ []) ≡ next ∷ rest
+  pub so : ok ≡ well (next ∷ rest)
+
+module _ (f : List ℕ) (d : ℕ) where
+  pub led-end : Led f d (isDigit d) d (length f)
+  led-end = record { rest = []; bytes = ap (λ (l : List ℕ). l ++ (d ∷ [])) (drop-end f (length f) (omega arith)); so = refl }
+
+  pub led-next : {ok : Bool} {next : ℕ} (i : ℕ) → 0 < i → i ≤ length f → Led f d ok next i → Led f d (mayPrecede (getD f (i - 1) 0) next && ok) (getD f (i - 1) 0) (i - 1)
+  led-next {ok} {next} i h k l =
+      let e : i - 1 + 1 ≡ i = omega arith in
+      record {
+        rest = next ∷ l .rest;
+        bytes = ap (λ (l : List ℕ). l ++ (d ∷ [])) (drop-next f (i - 1) (omega arith) ∙ ap (λ (j : ℕ). getD f (i - 1) 0 ∷ drop j f) e) ∙ ap (_∷_ (getD f (i - 1) 0)) (l .bytes);
+        so = ap (λ (t : Bool). mayPrecede (getD f (i - 1) 0) next && t) (l .so);
+      }
+
+  pub led-whole : {ok : Bool} {next : ℕ} (i : ℕ) → i ≡ 0 → Led f d ok next i → ok ≡ well (f ++ (d ∷ []))
+  led-whole i z l = l .so ∙ ap well (sym (l .bytes) ∙ ap (λ (j : ℕ). drop j f ++ (d ∷ [])) z)

@@ -1,5 +1,6 @@
 ghost use mathlib.Core.Path.{_≡_};
 ghost use mathlib.Core.Bool.{true};
+ghost use mathlib.Core.List.{[], _∷_, _++_};
 ghost use Prim.Native.Nat.{_+_, _-_, _<_, _≤_};
 ghost use lib.ListN.{length, getD};
 ghost use Rattle.forms.specs.Form.{I, F1, decimal, numeral, signed, dot};
@@ -107,7 +108,22 @@ pub fn read_int(f: &[u8]) -> Field
     }
 }
 
-// With so many digits after the point: a number of the form In, the point, digits.
+// Whether f may stand before the digit d: the two make a number of the form In. So f may be blank, or end in a minus.
+fn leads(f: &[u8], d: u8) -> bool
+    ensures { λ r. ⌜ r ≡ isNumber (readField I (now (f .entry) ++ (d ∷ []))) ⌝ }
+{
+    let mut ok = is_digit(d);
+    let mut next = d;
+    let mut i = f.len();
+    while 0 < i {
+        i -= 1;
+        ok = may_precede(f[i], next) & ok;
+        next = f[i];
+    }
+    ok
+}
+
+// With so many digits after the point: what may stand before the first of them, the point, digits.
 fn is_decimal(f: &[u8], after: usize) -> bool
     requires { ⌜ 0 < after ⌝ }
     ensures { λ r. ⌜ r ≡ isNumber (readField (decimal after) (now (f .entry))) ⌝ }
@@ -117,10 +133,10 @@ fn is_decimal(f: &[u8], after: usize) -> bool
     }
     let k = f.len() - after - 1;
     let p = k + 1;
-    is_int(&f[..k]) & (f[k] == b'.') & is_digit(f[p]) & is_int(&f[p..])
+    leads(&f[..k], f[p]) & (f[k] == b'.') & is_int(&f[p..])
 }
 
-// The number of the bytes before the point and of those after it. The sign is the whole field's: `-0.5` is -5 tenths.
+// The number of the bytes before the point and of those after it. The sign is the whole field's: `-0.5` and `-.5` are -5 tenths.
 fn decimal_value(front: &[u8], part: &[u8]) -> i32
     requires { ⌜ Small (now front) (now part) ⌝ }
     ensures { λ r. ⌜ r ≡ signed (hasMinus (now (front .entry))) (numeral (numeral 0 (now (front .entry))) (now (part .entry))) ⌝ }

@@ -12,17 +12,26 @@ pub record Form : Type 0 where
   pub after : ℕ
   pub least : ℕ
 
--- one or more digits before the point, and n after it
+-- so many digits before the point at least, where n follow it
+abbrev pub fewest : ℕ → ℕ
+fewest zero = 1
+fewest (suc n) = 0
+
+-- n digits after the point; before it there need be none, but without a point there is one
 abbrev pub decimal : ℕ → Form
-decimal n = record { after = n; least = 1 }
+decimal n = record { after = n; least = fewest n }
 
 -- In
 abbrev pub I : Form
 I = decimal 0
 
--- Fn.1
+-- Fn.1: `.5` stands for what `0.5` stands for
 abbrev pub F1 : Form
 F1 = decimal 1
+
+-- Fn.1 as canonical text has it, with a digit before the point
+abbrev pub W1 : Form
+W1 = record { after = 1; least = 1 }
 
 -- one of `0` to `9`
 abbrev pub Digit : ℕ → Type 0

@@ -9,7 +9,7 @@ use lib.ListN.{length, take, drop, replicate, length-append, length-drop, length
 use lib.Seq.{length-take-le, drop-at}
 use lib.IntN.{ℤ, pos, negsuc, natAbs}
 use Rattle.kit.specs.Answer.{All}
-use Rattle.forms.specs.Form.{Form, Digit, numeral, sign, signed, dot, Spells}
+use Rattle.forms.specs.Form.{Form, F1, W1, Digit, numeral, sign, signed, dot, Spells}
 use Rattle.forms.specs.Show.{isMinus, figures, digits, withPoint, aligned, showField, digitColumns, Room}
 use Rattle.forms.specs.FieldLaws.{pointed-length}
 
@@ -128,6 +128,23 @@ show-spells {fm} {w} {z} r =
       bytes = aligned-is w (sign (isMinus z) ++ body) fits;
       number = number-is z ∙ ap (signed (isMinus z)) (sym (ap (numeral 0) all ∙ digits-number (fm .least + fm .after) (natAbs z)));
       width = aligned-width w (sign (isMinus z) ++ body);
+    }
+
+-- with a digit before the point, which the form need not ask for
+pub written-spells : {w : ℕ} {z : ℤ} → Room W1 w z → Spells F1 w z (showField W1 w z)
+written-spells {w} {z} r =
+    let s = show-spells {fm = W1} {w = w} {z = z} r in
+    record {
+      blanks = s .blanks;
+      minus = s .minus;
+      whole = s .whole;
+      part = s .part;
+      digits = s .digits;
+      enough = omega arith;
+      places = s .places;
+      bytes = s .bytes;
+      number = s .number;
+      width = s .width;
     }
 
 -- ---- what a field stands for has room

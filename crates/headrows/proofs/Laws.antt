@@ -6,7 +6,7 @@ use native.Mathlib.Omega.{arith}
 use lib.IntN.{ℤ, pos}
 use lib.Dec.{eqb, eqb→eq}
 use lib.ListN.{length, take, drop, getD, set, replicate, length-append}
-use Rattle.forms.specs.Form.{I, F1}
+use Rattle.forms.specs.Form.{I, W1}
 use Rattle.forms.specs.Show.{showField}
 use Rattle.forms.specs.ShowLaws.{show-width}
 use Rattle.layout.specs.Labels.{codes, bytes, name, version}
@@ -27,9 +27,9 @@ longer-text : (p x : List ℕ) (a w : ℕ) → length x ≡ w → length p ≡ a
 longer-text p x a w k l = length-append p x ∙ omega arith
 
 module _ (n r₀ : List ℕ) (e₀ : r₀ ≡ replicate 60 32 ++ n) where
-  pub eight-filled : (r₁ : List ℕ) (z : ℤ) → r₁ ≡ take 0 r₀ ++ (showField F1 8 z ++ drop 8 r₀) → r₁ ≡ columns-of eight (z, tt) ++ n
+  pub eight-filled : (r₁ : List ℕ) (z : ℤ) → r₁ ≡ take 0 r₀ ++ (showField W1 8 z ++ drop 8 r₀) → r₁ ≡ columns-of eight (z, tt) ++ n
   unfolding columns-of
-  eight-filled r₁ z e₁ = e₁ ∙ field-next [] (showField F1 8 z) n r₀ 0 8 52 refl e₀ ∙ simp (append-assoc, append-nil)
+  eight-filled r₁ z e₁ = e₁ ∙ field-next [] (showField W1 8 z) n r₀ 0 8 52 refl e₀ ∙ simp (append-assoc, append-nil)
 
   pub four-filled : (r₁ x : List ℕ) → length x ≡ 4 → r₁ ≡ take 2 r₀ ++ (x ++ drop (2 + length x) r₀) → r₁ ≡ columns-of four (x, tt) ++ n
   unfolding columns-of
@@ -59,15 +59,15 @@ module _ (n r₀ : List ℕ) (e₀ : r₀ ≡ replicate 60 32 ++ n) where
       e₂ ∙ field-next (p ++ showField I 6 x) (showField I 6 y) n r₁ 12 6 42 (longer p I x 6 6 refl) f₁ ∙ simp (append-assoc, append-nil)
 
 pub version-filled : (r₀ r₁ r₂ r₃ : List ℕ) (c : ℕ) → c < 9 → r₀ ≡ replicate 60 32 ++ name version
-    → r₁ ≡ take 0 r₀ ++ (showField F1 8 (pos 11) ++ drop 8 r₀) → r₂ ≡ take 20 r₁ ++ (bytes "IONOSPHERE MAPS" ++ drop 35 r₁)
+    → r₁ ≡ take 0 r₀ ++ (showField W1 8 (pos 11) ++ drop 8 r₀) → r₂ ≡ take 20 r₁ ++ (bytes "IONOSPHERE MAPS" ++ drop 35 r₁)
     → r₃ ≡ take 40 r₂ ++ (getD codes c [] ++ drop (40 + length (getD codes c [])) r₂) → r₃ ≡ version-row c
 unfolding version-row
 version-filled r₀ r₁ r₂ r₃ c h e₀ e₁ e₂ e₃ =
     let n = name version in
-    let v : List ℕ = showField F1 8 (pos 11) in
+    let v : List ℕ = showField W1 8 (pos 11) in
     let p₁ : List ℕ = v ++ replicate 12 32 in
     let p₂ : List ℕ = p₁ ++ bytes "IONOSPHERE MAPS     " in
-    let l₁ : length p₁ ≡ 20 = length-append v (replicate 12 32) ∙ omega (arith, show-width F1 8 (pos 11)) in
+    let l₁ : length p₁ ≡ 20 = length-append v (replicate 12 32) ∙ omega (arith, show-width W1 8 (pos 11)) in
     let l₂ : length p₂ ≡ 40 = length-append p₁ (bytes "IONOSPHERE MAPS     ") ∙ omega arith in
     let f₁ : r₁ ≡ p₁ ++ (replicate 40 32 ++ n) = e₁ ∙ field-next [] v n r₀ 0 8 52 refl e₀ ∙ sym (append-assoc v (replicate 12 32) (replicate 40 32 ++ n)) in
     let f₂ : r₂ ≡ p₂ ++ (replicate 20 32 ++ n) =

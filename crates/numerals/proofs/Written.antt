@@ -11,7 +11,7 @@ use lib.IntN.{ℤ, pos, negsuc, natAbs}
 use lib.Signed.{ltZ}
 use lib.Dec.{ltb}
 use borrow.Author.Tests.{lt-ltb, le-ltb}
-use Rattle.forms.specs.Form.{Form, I, F1, sign}
+use Rattle.forms.specs.Form.{Form, I, W1, sign}
 use Rattle.forms.specs.Show.{isMinus, figures, digits, withPoint, aligned, showField}
 use Rattle.forms.specs.Bytes.{leftByte}
 
@@ -113,7 +113,7 @@ point-last ds d =
     let k : length ds ≡ length (ds ++ (d ∷ [])) - 1 = omega arith in
     rw (take-at ds (d ∷ []) _ k, drop-at ds (d ∷ []) _ k)
 
-tenths-shown : (w : ℕ) (z : ℤ) → 2 ≤ w → aligned (w - 2) (sign (isMinus z) ++ digits 1 (natAbs z / 10)) ++ (46 ∷ (48 + natAbs z % 10) ∷ []) ≡ showField F1 w z
+tenths-shown : (w : ℕ) (z : ℤ) → 2 ≤ w → aligned (w - 2) (sign (isMinus z) ++ digits 1 (natAbs z / 10)) ++ (46 ∷ (48 + natAbs z % 10) ∷ []) ≡ showField W1 w z
 unfolding showField
 tenths-shown w z h =
     let n = natAbs z in
@@ -151,7 +151,7 @@ two-stored q (x ∷ y ∷ z ∷ r) n a b e h = absurd (omega arith)
 -- the whole part q is written to the front of out, the point and the last digit behind it
 pub tenths-stored : (out q : List ℕ) (z : ℤ) (minus : Bool) (n : ℕ) → 2 ≤ length out → length q ≡ length (take (length out - 2) out)
     → q ≡ aligned (length (take (length out - 2) out)) (sign minus ++ digits 1 (n / 10)) → minus ≡ isMinus z → n ≡ natAbs z
-    → set (set (q ++ drop (length out - 2) out) (length out - 2) 46) (length out - 2 + 1) (48 + n % 10) ≡ showField F1 (length out) z
+    → set (set (q ++ drop (length out - 2) out) (length out - 2) 46) (length out - 2 + 1) (48 + n % 10) ≡ showField W1 (length out) z
 tenths-stored out q z minus n h k e em en =
     let w = length out - 2 in
     let t : length (take w out) ≡ w = length-take-le w out (omega arith) in

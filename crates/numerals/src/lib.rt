@@ -4,7 +4,7 @@ ghost use mathlib.Core.List.{_++_};
 ghost use Prim.Native.Nat.{_+_, _<_, _≤_};
 ghost use lib.ListN.{length, take, drop};
 ghost use lib.IntN.{natAbs};
-ghost use Rattle.forms.specs.Form.{I, F1, sign};
+ghost use Rattle.forms.specs.Form.{I, W1, sign};
 ghost use Rattle.forms.specs.Show.{isMinus, digits, aligned, showField};
 ghost use Rattle.forms.specs.Bytes.{leftByte};
 
@@ -57,7 +57,7 @@ pub fn write_int(out: &mut [u8], z: i32)
 // The form Fn.1, of tenths.
 pub fn write_tenths(out: &mut [u8], z: i32)
     requires { ⌜ 2 < length (now out) ⌝ }
-    ensures { λ _. ⌜ now (out .exit) ≡ showField F1 (length (now (out .entry))) z ⌝ }
+    ensures { λ _. ⌜ now (out .exit) ≡ showField W1 (length (now (out .entry))) z ⌝ }
 {
     let k = out.len() - 2;
     let n = size_of(z);
@@ -77,7 +77,7 @@ pub fn put_int(line: &mut [u8], a: usize, n: usize, z: i32)
 
 pub fn put_tenths(line: &mut [u8], a: usize, n: usize, z: i32)
     requires { ⌜ (2 < n) × (a + n ≤ length (now line)) ⌝ }
-    ensures { λ _. ⌜ now (line .exit) ≡ take a (now (line .entry)) ++ (showField F1 n z ++ drop (a + n) (now (line .entry))) ⌝ }
+    ensures { λ _. ⌜ now (line .exit) ≡ take a (now (line .entry)) ++ (showField W1 n z ++ drop (a + n) (now (line .entry))) ⌝ }
 {
     let e = a + n;
     write_tenths(&mut line[a..e], z);

@@ -1,4 +1,4 @@
--- Texts that tell: an order of refusals that no rule of the layout shows, and two small texts that are accepted.
+-- Texts that tell: an order of refusals that no rule of the layout shows, two small texts that are accepted, and numbers without a digit before the point.
 use mathlib.Core.Path.{_≡_, refl}
 use mathlib.Core.List.{List, [], _∷_, _++_}
 use mathlib.Core.Bool.{true, false}
@@ -202,3 +202,53 @@ two-set =
 pub two-read : read (lines two-text) ≡ ok two-set
 unfolding two-text two-set read begin feed split front opens? pad pick ×-dec ⊎-dec ¬-dec all-dec same sames need bind amap get ℕ-discrete decLe decLt int? le? lt? between? within? natural? dated second isLeap monthDays yearDays sum readField numberOf formed? ×₃-dec ×₄-dec end? step? multiple? together? limits? dimension? follows? name on-line lookup label number blank scan fields cells on-date exponent? kind? true? after? implies? in-time? height? loose on-comment on-exponent start-tec start-other start-map on-start end-map on-map-end epoch-tec epoch-other on-epoch open-block on-block on-file taken step finish run short meant place none? complete? made made-texts once on-end at-head head-step heading code-of
 two-read = refl
+
+-- a text with half a degree in its axes and in its block's opening, as these lines spell it
+pub half-text : String → String → String → List String
+half-text lat lon opening =
+    "     1.1            IONOSPHERE MAPS     MIX                 IONEX VERSION / TYPE"
+    ∷ "maker               agency              15-nov-26 06:00     PGM / RUN BY / DATE"
+    ∷ "  1995    10    15     0     0     0                        EPOCH OF FIRST MAP"
+    ∷ "  1995    10    15     0     0     0                        EPOCH OF LAST MAP"
+    ∷ "     0                                                      INTERVAL"
+    ∷ "     1                                                      # OF MAPS IN FILE"
+    ∷ "  COSZ                                                      MAPPING FUNCTION"
+    ∷ "     0.0                                                    ELEVATION CUTOFF"
+    ∷ "carrier phase                                               OBSERVABLES USED"
+    ∷ "  6371.0                                                    BASE RADIUS"
+    ∷ "     2                                                      MAP DIMENSION"
+    ∷ "   450.0 450.0   0.0                                        HGT1 / HGT2 / DHGT"
+    ∷ lat
+    ∷ lon
+    ∷ "                                                            END OF HEADER"
+    ∷ "     1                                                      START OF TEC MAP"
+    ∷ "  1995    10    15     0     0     0                        EPOCH OF CURRENT MAP"
+    ∷ opening
+    ∷ "   11   12"
+    ∷ "     1                                                      END OF TEC MAP"
+    ∷ "                                                            END OF FILE"
+    ∷ []
+
+pub bare-text : List String
+bare-text =
+    half-text
+    "      .5    .5    .5                                        LAT1 / LAT2 / DLAT"
+    "     -.5    .0    .5                                        LON1 / LON2 / DLON"
+    "      .5   -.5   -.0    .5 450.0                            LAT/LON1/LON2/DLON/H"
+
+pub full-text : List String
+full-text =
+    half-text
+    "     0.5   0.5   0.5                                        LAT1 / LAT2 / DLAT"
+    "    -0.5   0.0   0.5                                        LON1 / LON2 / DLON"
+    "     0.5  -0.5  -0.0   0.5 450.0                            LAT/LON1/LON2/DLON/H"
+
+-- `.5` is accepted, and means what `0.5` means
+pub bare-read : (s : MapSet) × (read (lines bare-text) ≡ ok s) × (read (lines full-text) ≡ ok s)
+unfolding half-text bare-text full-text read begin feed split front opens? pad pick ×-dec ⊎-dec ¬-dec all-dec same sames need bind amap get ℕ-discrete decLe decLt int? le? lt? between? within? natural? dated second isLeap monthDays yearDays sum readField numberOf formed? ×₃-dec ×₄-dec end? step? multiple? together? limits? dimension? follows? name on-line lookup label number blank scan fields cells on-date exponent? kind? true? after? implies? in-time? height? loose on-comment on-exponent start-tec start-other start-map on-start end-map on-map-end epoch-tec epoch-other on-epoch open-block on-block on-file taken step finish run short meant place none? complete? made made-texts once on-end at-head head-step heading code-of
+bare-read = (_, refl, refl)
+
+-- the digit after the point is not left out: 6 at the field's first column
+pub no-digit : read (lines (half-text "      .5    .5    .5                                        LAT1 / LAT2 / DLAT" "      -.    .0    .5                                        LON1 / LON2 / DLON" "")) ≡ refused (why 6 14 3)
+unfolding half-text read begin feed split front opens? pad pick ×-dec ⊎-dec ¬-dec all-dec same sames need bind amap get ℕ-discrete decLe decLt int? le? lt? between? within? natural? dated second isLeap monthDays yearDays sum readField numberOf formed? ×₃-dec ×₄-dec end? step? multiple? together? limits? dimension? follows? name on-line lookup label number blank scan fields cells on-date exponent? kind? true? after? implies? in-time? height? loose on-comment on-exponent start-tec start-other start-map on-start end-map on-map-end epoch-tec epoch-other on-epoch open-block on-block on-file taken step finish run short meant place none? complete? made made-texts once on-end at-head head-step heading code-of
+no-digit = refl

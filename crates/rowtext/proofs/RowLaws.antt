@@ -8,7 +8,7 @@ use native.Mathlib.Omega.{arith}
 use lib.IntN.{ℤ, pos}
 use lib.ListN.{length, take, drop, getD, replicate, length-append, length-replicate, replicate-append-replicate}
 use lib.Seq.{take-suc, take-at, drop-at, length-take-le, take-length}
-use Rattle.forms.specs.Form.{Form, I, F1}
+use Rattle.forms.specs.Form.{Form, I, W1}
 use Rattle.forms.specs.Show.{showField}
 use Rattle.forms.specs.ShowLaws.{show-width}
 use Rattle.layout.specs.Labels.{name, block}
@@ -90,17 +90,17 @@ module _ (n r₀ : List ℕ) (e₀ : r₀ ≡ replicate 60 32 ++ n) where
   whole-filled r₁ z e₁ = e₁ ∙ field-next [] (showField I 6 z) n r₀ 0 6 54 refl e₀ ∙ simp (append-assoc, append-nil)
 
   pub three-filled : (r₁ r₂ r₃ : List ℕ) (x y z : ℤ)
-      → r₁ ≡ take 2 r₀ ++ (showField F1 6 x ++ drop 8 r₀) → r₂ ≡ take 8 r₁ ++ (showField F1 6 y ++ drop 14 r₁) → r₃ ≡ take 14 r₂ ++ (showField F1 6 z ++ drop 20 r₂)
+      → r₁ ≡ take 2 r₀ ++ (showField W1 6 x ++ drop 8 r₀) → r₂ ≡ take 8 r₁ ++ (showField W1 6 y ++ drop 14 r₁) → r₃ ≡ take 14 r₂ ++ (showField W1 6 z ++ drop 20 r₂)
       → r₃ ≡ columns-of three (x, (y, (z, tt))) ++ n
   unfolding columns-of
   three-filled r₁ r₂ r₃ x y z e₁ e₂ e₃ =
-      let p₁ : List ℕ = (32 ∷ 32 ∷ []) ++ showField F1 6 x in
-      let p₂ : List ℕ = p₁ ++ showField F1 6 y in
-      let l₁ : length p₁ ≡ 8 = longer (32 ∷ 32 ∷ []) F1 x 2 6 refl in
-      let l₂ : length p₂ ≡ 14 = longer p₁ F1 y 8 6 l₁ in
-      let f₁ = e₁ ∙ field-next (32 ∷ 32 ∷ []) (showField F1 6 x) n r₀ 2 6 52 refl e₀ in
-      let f₂ = e₂ ∙ field-next p₁ (showField F1 6 y) n r₁ 8 6 46 l₁ f₁ in
-      e₃ ∙ field-next p₂ (showField F1 6 z) n r₂ 14 6 40 l₂ f₂ ∙ simp (append-assoc, append-nil)
+      let p₁ : List ℕ = (32 ∷ 32 ∷ []) ++ showField W1 6 x in
+      let p₂ : List ℕ = p₁ ++ showField W1 6 y in
+      let l₁ : length p₁ ≡ 8 = longer (32 ∷ 32 ∷ []) W1 x 2 6 refl in
+      let l₂ : length p₂ ≡ 14 = longer p₁ W1 y 8 6 l₁ in
+      let f₁ = e₁ ∙ field-next (32 ∷ 32 ∷ []) (showField W1 6 x) n r₀ 2 6 52 refl e₀ in
+      let f₂ = e₂ ∙ field-next p₁ (showField W1 6 y) n r₁ 8 6 46 l₁ f₁ in
+      e₃ ∙ field-next p₂ (showField W1 6 z) n r₂ 14 6 40 l₂ f₂ ∙ simp (append-assoc, append-nil)
 
   pub six-filled : (r₁ r₂ r₃ r₄ r₅ r₆ : List ℕ) (a b c d e f : ℤ)
       → r₁ ≡ take 0 r₀ ++ (showField I 6 a ++ drop 6 r₀) → r₂ ≡ take 6 r₁ ++ (showField I 6 b ++ drop 12 r₁) → r₃ ≡ take 12 r₂ ++ (showField I 6 c ++ drop 18 r₂)
@@ -127,18 +127,18 @@ module _ (n r₀ : List ℕ) (e₀ : r₀ ≡ replicate 60 32 ++ n) where
 
 -- a block's opening: two fields more
 pub block-filled : (r₀ r₁ r₂ : List ℕ) (x y z u v : ℤ) → r₀ ≡ row-at 30 three (x, (y, (z, tt)))
-    → r₁ ≡ take 20 r₀ ++ (showField F1 6 u ++ drop 26 r₀) → r₂ ≡ take 26 r₁ ++ (showField F1 6 v ++ drop 32 r₁)
+    → r₁ ≡ take 20 r₀ ++ (showField W1 6 u ++ drop 26 r₀) → r₂ ≡ take 26 r₁ ++ (showField W1 6 v ++ drop 32 r₁)
     → r₂ ≡ row-of block (x, (y, (z, (u, (v, tt)))))
 unfolding columns-of row-at row-of names
 block-filled r₀ r₁ r₂ x y z u v e₀ e₁ e₂ =
-    let p₁ : List ℕ = (32 ∷ 32 ∷ []) ++ showField F1 6 x in
-    let p₂ : List ℕ = p₁ ++ showField F1 6 y in
-    let p₃ : List ℕ = p₂ ++ showField F1 6 z in
-    let p₄ : List ℕ = p₃ ++ showField F1 6 u in
-    let l₁ : length p₁ ≡ 8 = longer (32 ∷ 32 ∷ []) F1 x 2 6 refl in
-    let l₂ : length p₂ ≡ 14 = longer p₁ F1 y 8 6 l₁ in
-    let l₃ : length p₃ ≡ 20 = longer p₂ F1 z 14 6 l₂ in
-    let l₄ : length p₄ ≡ 26 = longer p₃ F1 u 20 6 l₃ in
+    let p₁ : List ℕ = (32 ∷ 32 ∷ []) ++ showField W1 6 x in
+    let p₂ : List ℕ = p₁ ++ showField W1 6 y in
+    let p₃ : List ℕ = p₂ ++ showField W1 6 z in
+    let p₄ : List ℕ = p₃ ++ showField W1 6 u in
+    let l₁ : length p₁ ≡ 8 = longer (32 ∷ 32 ∷ []) W1 x 2 6 refl in
+    let l₂ : length p₂ ≡ 14 = longer p₁ W1 y 8 6 l₁ in
+    let l₃ : length p₃ ≡ 20 = longer p₂ W1 z 14 6 l₂ in
+    let l₄ : length p₄ ≡ 26 = longer p₃ W1 u 20 6 l₃ in
     let f₀ : r₀ ≡ p₃ ++ (replicate 40 32 ++ name block) = e₀ ∙ simp (append-assoc, append-nil) in
-    let f₁ = e₁ ∙ field-next p₃ (showField F1 6 u) (name block) r₀ 20 6 34 l₃ f₀ in
-    e₂ ∙ field-next p₄ (showField F1 6 v) (name block) r₁ 26 6 28 l₄ f₁ ∙ simp (append-assoc, append-nil)
+    let f₁ = e₁ ∙ field-next p₃ (showField W1 6 u) (name block) r₀ 20 6 34 l₃ f₀ in
+    e₂ ∙ field-next p₄ (showField W1 6 v) (name block) r₁ 26 6 28 l₄ f₁ ∙ simp (append-assoc, append-nil)

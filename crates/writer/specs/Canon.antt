@@ -29,7 +29,7 @@ use Rattle.reading.specs.Head.{number-in, axis-in, words-in, system-in}
 unfoldable pub columns-of : (is : List Item) → Vals is → List ℕ
 columns-of [] v = []
 columns-of (I w ∷ is) v = showField form.I w (v .0) ++ columns-of is (v .1)
-columns-of (F w ∷ is) v = showField form.F1 w (v .0) ++ columns-of is (v .1)
+columns-of (F w ∷ is) v = showField form.W1 w (v .0) ++ columns-of is (v .1)
 columns-of (X w ∷ is) v = replicate w 32 ++ columns-of is v
 columns-of (A w ∷ is) v = v .0 ++ columns-of is (v .1)
 columns-of (U w ∷ is) v = replicate w 32 ++ columns-of is v
@@ -40,7 +40,7 @@ row-of l v = columns-of (layout l) v ++ name l
 -- the version record has `IONOSPHERE MAPS` in columns 21 to 35
 unfoldable pub version-row : ℕ → List ℕ
 version-row c =
-    (showField form.F1 8 (pos 11) ++ (replicate 12 32 ++ (bytes "IONOSPHERE MAPS     " ++ (getD codes c [] ++ replicate 17 32)))) ++ name version
+    (showField form.W1 8 (pos 11) ++ (replicate 12 32 ++ (bytes "IONOSPHERE MAPS     " ++ (getD codes c [] ++ replicate 17 32)))) ++ name version
 
 -- the date of a second
 unfoldable pub date-of : ℕ → Epoch

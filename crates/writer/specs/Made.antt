@@ -13,7 +13,7 @@ use Rattle.kit.specs.Truth.{decided}
 use Rattle.kit.specs.Range.{Within, within?}
 use Rattle.forms.specs.Form as form
 use Rattle.forms.specs.Show.{showField}
-use Rattle.forms.specs.ShowLaws.{show-spells}
+use Rattle.forms.specs.ShowLaws.{show-spells, written-spells}
 use Rattle.calendar.specs.Calendar.{end as after-2199}
 use Rattle.mapset.specs.declared.Kind.the-variants.{Rms, Height}
 use Rattle.mapset.specs.Header.{count, epoch as an-epoch, axis, Said, number, along, a-count, a-epoch, a-axis, says}
@@ -90,13 +90,13 @@ code-print : (c : ℕ) → Printable (getD codes c [])
 unfolding all-dec within? ×-dec decLe
 code-print c = all-at Printable codes c [] (decided (all-dec (λ l. all-dec (within? 32 126) l) codes)) tt
 
-version-fields : (c : ℕ) → c < 9 → Fields (layout version) (pos 11, (73 ∷ [], (getD codes c [], tt))) (showField form.F1 8 (pos 11) ++ (replicate 12 32 ++ (bytes "IONOSPHERE MAPS     " ++ (getD codes c [] ++ replicate 17 32))))
+version-fields : (c : ℕ) → c < 9 → Fields (layout version) (pos 11, (73 ∷ [], (getD codes c [], tt))) (showField form.W1 8 (pos 11) ++ (replicate 12 32 ++ (bytes "IONOSPHERE MAPS     " ++ (getD codes c [] ++ replicate 17 32))))
 version-fields c h =
-    f-tenths (showField form.F1 8 (pos 11)) (show-spells (omega arith, omega arith))
+    f-tenths (showField form.W1 8 (pos 11)) (written-spells (omega arith, omega arith))
     (f-blank (f-text (bytes "I") refl (f-unread (bytes "ONOSPHERE MAPS     ") refl (f-text (getD codes c []) (code-length c h) (f-unread (replicate 17 32) refl f-end)))))
 
-eleven-print : Printable (showField form.F1 8 (pos 11))
-eleven-print = spells-print (show-spells {fm = form.F1} {w = 8} {z = pos 11} (omega arith, omega arith))
+eleven-print : Printable (showField form.W1 8 (pos 11))
+eleven-print = spells-print (show-spells {fm = form.W1} {w = 8} {z = pos 11} (omega arith, omega arith))
 
 version-is : (c : ℕ) → c < 9 → Rec version (pos 11, (73 ∷ [], (getD codes c [], tt))) (version-row c)
 unfolding version-row
@@ -107,13 +107,13 @@ unfolding all-dec within? ×-dec decLe
 maps-print = decided (all-dec (within? 32 126) (bytes "IONOSPHERE MAPS     "))
 
 abbrev first-columns : ℕ → List ℕ
-first-columns c = showField form.F1 8 (pos 11) ++ (replicate 12 32 ++ (bytes "IONOSPHERE MAPS     " ++ (getD codes c [] ++ replicate 17 32)))
+first-columns c = showField form.W1 8 (pos 11) ++ (replicate 12 32 ++ (bytes "IONOSPHERE MAPS     " ++ (getD codes c [] ++ replicate 17 32)))
 
 first-print : (c : ℕ) → Printable (first-columns c)
 first-print c =
     let end-of : List ℕ = getD codes c [] ++ replicate 17 32 in
     let text : List ℕ = bytes "IONOSPHERE MAPS     " ++ end-of in
-    all-append (Within 32 126) (showField form.F1 8 (pos 11)) (replicate 12 32 ++ text) eleven-print
+    all-append (Within 32 126) (showField form.W1 8 (pos 11)) (replicate 12 32 ++ text) eleven-print
     (all-append (Within 32 126) (replicate 12 32) text (spaces 12)
     (all-append (Within 32 126) (bytes "IONOSPHERE MAPS     ") end-of maps-print (all-append (Within 32 126) (getD codes c []) (replicate 17 32) (code-print c) (spaces 17))))
 

@@ -28,15 +28,15 @@ five z b = room form.I 5 9998 99999 z b (λ n h. (omega arith, omega arith)) (λ
 pub six-digits : (n : ℕ) → n ≤ 999999 → Room form.I 6 (pos n)
 six-digits n h = (omega arith, omega arith)
 
-pub tenths-eight : (n : ℕ) → n ≤ 999999 → Room form.F1 8 (pos n)
+pub tenths-eight : (n : ℕ) → n ≤ 999999 → Room form.W1 8 (pos n)
 tenths-eight n h = (omega arith, omega arith)
 
 pub exponent-room : (e : ℤ) → Between (negsuc 2) (pos 0) e → Room form.I 6 e
 exponent-room e b = room form.I 6 2 0 e b (λ n h. (omega arith, omega arith)) (λ n h. (omega arith, omega arith))
 
 -- tenths of a degree or of a kilometre in six columns
-pub tenths-six : (z : ℤ) → Between (negsuc 8999) (pos 99999) z → Room form.F1 6 z
-tenths-six z b = room form.F1 6 8999 99999 z b (λ n h. (omega arith, omega arith)) (λ n h. (omega arith, omega arith))
+pub tenths-six : (z : ℤ) → Between (negsuc 8999) (pos 99999) z → Room form.W1 6 z
+tenths-six z b = room form.W1 6 8999 99999 z b (λ n h. (omega arith, omega arith)) (λ n h. (omega arith, omega arith))
 
 -- ---- the nodes of an axis lie between its ends
 

@@ -16,7 +16,7 @@ use Rattle.kit.specs.Range.{within?}
 use Rattle.forms.specs.Form as form
 use Rattle.forms.specs.Form.{Form, Digit, sign, pointed, Spells}
 use Rattle.forms.specs.Show.{showField, Room}
-use Rattle.forms.specs.ShowLaws.{show-spells}
+use Rattle.forms.specs.ShowLaws.{show-spells, written-spells}
 use Rattle.forms.specs.FieldLaws.{spells-width}
 use Rattle.forms.specs.Columns.{Blank}
 use Rattle.mapset.specs.Header.{Written}
@@ -55,7 +55,7 @@ spells-print s =
 abbrev pub Roomy : (is : List Item) → Vals is → Type 0
 Roomy [] v = Unit {0}
 Roomy (I w ∷ is) v = Room form.I w (v .0) × Roomy is (v .1)
-Roomy (F w ∷ is) v = Room form.F1 w (v .0) × Roomy is (v .1)
+Roomy (F w ∷ is) v = Room form.W1 w (v .0) × Roomy is (v .1)
 Roomy (X w ∷ is) v = Roomy is v
 Roomy (A w ∷ is) v = Written w (v .0) × Roomy is (v .1)
 Roomy (U w ∷ is) v = Roomy is v
@@ -64,7 +64,7 @@ pub roomy-fields : (is : List Item) (v : Vals is) → Roomy is v → Fields is v
 unfolding columns-of
 roomy-fields [] v r = f-end
 roomy-fields (I w ∷ is) v r = f-int (showField form.I w (v .0)) (show-spells (r .0)) (roomy-fields is (v .1) (r .1))
-roomy-fields (F w ∷ is) v r = f-tenths (showField form.F1 w (v .0)) (show-spells (r .0)) (roomy-fields is (v .1) (r .1))
+roomy-fields (F w ∷ is) v r = f-tenths (showField form.W1 w (v .0)) (written-spells (r .0)) (roomy-fields is (v .1) (r .1))
 roomy-fields (X w ∷ is) v r = f-blank (roomy-fields is v r)
 roomy-fields (A w ∷ is) v r = f-text (v .0) (r .0 .0) (roomy-fields is (v .1) (r .1))
 roomy-fields (U w ∷ is) v r = f-unread (replicate w 32) (length-replicate w 32) (roomy-fields is v r)
@@ -73,7 +73,7 @@ roomy-print : (is : List Item) (v : Vals is) → Roomy is v → Printable (colum
 unfolding columns-of
 roomy-print [] v r = tt
 roomy-print (I w ∷ is) v r = all-append _ (showField form.I w (v .0)) _ (spells-print (show-spells (r .0))) (roomy-print is (v .1) (r .1))
-roomy-print (F w ∷ is) v r = all-append _ (showField form.F1 w (v .0)) _ (spells-print (show-spells (r .0))) (roomy-print is (v .1) (r .1))
+roomy-print (F w ∷ is) v r = all-append _ (showField form.W1 w (v .0)) _ (spells-print (show-spells (r .0))) (roomy-print is (v .1) (r .1))
 roomy-print (X w ∷ is) v r = all-append _ (replicate w 32) _ (spaces w) (roomy-print is v r)
 roomy-print (A w ∷ is) v r = all-append _ (v .0) _ (r .0 .1) (roomy-print is (v .1) (r .1))
 roomy-print (U w ∷ is) v r = all-append _ (replicate w 32) _ (spaces w) (roomy-print is v r)

@@ -23,20 +23,17 @@ sub-k-2 c = search needs
 add-p : tie.Need-add-p
 add-p c = search needs
 
-slice-aggregate-is-int : tie.Need-slice-aggregate-is-int
-slice-aggregate-is-int c = sym (length-take-le _ _ (omega arith))
+slice-aggregate-leads : tie.Need-slice-aggregate-leads
+slice-aggregate-leads c = sym (length-take-le _ _ (omega arith))
 
-is-int-requires : tie.Need-is-int-requires
-is-int-requires c κs = search needs
+shared-slice-read-leads : tie.Need-shared-slice-read-leads
+shared-slice-read-leads c = search needs
+
+leads-requires : tie.Need-leads-requires
+leads-requires c κs = search needs
 
 shared-slice-read-result : tie.Need-shared-slice-read-result
 shared-slice-read-result c = search needs
-
-shared-slice-read-is-digit : tie.Need-shared-slice-read-is-digit
-shared-slice-read-is-digit c = search needs
-
-is-digit-requires : tie.Need-is-digit-requires
-is-digit-requires c κs = search needs
 
 sub-is-int : tie.Need-sub-is-int
 sub-is-int c = search needs
@@ -47,17 +44,17 @@ part-is-int-start c = search needs
 part-is-int-end : tie.Need-part-is-int-end
 part-is-int-end c = search needs
 
-is-int-requires-2 : tie.Need-is-int-requires-2
-is-int-requires-2 c κs = search needs
+is-int-requires : tie.Need-is-int-requires
+is-int-requires c κs = search needs
 
 returns-2 : tie.Need-returns-2
 returns-2 c =
-    let i = c .before .before .before .before .before in
-    let s = i .before .before .before .before in
+    let l = c .before .before .before in
+    let i = l .before .before .before in
+    let s = i .before .before in
     let f = s .args .f .now in
-    rw (c .before .before .is-digit .ensures)
-    (decimal-judged (s .args .after) (s .pre) f (i .before .before .if1 .left) (i .is-int .result) (c .is-int2 .result) (i .is-int .ensures)
-    (c .is-int2 .ensures ∙ ap (λ (l : List ℕ). isNumber (readField I l)) (to-end f (pointAt f (s .args .after) + 1))))
+    decimal-judged (s .args .after) (s .pre) f (i .if1 .left) (l .leads .result) (c .is-int .result) (l .leads .ensures)
+    (c .is-int .ensures ∙ ap (λ (l : List ℕ). isNumber (readField I l)) (to-end f (pointAt f (s .args .after) + 1)))
 
 pub is-decimal-spec : {M : Type 1} → statement M
 is-decimal-spec =
@@ -67,13 +64,12 @@ is-decimal-spec =
     sub-k
     sub-k-2
     add-p
-    slice-aggregate-is-int
-    is-int-requires
+    slice-aggregate-leads
+    shared-slice-read-leads
+    leads-requires
     shared-slice-read-result
-    shared-slice-read-is-digit
-    is-digit-requires
     sub-is-int
     part-is-int-start
     part-is-int-end
-    is-int-requires-2
+    is-int-requires
     returns-2)

@@ -1,7 +1,7 @@
 -- `numerals::put_tenths` meets its contract.
 use mir.Facts.{toZ-ofZ}
 use borrow.Author.Needs.{needs}
-use Rattle.forms.specs.Form.{F1}
+use Rattle.forms.specs.Form.{W1}
 use Rattle.numerals.proofs.Written.{put-field}
 use Rattle.numerals.proofs.put_tenths.Statement.{statement}
 use Rattle.numerals.proofs.put_tenths.Tie as tie
@@ -28,7 +28,7 @@ returns : tie.Need-returns
 returns c =
     let w = c .before .before in
     let s = w .before .before .before in
-    put-field F1 (s .args .line .now) _ (s .args .a) (s .args .n) _ (s .args .z) (s .pre .1) (w .write-tenths .ensures) (toZ-ofZ (s .fits .z))
+    put-field W1 (s .args .line .now) _ (s .args .a) (s .args .n) _ (s .args .z) (s .pre .1) (w .write-tenths .ensures) (toZ-ofZ (s .fits .z))
 
 pub put-tenths-spec : {M : Type 1} → statement M
 put-tenths-spec =
