@@ -265,6 +265,17 @@ impl MapSet {
                 .is_some_and(|mark| mark & bit != 0)
     }
 
+    /// How many maps of this kind stand.
+    pub fn standing(&self, kind: Kind) -> usize {
+        match kind {
+            Kind::Tec => self.maps(),
+            _ => {
+                let marked = self.maps().min(self.areas.marks.len());
+                (0..marked).filter(|map| self.has(kind, *map)).count()
+            }
+        }
+    }
+
     /// The number of a node as it is written, 9999 among them; nothing where the map is absent or there is no such node. All
     /// are counted from 0.
     pub fn number(
@@ -372,8 +383,7 @@ impl MapSet {
     /// The elements that each area needs.
     fn lengths(&self) -> [usize; 6] {
         let values = self.blocks().saturating_mul(self.columns());
-        let some = |kind| (0..self.maps()).any(|map| self.has(kind, map));
-        let of = |kind| if some(kind) { values } else { 0 };
+        let of = |kind| if self.standing(kind) > 0 { values } else { 0 };
         let exponents = self.blocks().saturating_mul(3);
         [
             values,
@@ -387,8 +397,8 @@ impl MapSet {
 
     /// Bytes enough for the canonical text of a valid set: 81 for each record, 5 and a part of a line end for each value.
     fn longest_text(&self) -> usize {
-        let standing = |kind| (0..self.maps()).filter(|map| self.has(kind, *map)).count();
-        let maps: usize = Kind::ALL.into_iter().map(standing).sum();
+        let standing = Kind::ALL.map(|kind| self.standing(kind));
+        let maps = standing.into_iter().fold(0, usize::saturating_add);
         let rows = self.layers().saturating_mul(self.rows());
         let lines = self.columns() / 16 + 1;
         let row = self
