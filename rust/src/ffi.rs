@@ -1,0 +1,122 @@
+//! The library's C functions (include/ionex.h) as safe functions over slices: all of the unsafe code. Each answers with 0,
+//! a refusal's number, or 101 to 103, and any lengths may be given.
+
+// As include/ionex.h declares them.
+#[rustfmt::skip]
+extern "C" {
+    fn ionex_read(
+        text: *const u8, text_len: usize,
+        tec: *mut i32, tec_len: usize, rms: *mut i32, rms_len: usize, height: *mut i32, height_len: usize,
+        exponents: *mut i32, exponents_len: usize, epochs: *mut u64, epochs_len: usize,
+        marks: *mut u8, marks_len: usize,
+        header: *mut i64, header_len: usize, texts: *mut u8, texts_len: usize, place: *mut u64, place_len: usize,
+    ) -> u64;
+
+    fn ionex_write(
+        header: *const i64, header_len: usize, texts: *const u8, texts_len: usize,
+        tec: *const i32, tec_len: usize, rms: *const i32, rms_len: usize, height: *const i32, height_len: usize,
+        exponents: *const i32, exponents_len: usize, epochs: *const u64, epochs_len: usize,
+        marks: *const u8, marks_len: usize,
+        out: *mut u8, out_len: usize, count: *mut u64, count_len: usize,
+    ) -> u64;
+
+    fn ionex_ask(
+        header: *const i64, header_len: usize, texts: *const u8, texts_len: usize,
+        tec: *const i32, tec_len: usize, rms: *const i32, rms_len: usize, height: *const i32, height_len: usize,
+        exponents: *const i32, exponents_len: usize, epochs: *const u64, epochs_len: usize,
+        marks: *const u8, marks_len: usize,
+        kind: u64, method: u64, layer: u64, lat: i32, lon: i32, second: u64,
+        value: *mut i32, value_len: usize,
+    ) -> u64;
+
+    fn ionex_moved(epoch: u64, by: i64, moved: *mut u64, moved_len: usize) -> u64;
+}
+
+/// The six areas, the header's numbers and its texts, to be filled.
+pub struct Lent<'a> {
+    pub tec: &'a mut [i32],
+    pub rms: &'a mut [i32],
+    pub height: &'a mut [i32],
+    pub exponents: &'a mut [i32],
+    pub epochs: &'a mut [u64],
+    pub marks: &'a mut [u8],
+    pub header: &'a mut [i64],
+    pub texts: &'a mut [u8],
+}
+
+/// A map set as it is given to a call.
+#[derive(Clone, Copy)]
+pub struct Given<'a> {
+    pub header: &'a [i64],
+    pub texts: &'a [u8],
+    pub tec: &'a [i32],
+    pub rms: &'a [i32],
+    pub height: &'a [i32],
+    pub exponents: &'a [i32],
+    pub epochs: &'a [u64],
+    pub marks: &'a [u8],
+}
+
+/// A question as it is given to a call.
+#[derive(Clone, Copy)]
+pub struct Asked {
+    pub kind: u64,
+    pub method: u64,
+    pub layer: u64,
+    pub lat: i32,
+    pub lon: i32,
+    pub second: u64,
+}
+
+// Sound: each pointer is a slice's own, so it is valid, aligned and not null for length 0 too, and the length beside it is
+// that slice's; a slice that is written is borrowed alone, so it overlaps no other and no thread else has it.
+
+/// `ionex_read`.
+#[rustfmt::skip]
+pub fn read(text: &[u8], lent: Lent, place: &mut [u64]) -> u64 {
+    let Lent { tec, rms, height, exponents, epochs, marks, header, texts } = lent;
+    unsafe {
+        ionex_read(
+            text.as_ptr(), text.len(),
+            tec.as_mut_ptr(), tec.len(), rms.as_mut_ptr(), rms.len(), height.as_mut_ptr(), height.len(),
+            exponents.as_mut_ptr(), exponents.len(), epochs.as_mut_ptr(), epochs.len(),
+            marks.as_mut_ptr(), marks.len(),
+            header.as_mut_ptr(), header.len(), texts.as_mut_ptr(), texts.len(), place.as_mut_ptr(), place.len(),
+        )
+    }
+}
+
+/// `ionex_write`.
+#[rustfmt::skip]
+pub fn write(given: Given, out: &mut [u8], count: &mut [u64]) -> u64 {
+    let Given { header, texts, tec, rms, height, exponents, epochs, marks } = given;
+    unsafe {
+        ionex_write(
+            header.as_ptr(), header.len(), texts.as_ptr(), texts.len(),
+            tec.as_ptr(), tec.len(), rms.as_ptr(), rms.len(), height.as_ptr(), height.len(),
+            exponents.as_ptr(), exponents.len(), epochs.as_ptr(), epochs.len(), marks.as_ptr(), marks.len(),
+            out.as_mut_ptr(), out.len(), count.as_mut_ptr(), count.len(),
+        )
+    }
+}
+
+/// `ionex_ask`.
+#[rustfmt::skip]
+pub fn ask(given: Given, asked: Asked, value: &mut [i32]) -> u64 {
+    let Given { header, texts, tec, rms, height, exponents, epochs, marks } = given;
+    let Asked { kind, method, layer, lat, lon, second } = asked;
+    unsafe {
+        ionex_ask(
+            header.as_ptr(), header.len(), texts.as_ptr(), texts.len(),
+            tec.as_ptr(), tec.len(), rms.as_ptr(), rms.len(), height.as_ptr(), height.len(),
+            exponents.as_ptr(), exponents.len(), epochs.as_ptr(), epochs.len(), marks.as_ptr(), marks.len(),
+            kind, method, layer, lat, lon, second,
+            value.as_mut_ptr(), value.len(),
+        )
+    }
+}
+
+/// `ionex_moved`.
+pub fn moved(epoch: u64, by: i64, moved: &mut [u64]) -> u64 {
+    unsafe { ionex_moved(epoch, by, moved.as_mut_ptr(), moved.len()) }
+}

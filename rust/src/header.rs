@@ -1,0 +1,161 @@
+//! The header's numbers by name.
+
+use crate::epoch::Epoch;
+use std::fmt;
+
+/// How many numbers a header has, and how many bytes its texts.
+pub const HEADER: usize = 44;
+pub const TEXTS: usize = 124;
+
+const CODES: [&str; 9] = [
+    "BEN", "ENV", "ERS", "GEO", "GNS", "IRI", "MIX", "NNS", "TOP",
+];
+const LETTERS: [char; 7] = ['G', 'R', 'E', 'C', 'J', 'I', 'S'];
+
+/// The satellite system or the theoretical model that the maps are from: the code of the version record.
+#[derive(Clone, Copy, Debug, PartialEq, Eq, Hash)]
+pub enum Code {
+    Ben,
+    Env,
+    Ers,
+    Geo,
+    Gns,
+    Iri,
+    Mix,
+    Nns,
+    Top,
+    /// A number that stands for no code: no map set that was read has it.
+    Unknown(i64),
+}
+
+impl Code {
+    fn of(number: i64) -> Code {
+        use Code::*;
+        let codes = [Ben, Env, Ers, Geo, Gns, Iri, Mix, Nns, Top];
+        let known = usize::try_from(number)
+            .ok()
+            .and_then(|place| codes.get(place));
+        known.copied().unwrap_or(Unknown(number))
+    }
+
+    /// Its three letters, `???` where it is unknown.
+    pub fn as_str(self) -> &'static str {
+        let place = match self {
+            Code::Ben => 0,
+            Code::Env => 1,
+            Code::Ers => 2,
+            Code::Geo => 3,
+            Code::Gns => 4,
+            Code::Iri => 5,
+            Code::Mix => 6,
+            Code::Nns => 7,
+            Code::Top => 8,
+            Code::Unknown(_) => return "???",
+        };
+        CODES[place]
+    }
+}
+
+impl fmt::Display for Code {
+    fn fmt(&self, f: &mut fmt::Formatter) -> fmt::Result {
+        f.pad(self.as_str())
+    }
+}
+
+/// Equidistant nodes, in tenths of a degree or of a kilometre.
+#[derive(Clone, Copy, Debug, PartialEq, Eq, Hash)]
+pub struct Axis {
+    pub first: i64,
+    pub last: i64,
+    /// From one node to the next; negative where they fall, 0 where there is one node only.
+    pub step: i64,
+}
+
+impl Axis {
+    /// How many nodes there are.
+    pub fn nodes(&self) -> usize {
+        let steps = match self.step {
+            0 => 0,
+            step => (i128::from(self.last) - i128::from(self.first)) / i128::from(step),
+        };
+        usize::try_from(steps + 1).unwrap_or(0)
+    }
+
+    /// Where a node stands, counted from 0; nothing where there is no such node.
+    pub fn at(&self, node: usize) -> Option<i64> {
+        if node >= self.nodes() {
+            return None;
+        }
+        self.first
+            .checked_add(self.step.checked_mul(i64::try_from(node).ok()?)?)
+    }
+}
+
+/// The header of a map set. A number that its field cannot hold, which only a set of [`crate::MapSet::from_areas`] can
+/// have, is brought to the nearest that it can.
+#[derive(Clone, Debug, PartialEq, Eq)]
+pub struct Header {
+    /// In tenths: 11.
+    pub version: i64,
+    pub code: Code,
+    /// EPOCH OF FIRST MAP.
+    pub first: Epoch,
+    /// EPOCH OF LAST MAP.
+    pub last: Epoch,
+    /// Seconds from map to map; 0 says that they vary.
+    pub interval: i64,
+    /// # OF MAPS IN FILE: the TEC maps.
+    pub maps: usize,
+    /// ELEVATION CUTOFF, in tenths of a degree.
+    pub cutoff: i64,
+    /// BASE RADIUS, in tenths of a kilometre.
+    pub radius: i64,
+    /// MAP DIMENSION, 2 or 3.
+    pub dimension: i64,
+    /// The layers, in tenths of a kilometre.
+    pub heights: Axis,
+    /// The rows, in tenths of a degree.
+    pub latitudes: Axis,
+    /// The columns, in tenths of a degree.
+    pub longitudes: Axis,
+    /// # OF STATIONS, where the record stands.
+    pub stations: Option<u32>,
+    /// # OF SATELLITES, where the record stands.
+    pub satellites: Option<u32>,
+    /// For each letter of G R E C J I S its stations and satellites, where its SYS record stands.
+    pub systems: [(char, Option<(u32, u32)>); 7],
+}
+
+impl Header {
+    pub(crate) fn of(numbers: &[i64; HEADER]) -> Header {
+        let epoch = |at: usize| Epoch::from_seconds(numbers[at].max(0) as u64);
+        let axis = |at: usize| Axis {
+            first: numbers[at],
+            last: numbers[at + 1],
+            step: numbers[at + 2],
+        };
+        let count = |at: usize| numbers[at].clamp(0, i64::from(u32::MAX)) as u32;
+        let system = |j: usize| {
+            let at = 23 + 3 * j;
+            let counts = (count(at + 1), count(at + 2));
+            (LETTERS[j], (numbers[at] != 0).then_some(counts))
+        };
+        Header {
+            version: numbers[0],
+            code: Code::of(numbers[2]),
+            first: epoch(3),
+            last: epoch(4),
+            interval: numbers[5],
+            maps: usize::try_from(numbers[6]).unwrap_or(0),
+            cutoff: numbers[7],
+            radius: numbers[8],
+            dimension: numbers[9],
+            heights: axis(10),
+            latitudes: axis(13),
+            longitudes: axis(16),
+            stations: (numbers[19] != 0).then(|| count(20)),
+            satellites: (numbers[21] != 0).then(|| count(22)),
+            systems: std::array::from_fn(system),
+        }
+    }
+}

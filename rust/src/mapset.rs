@@ -1,0 +1,441 @@
+//! A map set that owns its areas.
+
+use crate::epoch::Epoch;
+use crate::ffi;
+use crate::header::{Header, HEADER, TEXTS};
+use crate::place::Place;
+use crate::refusal::Refusal;
+use crate::value::{Answer, Kind, Method};
+
+/// The number that says that a node has no value.
+pub const NO_VALUE: i32 = 9999;
+
+/// A map set as the archive holds it: 44 numbers, 124 bytes of texts and six areas, as include/ionex.h has them. Any
+/// numbers and any lengths may stand here.
+#[derive(Clone, Debug, PartialEq, Eq)]
+pub struct Areas {
+    pub header: [i64; HEADER],
+    pub texts: [u8; TEXTS],
+    pub tec: Vec<i32>,
+    pub rms: Vec<i32>,
+    pub height: Vec<i32>,
+    pub exponents: Vec<i32>,
+    pub epochs: Vec<u64>,
+    pub marks: Vec<u8>,
+}
+
+impl Areas {
+    /// Areas of these lengths, all zero.
+    fn of_lengths(lengths: [usize; 6]) -> Areas {
+        let [tec, rms, height, exponents, epochs, marks] = lengths;
+        Areas {
+            header: [0; HEADER],
+            texts: [b' '; TEXTS],
+            tec: vec![0; tec],
+            rms: vec![0; rms],
+            height: vec![0; height],
+            exponents: vec![0; exponents],
+            epochs: vec![0; epochs],
+            marks: vec![0; marks],
+        }
+    }
+
+    fn lent(&mut self) -> ffi::Lent<'_> {
+        ffi::Lent {
+            tec: &mut self.tec,
+            rms: &mut self.rms,
+            height: &mut self.height,
+            exponents: &mut self.exponents,
+            epochs: &mut self.epochs,
+            marks: &mut self.marks,
+            header: &mut self.header,
+            texts: &mut self.texts,
+        }
+    }
+
+    fn given(&self) -> ffi::Given<'_> {
+        ffi::Given {
+            header: &self.header,
+            texts: &self.texts,
+            tec: &self.tec,
+            rms: &self.rms,
+            height: &self.height,
+            exponents: &self.exponents,
+            epochs: &self.epochs,
+            marks: &self.marks,
+        }
+    }
+
+    fn values(&self, kind: Kind) -> &[i32] {
+        match kind {
+            Kind::Tec => &self.tec,
+            Kind::Rms => &self.rms,
+            Kind::Height => &self.height,
+        }
+    }
+
+    /// Gives back what an accepted map set does not need.
+    fn cut_to(&mut self, lengths: [usize; 6]) {
+        fn cut<T>(area: &mut Vec<T>, length: usize) {
+            area.truncate(length);
+            area.shrink_to_fit();
+        }
+        let [tec, rms, height, exponents, epochs, marks] = lengths;
+        cut(&mut self.tec, tec);
+        cut(&mut self.rms, rms);
+        cut(&mut self.height, height);
+        cut(&mut self.exponents, exponents);
+        cut(&mut self.epochs, epochs);
+        cut(&mut self.marks, marks);
+    }
+}
+
+/// A map set: a header, and for each epoch a TEC map, and an RMS and a height map where they stand.
+///
+/// ```
+/// use ionex::{Kind, MapSet, Method, Place};
+///
+/// let text = std::fs::read("../tests/examples/accepted-2d-freedoms.inx")?;
+/// let maps = MapSet::read(&text)?;
+/// assert_eq!((maps.maps(), maps.layers(), maps.rows(), maps.columns()), (2, 1, 2, 2));
+///
+/// let answer = maps.ask(Kind::Tec, Method::Between, 0, "-10.00,0.00".parse()?, "1999-12-31T23:59:59".parse()?)?;
+/// assert_eq!(answer.to_string(), "0.010 TECU");
+///
+/// let canonical = maps.write()?;
+/// assert_eq!(MapSet::read(&canonical)?, maps);
+/// # Ok::<(), Box<dyn std::error::Error>>(())
+/// ```
+#[derive(Clone, Debug, PartialEq, Eq)]
+pub struct MapSet {
+    areas: Areas,
+    header: Header,
+}
+
+impl MapSet {
+    /// Reads an IONEX 1.1 text; refusals 1 to 10 where it is none.
+    pub fn read(text: &[u8]) -> Result<MapSet, Refusal> {
+        let mut areas = Areas::of_lengths(room(text));
+        loop {
+            let mut place = [0; 2];
+            match ffi::read(text, areas.lent(), &mut place) {
+                0 => break,
+                11 => grow(&mut areas, place)?,
+                number => return Err(Refusal::of_reading(number, place)),
+            }
+        }
+        let mut set = MapSet::from_areas(areas);
+        let lengths = set.lengths();
+        set.areas.cut_to(lengths);
+        Ok(set)
+    }
+
+    /// Reads a text in the place of this map set. After a refusal this one stands as it was.
+    ///
+    /// ```
+    /// use ionex::MapSet;
+    ///
+    /// let mut in_use = MapSet::read(&std::fs::read("../tests/examples/accepted-3d.inx")?)?;
+    /// let before = in_use.clone();
+    /// let damaged = std::fs::read("../tests/examples/refused-06.inx")?;
+    /// assert_eq!(in_use.replace_with(&damaged).unwrap_err().number(), 6);
+    /// assert_eq!(in_use, before);
+    /// # Ok::<(), Box<dyn std::error::Error>>(())
+    /// ```
+    pub fn replace_with(&mut self, text: &[u8]) -> Result<(), Refusal> {
+        *self = MapSet::read(text)?;
+        Ok(())
+    }
+
+    /// The canonical text: the one text that says the same in a fixed order and spacing. Refusal 31 where this is no valid
+    /// map set, which can only be one of [`MapSet::from_areas`].
+    pub fn write(&self) -> Result<Vec<u8>, Refusal> {
+        let mut out = vec![0; self.longest_text()];
+        loop {
+            let mut count = [0];
+            match ffi::write(self.areas.given(), &mut out, &mut count) {
+                0 => {
+                    out.truncate(count[0] as usize);
+                    out.shrink_to_fit();
+                    return Ok(out);
+                }
+                30 if count[0] > out.len() as u64 => out = vec![0; count[0] as usize],
+                number => return Err(Refusal::of_writing(number, count[0])),
+            }
+        }
+    }
+
+    /// The value of a kind at a place and time, in a layer counted from 0: between the four nodes around the place, the
+    /// exact fraction rounded once. Refusals 20 to 24, and 31 as [`MapSet::write`].
+    pub fn ask(
+        &self,
+        kind: Kind,
+        method: Method,
+        layer: u64,
+        place: Place,
+        time: Epoch,
+    ) -> Result<Answer, Refusal> {
+        let asked = ffi::Asked {
+            kind: kind as u64,
+            method: method as u64,
+            layer,
+            lat: place.lat,
+            lon: place.lon,
+            second: time.seconds(),
+        };
+        let mut value = [0];
+        match ffi::ask(self.areas.given(), asked, &mut value) {
+            0 => Ok(kind.answer(value[0])),
+            number => Err(Refusal::plain(number)),
+        }
+    }
+
+    /// The header's numbers by name.
+    pub fn header(&self) -> &Header {
+        &self.header
+    }
+
+    /// The program that made the file.
+    pub fn program(&self) -> &str {
+        self.text(0, 20)
+    }
+
+    /// The agency that ran it.
+    pub fn run_by(&self) -> &str {
+        self.text(20, 40)
+    }
+
+    /// Date and time of making, as the file has them.
+    pub fn date(&self) -> &str {
+        self.text(40, 60)
+    }
+
+    /// MAPPING FUNCTION.
+    pub fn mapping(&self) -> &str {
+        self.text(60, 64)
+    }
+
+    /// OBSERVABLES USED.
+    pub fn observables(&self) -> &str {
+        self.text(64, TEXTS)
+    }
+
+    /// The epochs of the TEC maps.
+    pub fn epochs(&self) -> Vec<Epoch> {
+        self.areas
+            .epochs
+            .iter()
+            .copied()
+            .map(Epoch::from_seconds)
+            .collect()
+    }
+
+    /// How many TEC maps there are.
+    pub fn maps(&self) -> usize {
+        self.header.maps
+    }
+
+    /// How many layers a map has.
+    pub fn layers(&self) -> usize {
+        self.header.heights.nodes()
+    }
+
+    /// How many rows a layer has.
+    pub fn rows(&self) -> usize {
+        self.header.latitudes.nodes()
+    }
+
+    /// How many columns a row has.
+    pub fn columns(&self) -> usize {
+        self.header.longitudes.nodes()
+    }
+
+    /// Whether the map of this kind stands at an epoch, counted from 0.
+    pub fn has(&self, kind: Kind, map: usize) -> bool {
+        let bit = match kind {
+            Kind::Tec => return map < self.maps(),
+            Kind::Rms => 1,
+            Kind::Height => 2,
+        };
+        map < self.maps()
+            && self
+                .areas
+                .marks
+                .get(map)
+                .is_some_and(|mark| mark & bit != 0)
+    }
+
+    /// How many maps of this kind stand.
+    pub fn standing(&self, kind: Kind) -> usize {
+        match kind {
+            Kind::Tec => self.maps(),
+            _ => {
+                let marked = self.maps().min(self.areas.marks.len());
+                (0..marked).filter(|map| self.has(kind, *map)).count()
+            }
+        }
+    }
+
+    /// The number of a node as it is written, 9999 among them; nothing where the map is absent or there is no such node. All
+    /// are counted from 0.
+    pub fn number(
+        &self,
+        kind: Kind,
+        map: usize,
+        layer: usize,
+        row: usize,
+        column: usize,
+    ) -> Option<i32> {
+        let block = self.block(kind, map, layer, row)?;
+        if column >= self.columns() {
+            return None;
+        }
+        let place = block.checked_mul(self.columns())?.checked_add(column)?;
+        self.areas.values(kind).get(place).copied()
+    }
+
+    /// The exponent that a row of numbers stands under; nothing as for [`MapSet::number`].
+    pub fn exponent(&self, kind: Kind, map: usize, layer: usize, row: usize) -> Option<i32> {
+        let block = self.block(kind, map, layer, row)?;
+        let place = (kind as usize)
+            .checked_mul(self.blocks())?
+            .checked_add(block)?;
+        self.areas.exponents.get(place).copied()
+    }
+
+    /// The value of a node in its unit; nothing where it has none, where the map is absent or there is no such node.
+    ///
+    /// ```
+    /// use ionex::{Kind, MapSet};
+    ///
+    /// let maps = MapSet::read(&std::fs::read("../tests/examples/accepted-2d-freedoms.inx")?)?;
+    /// assert_eq!(maps.number(Kind::Tec, 0, 0, 0, 1), Some(-2));
+    /// assert_eq!(maps.exponent(Kind::Tec, 0, 0, 0), Some(-2));
+    /// assert_eq!(maps.value(Kind::Tec, 0, 0, 0, 1).unwrap().to_string(), "-0.020 TECU");
+    /// assert_eq!(maps.value(Kind::Tec, 0, 0, 1, 1), None);
+    /// # Ok::<(), Box<dyn std::error::Error>>(())
+    /// ```
+    pub fn value(
+        &self,
+        kind: Kind,
+        map: usize,
+        layer: usize,
+        row: usize,
+        column: usize,
+    ) -> Option<Answer> {
+        let number = self.number(kind, map, layer, row, column)?;
+        let tens = match self.exponent(kind, map, layer, row)? {
+            -3 => 1,
+            -2 => 10,
+            -1 => 100,
+            0 => 1000,
+            _ => return None,
+        };
+        let stands = number != NO_VALUE && (-9999..=99_999).contains(&number);
+        stands.then(|| kind.answer(number * tens))
+    }
+
+    /// The numbers and areas as the archive holds them.
+    pub fn as_areas(&self) -> &Areas {
+        &self.areas
+    }
+
+    /// As [`MapSet::as_areas`], handed over.
+    pub fn into_areas(self) -> Areas {
+        self.areas
+    }
+
+    /// A map set of any numbers. Whether it is a valid one is told when it is written or asked (31).
+    pub fn from_areas(areas: Areas) -> MapSet {
+        let header = Header::of(&areas.header);
+        MapSet { areas, header }
+    }
+
+    /// A text field, without the blanks at its end.
+    fn text(&self, from: usize, to: usize) -> &str {
+        let bytes = &self.areas.texts[from..to];
+        let valid = match std::str::from_utf8(bytes) {
+            Ok(text) => text,
+            // Not of a text that was read: what stands before the first byte that is no character.
+            Err(fault) => std::str::from_utf8(&bytes[..fault.valid_up_to()]).unwrap_or(""),
+        };
+        valid.trim_end_matches(' ')
+    }
+
+    /// The rows of all maps of a kind.
+    fn blocks(&self) -> usize {
+        self.maps()
+            .saturating_mul(self.layers())
+            .saturating_mul(self.rows())
+    }
+
+    /// The place of a row among those of its kind; nothing where the map is absent or there is no such row.
+    fn block(&self, kind: Kind, map: usize, layer: usize, row: usize) -> Option<usize> {
+        let inside = self.has(kind, map) && layer < self.layers() && row < self.rows();
+        inside.then(|| {
+            map.checked_mul(self.layers())?
+                .checked_add(layer)?
+                .checked_mul(self.rows())?
+                .checked_add(row)
+        })?
+    }
+
+    /// The elements that each area needs.
+    fn lengths(&self) -> [usize; 6] {
+        let values = self.blocks().saturating_mul(self.columns());
+        let of = |kind| if self.standing(kind) > 0 { values } else { 0 };
+        let exponents = self.blocks().saturating_mul(3);
+        [
+            values,
+            of(Kind::Rms),
+            of(Kind::Height),
+            exponents,
+            self.maps(),
+            self.maps(),
+        ]
+    }
+
+    /// Bytes enough for the canonical text of a valid set: 81 for each record, 5 and a part of a line end for each value.
+    fn longest_text(&self) -> usize {
+        let standing = Kind::ALL.map(|kind| self.standing(kind));
+        let maps = standing.into_iter().fold(0, usize::saturating_add);
+        let rows = self.layers().saturating_mul(self.rows());
+        let lines = self.columns() / 16 + 1;
+        let row = self
+            .columns()
+            .saturating_mul(5)
+            .saturating_add(lines + 2 * 81);
+        let all = rows
+            .saturating_mul(row)
+            .saturating_add(3 * 81)
+            .saturating_mul(maps);
+        all.saturating_add(40 * 81).min(LONGEST)
+    }
+}
+
+/// No more than this is made ready before the archive has told what it needs.
+const LONGEST: usize = 1 << 26;
+
+/// Lengths that are enough for every accepted text of this length: a value takes five bytes, and a row's opening line
+/// eighty. A reading that finds an area too short all the same tells what it needs.
+fn room(text: &[u8]) -> [usize; 6] {
+    let values = (text.len() / 5).min(2_000_000);
+    let rows = (text.len() / 80).min(2_000_000);
+    [values, values, values, 3 * rows, 300, 300]
+}
+
+/// Makes the area that was too short as long as it needs to be.
+fn grow(areas: &mut Areas, place: [u64; 2]) -> Result<(), Refusal> {
+    let [area, needs] = place;
+    let length = usize::try_from(needs).map_err(|_| Refusal::of_reading(11, place))?;
+    match area {
+        1 => areas.tec = vec![0; length],
+        2 => areas.rms = vec![0; length],
+        3 => areas.height = vec![0; length],
+        4 => areas.exponents = vec![0; length],
+        5 => areas.epochs = vec![0; length],
+        6 => areas.marks = vec![0; length],
+        _ => return Err(Refusal::of_reading(11, place)),
+    }
+    Ok(())
+}
