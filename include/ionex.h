@@ -48,6 +48,8 @@ enum ionex_answer {
     IONEX_OUTSIDE_GRID = 21,  /* the place or the layer lies outside the grid */
     IONEX_NO_VALUE = 22,      /* a node that the answer needs has no value */
     IONEX_UNKNOWN_CHOICE = 23, /* kind or method is none of those listed */
+    IONEX_UNSERVED = 24, /* methods 2 and 3: the grid does not go round the Earth, DLON is above 5.0 degrees, or two
+                          * neighbouring epochs are more than 7,200 s apart */
 
     /* Writing, and 31 also asking. */
     IONEX_SHORT_OUTPUT = 30, /* the output is too short; count[0] is the bytes needed */
@@ -170,9 +172,15 @@ uint64_t ionex_write(const int64_t *header, size_t header_len, /* IONEX_HEADER n
 enum ionex_kind { IONEX_KIND_TEC = 0, IONEX_KIND_RMS = 1, IONEX_KIND_HEIGHT = 2 };
 
 enum ionex_method {
-    IONEX_NEAREST = 0, /* the map nearest in time, the earlier of two equally near */
-    IONEX_BETWEEN = 1  /* interpolated in time between the two maps around the second */
+    IONEX_NEAREST = 0,    /* the map nearest in time, the earlier of two equally near */
+    IONEX_BETWEEN = 1,    /* interpolated in time between the two maps around the second */
+    IONEX_SUN = 2,        /* as IONEX_BETWEEN, each map asked where the Sun stood the same at its epoch: one degree of
+                           * longitude in 240 s. Document 001 recommends this, its formula (3) */
+    IONEX_NEAREST_SUN = 3 /* as IONEX_NEAREST, the map asked likewise */
 };
+
+/* A grid goes round the Earth where LON2 = LON1 + 360.0, or where LON2 + DLON = LON1 + 360.0. Of the second sort the
+ * column after the last is the first, for every method. */
 
 /*
  * Answers for the value at a place and second, interpolated between the four nodes around the place. The exact fraction
@@ -183,8 +191,8 @@ enum ionex_method {
  *   layer      counted from 0
  *   second     seconds from 1900-01-01 00:00:00
  *
- *   0                    value[0] is the answer: thousandths of a TECU (TEC, RMS) or of a kilometre (height).
- *   23, 31, 20, 21, 22   refused, told in this order; value is as found.
+ *   0                        value[0] is the answer: thousandths of a TECU (TEC, RMS) or of a kilometre (height).
+ *   23, 31, 24, 20, 21, 22   refused, told in this order; value is as found.
  */
 uint64_t ionex_ask(const int64_t *header, size_t header_len, /* IONEX_HEADER numbers, else 101 */
                    const uint8_t *texts, size_t texts_len,   /* IONEX_TEXTS bytes, else 102 */

@@ -36,23 +36,27 @@ impl Between {
     }
 }
 
-/// Thousandths of a TECU or of a kilometre, or a refusal: 23, 31, 20, 21, 22.
+/// Thousandths of a TECU or of a kilometre, or a refusal: 23, 31, 24, 20, 21, 22.
 pub fn ask(header: &Header, view: &View, question: &Question) -> Result<i32, u8> {
-    if question.kind > 2 || question.method > 1 {
+    if question.kind > 2 || question.method > 3 {
         return Err(23);
     }
     if !is_valid(header) || !areas_fit(header, view) {
         return Err(31);
     }
     let epochs = &view.epochs[..header.maps as usize];
+    if question.method > 1 && !turns(&header.longitudes, epochs) {
+        return Err(24);
+    }
     let time = in_time(epochs, question).ok_or(20)?;
     let layer = usize::try_from(question.layer).map_err(|_| 21)?;
     if layer >= header.heights.count() {
         return Err(21);
     }
     let latitude = i64::from(question.lat) - 10 * header.latitudes.first;
-    let row = along(&header.latitudes, latitude * header.latitudes.step.signum()).ok_or(21)?;
-    let column = around(&header.longitudes, i64::from(question.lon)).ok_or(21)?;
+    let south = header.latitudes.step.signum();
+    let row = along(&header.latitudes, latitude * south, 10).ok_or(21)?;
+    let columns = columns(&header.longitudes, epochs, question, time).ok_or(21)?;
     value(
         header,
         view,
@@ -60,18 +64,42 @@ pub fn ask(header: &Header, view: &View, question: &Question) -> Result<i32, u8>
         layer,
         time,
         row,
-        column,
+        columns,
     )
     .ok_or(22)
 }
 
-/// The two lines around an offset in hundredths from an axis' first.
-fn along(axis: &Axis, offset: i64) -> Option<Between> {
-    let step = 10 * axis.step.abs();
-    if offset < 0 || offset > 10 * (axis.last - axis.first).abs() {
+/// Whether the maps can turn with the Sun.
+fn turns(longitudes: &Axis, epochs: &[u64]) -> bool {
+    let beyond = longitudes.first + 3600 - longitudes.last;
+    (beyond == 0 || beyond == longitudes.step)
+        && longitudes.step <= 50
+        && epochs.windows(2).all(|pair| pair[1] - pair[0] <= 7200)
+}
+
+/// The columns of each of the two maps: around the longitude, in hundredths of a degree, or around the longitude moved
+/// by the time since the map's epoch, in 1/1200 of a degree.
+fn columns(
+    axis: &Axis,
+    epochs: &[u64],
+    question: &Question,
+    time: Between,
+) -> Option<[Between; 2]> {
+    let lon = i64::from(question.lon);
+    if question.method < 2 {
+        return around(axis, lon, 10).map(|columns| [columns; 2]);
+    }
+    let moved = |map: usize| 12 * lon + 5 * (question.second as i64 - epochs[map] as i64);
+    let [first, second] = time.at.map(|map| around(axis, moved(map), 120));
+    Some([first?, second?])
+}
+
+/// The two lines around an offset from an axis' first, in so many parts of a tenth.
+fn along(axis: &Axis, offset: i64, tenth: i64) -> Option<Between> {
+    if offset < 0 || offset > tenth * (axis.last - axis.first).abs() {
         return None;
     }
-    Some(between(offset, step))
+    Some(between(offset, tenth * axis.step.abs()))
 }
 
 /// The line at or before an offset, and the next one.
@@ -85,12 +113,12 @@ fn between(offset: i64, step: i64) -> Between {
 }
 
 /// The two columns around a longitude; after the last comes the first where one step more is a whole turn.
-fn around(axis: &Axis, lon: i64) -> Option<Between> {
-    let offset = (lon - 10 * axis.first).rem_euclid(36_000);
+fn around(axis: &Axis, lon: i64, tenth: i64) -> Option<Between> {
+    let offset = (lon - tenth * axis.first).rem_euclid(tenth * 3600);
     if axis.last + axis.step != axis.first + 3600 {
-        return along(axis, offset);
+        return along(axis, offset, tenth);
     }
-    let mut column = between(offset, 10 * axis.step);
+    let mut column = between(offset, tenth * axis.step);
     if column.at[1] == axis.count() {
         column.at[1] = 0;
     }
@@ -112,7 +140,7 @@ fn in_time(epochs: &[u64], question: &Question) -> Option<Between> {
     };
     let (after, before) = ((second - epochs[at]) as i64, (next - second) as i64);
     Some(match question.method {
-        0 => alone(if after <= before { at } else { at + 1 }),
+        0 | 3 => alone(if after <= before { at } else { at + 1 }),
         _ => Between {
             at: [at, at + 1],
             shares: [before, after],
@@ -120,8 +148,8 @@ fn in_time(epochs: &[u64], question: &Question) -> Option<Between> {
     })
 }
 
-/// The exact fraction, rounded once, halves away from zero. Shares of at most 21,600, 1,500 and 1,500 and nodes of at
-/// most 99,999,000 leave the sum within 64 bits.
+/// The exact fraction, rounded once, halves away from zero. Shares of at most 21,600, 1,500 and 1,500, or 7,200, 1,500
+/// and 6,000, and nodes of at most 99,999,000 leave the sum within 64 bits.
 fn value(
     header: &Header,
     view: &View,
@@ -129,13 +157,13 @@ fn value(
     layer: usize,
     time: Between,
     row: Between,
-    column: Between,
+    columns: [Between; 2],
 ) -> Option<i32> {
     let mut sum = 0;
     let mut all = 0;
-    for (map, a) in time.parts() {
+    for ((map, a), columns) in time.parts().zip(columns) {
         for (row, b) in row.parts() {
-            for (column, c) in column.parts() {
+            for (column, c) in columns.parts() {
                 let weight = a * b * c;
                 if weight != 0 {
                     sum += weight * node(header, view, kind, map, layer, row, column)?;

@@ -29,7 +29,10 @@ fn main() {
     let both = files::global(true);
     let ratio = report_reading("25 TEC maps", &tec);
     report_reading("25 TEC and 25 RMS maps", &both);
-    report_asking(&tec);
+    let one = report_asking(&tec, 1);
+    let two = report_asking(&tec, 2);
+    let ratio_of = two / one;
+    println!("one question by method 2 over one by method 1: {ratio_of:.2}");
     report_moving();
     report_writing("25 TEC maps", &tec);
     report_writing("25 TEC and 25 RMS maps", &both);
@@ -114,11 +117,11 @@ fn map_set(text: &str) -> (Given, Header) {
 }
 
 /// Places and seconds all over the first file's set.
-fn questions(first_epoch: u64) -> Vec<Question> {
+fn questions(first_epoch: u64, method: u64) -> Vec<Question> {
     (0..QUESTIONS as u64)
         .map(|k| Question {
             kind: 0,
-            method: 1,
+            method,
             layer: 0,
             lat: (k * 7919 % 17_501) as i32 - 8750,
             lon: (k * 104_729 % 36_000) as i32 - 18_000,
@@ -127,7 +130,8 @@ fn questions(first_epoch: u64) -> Vec<Question> {
         .collect()
 }
 
-fn report_asking(text: &str) {
+/// The library's time for one question, in nanoseconds.
+fn report_asking(text: &str, method: u64) -> f64 {
     let (given, header) = map_set(text);
     let view = View {
         tec: &given.areas.tec,
@@ -137,7 +141,7 @@ fn report_asking(text: &str) {
         epochs: &given.areas.epochs,
         marks: &given.areas.marks,
     };
-    let questions = questions(header.first_epoch);
+    let questions = questions(header.first_epoch, method);
     let mut best = [Duration::MAX; 2];
     for _ in 0..ASKING_ROUNDS {
         let ours = timed(&mut best[0], || sum(&questions, |q| ask_library(&given, q)));
@@ -150,7 +154,10 @@ fn report_asking(text: &str) {
     }
     let [library, plain] = best.map(|time| micros(time) * 1000.0 / QUESTIONS as f64);
     let ratio = library / plain;
-    println!("one question: library {library:.0} ns, plain {plain:.0} ns, ratio {ratio:.2}");
+    println!(
+        "one question by method {method}: library {library:.0} ns, plain {plain:.0} ns, ratio {ratio:.2}"
+    );
+    library
 }
 
 fn sum(questions: &[Question], value: impl Fn(&Question) -> i32) -> i64 {

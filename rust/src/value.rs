@@ -43,6 +43,10 @@ pub enum Method {
     Nearest,
     /// Interpolated between the two maps around the time: formula (2).
     Between,
+    /// As `Between`, each map turned with the Sun from its epoch to the time: formula (3), which 001 recommends.
+    Sun,
+    /// As `Nearest`, the map turned likewise.
+    NearestSun,
 }
 
 /// Thousandths of a TECU, 10^16 electrons to the square metre.

@@ -1,5 +1,7 @@
-//! Asking: the value at a place and second, by exact fractions.
+//! Asking: the value at a place and second, by exact fractions of a degree and of
+//! the time between two maps.
 
+use crate::fraction::Fraction;
 use crate::header::{exponent_fits, Axis, Header, Texts};
 use crate::maps::{self, Grid, Kind, View, NO_VALUE};
 use crate::refusal::Refusal;
@@ -9,7 +11,7 @@ use crate::refusal::Refusal;
 pub struct Question {
     /// 0 TEC, 1 RMS, 2 height map values.
     pub kind: i64,
-    /// 0 the nearest map, 1 formula (2) of 001.
+    /// 0 the nearest map, 1 formula (2) of 001, 2 formula (3), 3 the nearest map moved as in formula (3).
     pub method: i64,
     /// Counted from 0.
     pub layer: i64,
@@ -27,47 +29,30 @@ pub enum Answer {
     ThousandthsOfKilometre(i64),
 }
 
-/// A grid line or a map and its part of a sum, as a whole number of shares.
+/// A grid line or a map with its weight; only those that are needed.
 #[derive(Clone, Copy, Debug, PartialEq, Eq)]
 struct Part {
     place: usize,
-    shares: i128,
+    weight: Fraction,
 }
 
-/// Two neighbours whose shares add up to `all`.
-#[derive(Clone, Copy, Debug, PartialEq, Eq)]
-struct Split {
-    parts: [Part; 2],
-    all: i128,
+/// `place` and `next` with weights 1 - p and p. "A node is needed when its weight
+/// is not zero."
+fn parts(place: usize, next: usize, p: Fraction) -> Vec<Part> {
+    let near = Part {
+        place,
+        weight: Fraction::ONE.minus(p),
+    };
+    let far = Part {
+        place: next,
+        weight: p,
+    };
+    let mut parts = vec![near, far];
+    parts.retain(|part| !part.weight.is_zero());
+    parts
 }
 
-impl Split {
-    /// The place alone; its neighbour has weight zero.
-    fn alone(place: usize) -> Split {
-        Split::between(place, 0, 1)
-    }
-
-    /// From `place` towards the next one by `offset` of `width`.
-    fn between(place: usize, offset: i128, width: i128) -> Split {
-        Split::towards(place, place + 1, offset, width)
-    }
-
-    /// From `place` towards `next` by `offset` of `width`.
-    fn towards(place: usize, next: usize, offset: i128, width: i128) -> Split {
-        let part = |place, shares| Part { place, shares };
-        Split {
-            parts: [part(place, width - offset), part(next, offset)],
-            all: width,
-        }
-    }
-
-    /// "A node is needed when its weight is not zero."
-    fn needed(&self) -> impl Iterator<Item = Part> {
-        self.parts.into_iter().filter(|part| part.shares != 0)
-    }
-}
-
-/// Refusals in the order 23, 31, 20, 21, 22.
+/// Refusals in the order 23, 31, 24, 20, 21, 22.
 pub fn ask(
     header: &Header,
     texts: &Texts,
@@ -80,32 +65,49 @@ pub fn ask(
         2 => Kind::Height,
         _ => return refuse(23),
     };
-    if question.method != 0 && question.method != 1 {
+    if !(0..4).contains(&question.method) {
         return refuse(23);
     }
     let Some(grid) = maps::frame(header, texts, areas) else {
         return refuse(31);
     };
     let epochs = &areas.epochs[..grid.maps];
+    let turned = question.method >= 2;
+    if turned && !can_turn(&header.longitudes, epochs) {
+        return refuse(24);
+    }
     if question.second < epochs[0] || question.second > epochs[grid.maps - 1] {
         return refuse(20);
     }
-    let time = if question.method == 0 {
-        nearest(epochs, question.second)
-    } else {
-        between_epochs(epochs, question.second)
+    let maps = match question.method {
+        0 | 3 => nearest(epochs, question.second),
+        _ => between_epochs(epochs, question.second),
     };
     let place = (
         layer(&grid, question.layer),
-        latitude(&header.latitudes, question.latitude),
-        longitude(&header.longitudes, question.longitude),
+        latitude(&header.latitudes, degrees(question.latitude)),
     );
-    let (Some(layer), Some(row), Some(column)) = place else {
+    let (Some(layer), Some(rows)) = place else {
         return refuse(21);
     };
-    let Some(value) = value_at(&grid, areas, kind, time, layer, row, column) else {
-        return refuse(22);
-    };
+    let mut sum = Fraction::ZERO;
+    for map in maps {
+        let at = if turned {
+            moved(question, epochs[map.place])
+        } else {
+            degrees(question.longitude)
+        };
+        // Where it is outside for one map, it is so for the first, before any 22.
+        let Some(columns) = longitude(&header.longitudes, at) else {
+            return refuse(21);
+        };
+        let Some(value) = four_points(&grid, areas, kind, map.place, layer, &rows, &columns) else {
+            return refuse(22);
+        };
+        sum = sum.plus(map.weight.times(value));
+    }
+    // "The exact fraction is rounded once."
+    let value = i64::try_from(sum.rounded()).unwrap_or(i64::MAX);
     Ok(match kind {
         Kind::Tec | Kind::Rms => Answer::ThousandthsOfTecu(value),
         Kind::Height => Answer::ThousandthsOfKilometre(value),
@@ -116,98 +118,113 @@ fn refuse(number: u8) -> Result<Answer, Refusal> {
     Err(Refusal::Bare { number })
 }
 
+fn degrees(hundredths: i64) -> Fraction {
+    Fraction::new(i128::from(hundredths), 100)
+}
+
+/// A number of an axis, which is in tenths.
+fn of_axis(tenths: i64) -> Fraction {
+    Fraction::new(i128::from(tenths), 10)
+}
+
+/// 02, Ask 3: "24 when the grid does not go round, DLON is above 5.0, or two
+/// neighbouring epochs are more than 7,200 s apart."
+fn can_turn(longitudes: &Axis, epochs: &[u64]) -> bool {
+    longitudes.goes_round()
+        && longitudes.step <= 50
+        && epochs.windows(2).all(|pair| pair[1] - pair[0] <= 7_200)
+}
+
+/// 001's formula (3): lambda' = lambda + (t - T); "360 degrees in 86,400 seconds,
+/// so one degree in 240" (02, Ask 3). Back where the map is the later.
+fn moved(question: &Question, epoch: u64) -> Fraction {
+    let since = i128::from(question.second) - i128::from(epoch);
+    degrees(question.longitude).plus(Fraction::new(since, 240))
+}
+
 fn layer(grid: &Grid, layer: i64) -> Option<usize> {
     let layer = usize::try_from(layer).ok()?;
     (layer < grid.layers).then_some(layer)
 }
 
 /// The row at or before the latitude in DLAT's direction, and its neighbour.
-fn latitude(axis: &Axis, hundredths: i64) -> Option<Split> {
-    let direction = i128::from(axis.step.signum());
-    let offset = (i128::from(hundredths) - i128::from(axis.first) * 10) * direction;
-    along(axis, offset)
+fn latitude(axis: &Axis, degrees: Fraction) -> Option<Vec<Part>> {
+    along(axis, degrees.minus(of_axis(axis.first)))
 }
 
 /// "The longitude is brought by whole turns into LON1 <= x < LON1 + 360.00; x
 /// beyond LON2 is outside", but for the strip of 02's Ask 2, where "the column
 /// after the last is the first".
-fn longitude(axis: &Axis, hundredths: i64) -> Option<Split> {
-    let from_first = i128::from(hundredths) - i128::from(axis.first) * 10;
-    let offset = from_first.rem_euclid(36_000);
-    let beyond = offset - length(axis);
-    if beyond > 0 && axis.has_strip() {
+fn longitude(axis: &Axis, degrees: Fraction) -> Option<Vec<Part>> {
+    let turn = Fraction::from(360);
+    let from_first = degrees.minus(of_axis(axis.first));
+    let turns = Fraction::new(from_first.by(turn).floor(), 1);
+    let from_first = from_first.minus(turns.times(turn));
+    along(axis, from_first).or_else(|| {
         let last = usize::try_from(axis.count() - 1).ok()?;
-        return Some(Split::towards(last, 0, beyond, width(axis)));
-    }
-    along(axis, offset)
+        let from_last = from_first.minus(of_axis(axis.last - axis.first));
+        let p = from_last.by(of_axis(axis.step));
+        axis.has_strip().then(|| parts(last, 0, p))
+    })
 }
 
-/// The grid line at or before an offset in hundredths from the axis' first. On
-/// the last line the neighbour, which does not exist, has weight zero.
-fn along(axis: &Axis, offset: i128) -> Option<Split> {
-    if offset < 0 || offset > length(axis) {
-        return None;
-    }
-    let width = width(axis);
-    let place = usize::try_from(offset / width).ok()?;
-    Some(Split::between(place, offset % width, width))
-}
-
-/// From the first line to the last, in hundredths.
-fn length(axis: &Axis) -> i128 {
-    i128::from((axis.last - axis.first).abs()) * 10
-}
-
-/// From one line to the next, in hundredths.
-fn width(axis: &Axis) -> i128 {
-    i128::from(axis.step.abs()) * 10
+/// The grid lines around a place given from the axis' first, in degrees, and
+/// their weights: 1 - p and p of 001's four-point formula.
+fn along(axis: &Axis, from_first: Fraction) -> Option<Vec<Part>> {
+    // In steps, so that it goes up in the axis' direction.
+    let direction = Fraction::from(axis.step.signum());
+    let steps = from_first.times(direction).by(of_axis(axis.step.abs()));
+    let place = usize::try_from(steps.floor()).ok()?;
+    let p = steps.minus(Fraction::new(steps.floor(), 1));
+    let last = usize::try_from(axis.count() - 1).ok()?;
+    // On the last line its neighbour does not exist, and has no weight.
+    let inside = place < last || (place == last && p.is_zero());
+    inside.then(|| parts(place, place + 1, p))
 }
 
 /// "the nearest map, the earlier of two equally near"
-fn nearest(epochs: &[u64], second: u64) -> Split {
+fn nearest(epochs: &[u64], second: u64) -> Vec<Part> {
     let mut best = 0;
     for map in 1..epochs.len() {
         if epochs[map].abs_diff(second) < epochs[best].abs_diff(second) {
             best = map;
         }
     }
-    Split::alone(best)
+    parts(best, best, Fraction::ZERO)
 }
 
-/// 001's formula (2), for T_i <= t < T_i+1; "at the last epoch, the last map alone".
-fn between_epochs(epochs: &[u64], second: u64) -> Split {
-    let last = epochs.len() - 1;
+/// 001's formulas (2) and (3), for T_i <= t < T_i+1; "at the last epoch, the last
+/// map alone".
+fn between_epochs(epochs: &[u64], second: u64) -> Vec<Part> {
     let map = epochs.iter().rposition(|&t| t <= second).unwrap_or(0);
-    if map == last {
-        return Split::alone(last);
-    }
-    let offset = i128::from(second - epochs[map]);
-    let width = i128::from(epochs[map + 1] - epochs[map]);
-    Split::between(map, offset, width)
+    let Some(&next) = epochs.get(map + 1) else {
+        return parts(map, map, Fraction::ZERO);
+    };
+    let since = i128::from(second - epochs[map]);
+    let gap = i128::from(next - epochs[map]);
+    parts(map, map + 1, Fraction::new(since, gap))
 }
 
-/// 001's four-point formula in each map, both maps together in one fraction:
-/// "The exact fraction is rounded once."
-fn value_at(
+/// 001's four-point formula in one map, or nothing where a needed node has no
+/// value.
+fn four_points(
     grid: &Grid,
     areas: &View,
     kind: Kind,
-    time: Split,
+    map: usize,
     layer: usize,
-    row: Split,
-    column: Split,
-) -> Option<i64> {
-    let mut sum: i128 = 0;
-    for map in time.needed() {
-        for row in row.needed() {
-            let block = layer * grid.rows + row.place;
-            for column in column.needed() {
-                let node = node(grid, areas, kind, map.place, block, column.place)?;
-                sum += map.shares * row.shares * column.shares * i128::from(node);
-            }
+    rows: &[Part],
+    columns: &[Part],
+) -> Option<Fraction> {
+    let mut sum = Fraction::ZERO;
+    for row in rows {
+        let block = layer * grid.rows + row.place;
+        for column in columns {
+            let node = Fraction::from(node(grid, areas, kind, map, block, column.place)?);
+            sum = sum.plus(row.weight.times(column.weight).times(node));
         }
     }
-    i64::try_from(rounded(sum, time.all * row.all * column.all)).ok()
+    Some(sum)
 }
 
 /// A node in thousandths, or nothing "when its number is 9999 or outside -9999 to
@@ -232,90 +249,105 @@ fn node(
     Some(i64::from(value) * 10_i64.pow((exponent + 3) as u32))
 }
 
-/// "to the nearest whole number, halves away from zero"; `all` is positive.
-fn rounded(sum: i128, all: i128) -> i128 {
-    let size = (2 * sum.abs() + all) / (2 * all);
-    if sum < 0 {
-        -size
-    } else {
-        size
-    }
-}
-
 #[cfg(test)]
 mod tests {
     use super::*;
 
-    #[test]
-    fn halves_away_from_zero() {
-        assert_eq!(rounded(1, 2), 1);
-        assert_eq!(rounded(-1, 2), -1);
-        assert_eq!(rounded(3, 2), 2);
-        assert_eq!(rounded(-3, 2), -2);
-        assert_eq!(rounded(1, 3), 0);
-        assert_eq!(rounded(-2, 3), -1);
-        assert_eq!(rounded(0, 7), 0);
+    fn axis(first: i64, last: i64, step: i64) -> Axis {
+        Axis { first, last, step }
+    }
+
+    fn alone(place: usize) -> Vec<Part> {
+        parts(place, place, Fraction::ZERO)
     }
 
     #[test]
     fn equally_near_is_the_earlier() {
         let epochs = [0, 10, 20, 21];
-        assert_eq!(nearest(&epochs, 5), Split::alone(0));
-        assert_eq!(nearest(&epochs, 6), Split::alone(1));
-        assert_eq!(nearest(&epochs, 15), Split::alone(1));
-        assert_eq!(nearest(&epochs, 16), Split::alone(2));
-        assert_eq!(nearest(&epochs, 21), Split::alone(3));
+        for (second, map) in [(5, 0), (6, 1), (15, 1), (16, 2), (21, 3)] {
+            assert_eq!(nearest(&epochs, second), alone(map));
+        }
+    }
+
+    /// The columns around a longitude in hundredths.
+    fn around(axis: Axis, hundredths: i64) -> Option<Vec<Part>> {
+        longitude(&axis, degrees(hundredths))
+    }
+
+    /// From a place towards the next one by so much.
+    fn by(place: usize, over: i128, under: i128) -> Option<Vec<Part>> {
+        Some(parts(place, place + 1, Fraction::new(over, under)))
     }
 
     #[test]
     fn longitude_turns() {
-        let axis = Axis {
-            first: -1800,
-            last: 1800,
-            step: 50,
-        };
         // 180.00 is brought to -180.00, so the last column is a neighbour only.
-        assert_eq!(longitude(&axis, 18_000), Some(Split::between(0, 0, 500)));
-        assert_eq!(longitude(&axis, 17_999), Some(Split::between(71, 499, 500)));
-        assert_eq!(
-            longitude(&axis, -18_001),
-            Some(Split::between(71, 499, 500))
-        );
-        let axis = Axis {
-            first: 0,
-            last: 3500,
-            step: 50,
-        };
-        assert_eq!(longitude(&axis, 35_001), None);
-        assert_eq!(longitude(&axis, 35_000), Some(Split::between(70, 0, 500)));
-        assert_eq!(longitude(&axis, -1000), Some(Split::between(70, 0, 500)));
-        assert_eq!(longitude(&axis, -999), None);
+        let closed = axis(-1800, 1800, 50);
+        assert_eq!(around(closed, 18_000), Some(alone(0)));
+        assert_eq!(around(closed, 17_999), by(71, 499, 500));
+        assert_eq!(around(closed, -18_001), by(71, 499, 500));
+        let open = axis(0, 3500, 50);
+        assert_eq!(around(open, 35_001), None);
+        assert_eq!(around(open, 35_000), Some(alone(70)));
+        assert_eq!(around(open, -1000), Some(alone(70)));
+        assert_eq!(around(open, -999), None);
         // 9,223,372,036,854,775,807 = 36,000 * 256,204,778,801,521 + 19,807.
-        assert_eq!(
-            longitude(&axis, i64::MAX),
-            Some(Split::between(19_807 / 500, 19_807 % 500, 500))
-        );
-        assert!(longitude(&axis, i64::MIN).is_some());
+        assert_eq!(around(open, i64::MAX), by(39, 307, 500));
+        assert!(around(open, i64::MIN).is_some());
     }
 
     #[test]
     fn strip_goes_to_the_first_column() {
-        let strip = |first, last, step| Axis { first, last, step };
-        let axis = strip(0, 3575, 25);
-        let of = |beyond| Some(Split::towards(143, 0, beyond, 250));
-        assert_eq!(longitude(&axis, 35_751), of(1));
-        assert_eq!(longitude(&axis, 35_999), of(249));
-        assert_eq!(longitude(&axis, -1), of(249));
-        assert_eq!(longitude(&axis, 35_750), Some(Split::between(143, 0, 250)));
-        assert_eq!(longitude(&axis, 36_000), Some(Split::between(0, 0, 250)));
-        let axis = strip(-1800, 1750, 50);
-        let of = |beyond| Some(Split::towards(71, 0, beyond, 500));
-        assert_eq!(longitude(&axis, 17_501), of(1));
-        assert_eq!(longitude(&axis, -18_001), of(499));
-        assert_eq!(longitude(&axis, 17_999 + 36_000), of(499));
-        // One column less, or the half of a strip: outside.
-        assert_eq!(longitude(&strip(0, 3550, 25), 35_501), None);
-        assert_eq!(longitude(&strip(0, 3500, 50), 35_001), None);
-        assert_eq!(longitude(&strip(-1800, 1700, 50), 17_001), None);
+        let strip = axis(0, 3575, 25);
+        let of = |beyond| Some(parts(143, 0, Fraction::new(beyond, 250)));
+        assert_eq!(around(strip, 35_751), of(1));
+        assert_eq!(around(strip, 35_999), of(249));
+        assert_eq!(around(strip, -1), of(249));
+        assert_eq!(around(strip, 35_750), Some(alone(143)));
+        assert_eq!(around(strip, 36_000), Some(alone(0)));
+        let strip = axis(-1800, 1750, 50);
+        let of = |beyond| Some(parts(71, 0, Fraction::new(beyond, 500)));
+        assert_eq!(around(strip, 17_501), of(1));
+        assert_eq!(around(strip, -18_001), of(499));
+        assert_eq!(around(strip, 17_999 + 36_000), of(499));
+        // One column less: outside.
+        assert_eq!(around(axis(0, 3550, 25), 35_501), None);
+        assert_eq!(around(axis(0, 3500, 50), 35_001), None);
+        assert_eq!(around(axis(-1800, 1700, 50), 17_001), None);
+    }
+
+    #[test]
+    fn one_degree_in_240_seconds() {
+        let question = Question {
+            kind: 0,
+            method: 2,
+            layer: 0,
+            latitude: 0,
+            longitude: 1_001,
+            second: 1_000,
+        };
+        assert_eq!(moved(&question, 760), degrees(1_101));
+        assert_eq!(moved(&question, 1_000), degrees(1_001));
+        assert_eq!(moved(&question, 1_240), degrees(901));
+        // 10.01 + 1/240 in units of 1/1200: 12,012 + 5.
+        assert_eq!(moved(&question, 999), Fraction::new(12_017, 1_200));
+    }
+
+    #[test]
+    fn what_can_turn() {
+        let strip = axis(0, 3550, 50);
+        assert!(can_turn(&strip, &[5]));
+        assert!(can_turn(&strip, &[0, 7_200, 7_201]));
+        assert!(!can_turn(&strip, &[0, 7_201, 7_202]));
+        assert!(!can_turn(&strip, &[0, 1, 7_202]));
+        assert!(can_turn(&axis(-1800, 1800, 50), &[0, 7_200]));
+        assert!(can_turn(&axis(0, 3575, 25), &[0, 7_200]));
+        for no in [axis(0, 3500, 50), axis(0, 3550, 25), axis(50, 3550, 50)] {
+            assert!(!can_turn(&no, &[0]));
+        }
+        // Round, but with wider steps; 5.5 does not divide a turn.
+        for wide in [axis(0, 3540, 60), axis(0, 3600, 60), axis(0, 3575, 55)] {
+            assert!(!can_turn(&wide, &[0]));
+        }
     }
 }

@@ -183,6 +183,12 @@ impl Axis {
         self.last + self.step == self.first + 3600
     }
 
+    /// "grids that go round the whole Earth, in either of the two ways named in Ask
+    /// 2": the other is "with LON2 = LON1 + 360.0".
+    pub fn goes_round(&self) -> bool {
+        self.has_strip() || self.last == self.first + 3600
+    }
+
     /// The number of grid lines, for an axis without a fault.
     pub fn count(&self) -> i64 {
         if self.step == 0 {

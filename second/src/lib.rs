@@ -10,6 +10,7 @@
 pub mod ask;
 pub mod calendar;
 pub mod fields;
+pub mod fraction;
 pub mod header;
 pub mod labels;
 pub mod lines;

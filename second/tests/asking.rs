@@ -236,6 +236,159 @@ fn no_strip() {
     assert_eq!(answer(&mut set, &at(0, 36_000, 0)), Err(22));
 }
 
+/// The grid 0.0 to 355.0 by 5.0, the second map 1000 above the first: columns 100, 110, .. 810 and 1100, 1110, .. 1810.
+fn turning() -> Set {
+    let mut set = around(0, 3550, 50);
+    for value in &mut set.2.tec[144..] {
+        *value += 1000;
+    }
+    set
+}
+
+fn by(method: i64, longitude: i64, after: u64) -> Question {
+    Question {
+        method,
+        ..at(1000, longitude, after)
+    }
+}
+
+#[test]
+fn maps_that_turn() {
+    let mut set = turning();
+    for (method, longitude, after, value) in [
+        // Halfway: 15 degrees forward and back. At 40.0 and 10.0: 180 and 1120.
+        (2, 2_500, 3_600, 650),
+        // At 25.0 and -5.0, which is 355.0: 150 and 1810.
+        (2, 1_000, 3_600, 980),
+        // The later map in the strip: 27.5 and 357.5, so 155 and halfway from 1810 to 1100, 1455.
+        (2, 1_250, 3_600, 805),
+        // A quarter of the time: 7.5 forward, 22.5 back. At 17.5 and 347.5: 135 and 1795, so 101.25 + 448.75.
+        (2, 1_000, 1_800, 550),
+        // A second is 1/240 of a degree, so 1/1200 of a column. The first map at 10 + 1/240: 120 + 1/120; the second
+        // at 10 - 7199/240 = 340 + 1/240: 1780 + 1/120. The mean is 120 + 1/120 + 1660/7200 = 120.23..
+        (2, 1_000, 1, 120),
+        // Four times that much above 120: 120.95..
+        (2, 1_000, 4, 121),
+        // The nearest map alone: the earlier of two equally near, 15 degrees on.
+        (3, 1_000, 3_600, 150),
+        // The later one, 3599 s back: -4.9958.., between 355.0 and 360.0 by 1/1200: 1810 - 710/1200 = 1809.4..
+        (3, 1_000, 3_601, 1_809),
+        // 0.5 degrees on: 121; 0.25 on, 120.5, away from zero.
+        (3, 1_000, 120, 121),
+        (3, 1_000, 60, 121),
+        (3, 1_000, 59, 120),
+    ] {
+        let question = by(method, longitude, after);
+        assert_eq!(answer(&mut set, &question), tecu(value), "{question:?}");
+        // Whole turns change nothing.
+        for turns in [-7, 1, 50_000] {
+            let question = by(method, longitude + 36_000 * turns, after);
+            assert_eq!(answer(&mut set, &question), tecu(value));
+        }
+    }
+    // The same on a grid that closes on itself, but for the place in the strip: its last column has 1820.
+    let mut set = around(0, 3600, 50);
+    for value in &mut set.2.tec[146..] {
+        *value += 1000;
+    }
+    assert_eq!(answer(&mut set, &by(2, 1_000, 3_600)), tecu(980));
+    assert_eq!(answer(&mut set, &by(2, 1_250, 3_600)), tecu(985));
+}
+
+#[test]
+fn turned_and_rounded_once() {
+    // At 3600 s each map is asked 15 degrees off. The first gives 1/2, the second 0, so a quarter.
+    let mut set = turning();
+    set.2.tec.fill(0);
+    set.2.tec[3] = 1;
+    assert_eq!(answer(&mut set, &by(2, 250, 3_600)), tecu(0));
+    assert_eq!(answer(&mut set, &by(3, 250, 3_600)), tecu(1));
+}
+
+/// "At a map's own epoch, where 24 is not given, methods 2 and 1 must give the same answer or the same refusal."
+#[test]
+fn at_a_maps_own_epoch() {
+    let mut set = turning();
+    set.2.tec[7] = 9999;
+    set.2.tec[144 + 71] = 9999;
+    for after in [0, 7_200, 7_201] {
+        for longitude in (-50..36_050).step_by(50) {
+            for latitude in [1000, 500, 0, -1] {
+                let ask = |set: &mut Set, method| {
+                    let question = Question {
+                        latitude,
+                        ..by(method, longitude, after)
+                    };
+                    answer(set, &question)
+                };
+                assert_eq!(ask(&mut set, 2), ask(&mut set, 1));
+                assert_eq!(ask(&mut set, 3), ask(&mut set, 0));
+            }
+        }
+    }
+}
+
+#[test]
+fn nodes_needed_of_moved_maps() {
+    let mut set = turning();
+    // 25.0 in the first map and 355.0 in the second are nodes: columns 5 and 71 alone are needed.
+    for column in (0..72).filter(|&column| column != 5) {
+        set.2.tec[column] = 9999;
+    }
+    for column in (0..72).filter(|&column| column != 71) {
+        set.2.tec[144 + column] = 9999;
+    }
+    assert_eq!(answer(&mut set, &by(2, 1_000, 3_600)), tecu(980));
+    assert_eq!(answer(&mut set, &by(2, 1_000, 3_599)), Err(22));
+    assert_eq!(answer(&mut set, &by(2, 1_001, 3_600)), Err(22));
+    assert_eq!(answer(&mut set, &by(1, 1_000, 3_600)), Err(22));
+    // Latitude and layer can be outside, a longitude not.
+    let outside = Question {
+        latitude: 1001,
+        ..by(2, 1_000, 3_600)
+    };
+    assert_eq!(answer(&mut set, &outside), Err(21));
+    let outside = Question {
+        layer: 1,
+        ..by(3, 1_000, 3_600)
+    };
+    assert_eq!(answer(&mut set, &outside), Err(21));
+}
+
+/// "24 when the grid does not go round, DLON is above 5.0, or two neighbouring epochs are more than 7,200 s apart"
+#[test]
+fn maps_that_cannot_turn() {
+    let asked = |mut set: Set| [2, 3].map(|method| answer(&mut set, &by(method, 0, 0)));
+    for (first, last, step) in [
+        (0, 3550, 50),
+        (-1800, 1800, 50),
+        (0, 3575, 25),
+        (0, 3600, 25),
+    ] {
+        assert_ne!(asked(around(first, last, step)), [Err(24); 2]);
+    }
+    for (first, last, step) in [
+        (0, 3500, 50),
+        (0, 3550, 25),
+        (50, 3550, 50),
+        (0, 3540, 60),
+        (0, 3600, 60),
+        (0, 3575, 55),
+        (0, 3600, 150),
+    ] {
+        assert_eq!(asked(around(first, last, step)), [Err(24); 2]);
+    }
+    // Gaps of 7,200 s and 7,201 s.
+    let mut set = around(0, 3550, 50);
+    set.0.interval = 0;
+    assert_eq!(asked(set.clone()), [tecu(100); 2]);
+    set.0.last_epoch += 1;
+    set.2.epochs[1] += 1;
+    assert_eq!(asked(set.clone()), [Err(24); 2]);
+    assert_eq!(answer(&mut set, &by(1, 0, 0)), tecu(100));
+    assert_eq!(answer(&mut set, &by(0, 0, 0)), tecu(100));
+}
+
 #[test]
 fn one_row_one_column() {
     let mut set = set();
@@ -274,13 +427,22 @@ fn order_of_refusals() {
     set.0.maps = 0;
     assert_eq!(answer(&mut set, &question), Err(23));
     question.kind = 1;
-    question.method = 2;
+    question.method = 4;
     assert_eq!(answer(&mut set, &question), Err(23));
     question.method = -1;
     assert_eq!(answer(&mut set, &question), Err(23));
-    question.method = 1;
-    assert_eq!(answer(&mut set, &question), Err(31));
+    question.method = i64::MAX;
+    assert_eq!(answer(&mut set, &question), Err(23));
+    for method in 0..4 {
+        question.method = method;
+        assert_eq!(answer(&mut set, &question), Err(31));
+    }
     set.0.maps = 2;
+    // The base grid does not go round: 24 before 20, for methods 2 and 3 only.
+    assert_eq!(answer(&mut set, &question), Err(24));
+    question.method = 2;
+    assert_eq!(answer(&mut set, &question), Err(24));
+    question.method = 1;
     assert_eq!(answer(&mut set, &question), Err(20));
     question.second = FIRST;
     assert_eq!(answer(&mut set, &question), Err(21));

@@ -261,7 +261,7 @@ fn expected_often() -> Vec<(&'static str, u64)> {
     let mut add = |name, answers: &[u64]| rows.extend(answers.iter().map(|&answer| (name, answer)));
     add("read", &[0, 6, 8, 11, 101, 102, 103]);
     add("write", &[0, 30, 31, 101, 102, 103]);
-    add("ask", &[0, 20, 21, 22, 23, 31, 101, 102, 103]);
+    add("ask", &[0, 20, 21, 22, 23, 24, 31, 101, 102, 103]);
     add("moved", &[0, 7, 103]);
     rows
 }

@@ -21,7 +21,8 @@ pub const SHOWN: u64 = 20;
 pub struct Counts {
     pub accepted: u64,
     pub written: u64,
-    pub answered: u64,
+    /// By method.
+    pub answered: [u64; 4],
     /// Between the last column and the first.
     pub in_strip: u64,
     pub moved: u64,
@@ -49,7 +50,7 @@ impl Counts {
             (Job::Write { .. }, None) => self.written += 1,
             (Job::Write { .. }, Some(number)) => self.writing[number] += 1,
             (Job::Ask { set, question, .. }, None) => {
-                self.answered += 1;
+                self.answered[question.method as usize] += 1;
                 self.in_strip += u64::from(set.in_strip(question.longitude));
             }
             (Job::Ask { .. }, Some(number)) => self.asking[number] += 1,
@@ -71,9 +72,11 @@ impl Counts {
         for number in 30..=31 {
             rows.push((format!("writing refused {number}"), self.writing[number]));
         }
-        rows.push(("answered".to_string(), self.answered));
+        for (method, number) in self.answered.iter().enumerate() {
+            rows.push((format!("answered by method {method}"), *number));
+        }
         rows.push(("answered in the strip".to_string(), self.in_strip));
-        for number in [20, 21, 22, 23, 31] {
+        for number in [20, 21, 22, 23, 24, 31] {
             rows.push((format!("asking refused {number}"), self.asking[number]));
         }
         rows.push(("moved".to_string(), self.moved));

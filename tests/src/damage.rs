@@ -1084,10 +1084,15 @@ pub fn question(rng: &mut Rng, set: &MapSet) -> Question {
             4..=6 => 2,
             _ => 0,
         },
-        method: match rng.below(16) {
-            0 => rng.pick(&[-1, 2, 3, 255]),
-            1..=6 => 0,
-            _ => 1,
+        method: match (rng.below(16), header.longitudes.goes_round()) {
+            (0, _) => rng.pick(&[-1, 4, 5, 255]),
+            (1..=2, _) => 0,
+            (3..=5, _) => 1,
+            // Most grids do not go round.
+            (6..=8, false) => 0,
+            (9..=13, false) => 1,
+            (6..=9, true) | (14, false) => 3,
+            _ => 2,
         },
         layer: match rng.below(16) {
             0 => rng.pick(&[-1, grid.layers as i64, 64, i64::from(i32::MAX)]),

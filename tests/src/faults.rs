@@ -3,6 +3,7 @@
 
 use crate::jobs;
 use crate::library::{Library, Second};
+use crate::oracle;
 use crate::run;
 use crate::set::{Buffers, MapSet};
 use second::maps::Grid;
@@ -69,6 +70,15 @@ pub enum Fault {
     AbsentAsValue,
     /// In the strip, the column before the last in the place of the first.
     ColumnBefore,
+    /// Maps that turn: the later one moved forward too, both moved by the time since the earlier, moved ten times as far.
+    LaterForward,
+    SameTime,
+    TenTimes,
+    /// Rounded in each of the maps that turn, and again in time.
+    RoundedPerMap,
+    /// 24 told after 20, or only for the gap around the second asked for.
+    TurnsLate,
+    GapAround,
     // Moving.
     MovedValue,
     MovedRefusal,
@@ -114,6 +124,12 @@ pub fn all() -> Vec<Fault> {
         ZeroWeight,
         AbsentAsValue,
         ColumnBefore,
+        LaterForward,
+        SameTime,
+        TenTimes,
+        RoundedPerMap,
+        TurnsLate,
+        GapAround,
         MovedValue,
         MovedRefusal,
     ];
@@ -200,7 +216,21 @@ impl Library for Faulty {
 
     fn ask(&self, set: &MapSet, question: &Question) -> Result<Answer, Refusal> {
         let answer = Second.ask(set, question);
+        let turned =
+            question.method > 1 && matches!(answer, Ok(_) | Err(Refusal::Bare { number: 22 }));
         match (self.0, answer) {
+            (Fault::LaterForward, _) if turned => turned_by(set, question, |since, _| since.abs()),
+            (Fault::SameTime, _) if turned => turned_by(set, question, |_, first| first),
+            (Fault::TenTimes, _) if turned => turned_by(set, question, |since, _| 10 * since),
+            (Fault::RoundedPerMap, Ok(right)) if question.method == 2 => {
+                Ok(rounded_per_map(set, question).unwrap_or(right))
+            }
+            (Fault::TurnsLate, Err(Refusal::Bare { number: 24 })) if !in_time(set, question) => {
+                Err(Refusal::Bare { number: 20 })
+            }
+            (Fault::GapAround, Err(Refusal::Bare { number: 24 })) if in_time(set, question) => {
+                Second.ask(&around(set, question.second), question)
+            }
             (Fault::Value, Ok(Answer::ThousandthsOfTecu(value))) => {
                 Ok(Answer::ThousandthsOfTecu(value + 1))
             }
@@ -478,6 +508,79 @@ fn with_column_before(set: &MapSet) -> MapSet {
     changed
 }
 
+fn in_time(set: &MapSet, question: &Question) -> bool {
+    (set.header.first_epoch..=set.header.last_epoch).contains(&question.second)
+}
+
+/// The set cut to the map that is in force at a second, and the next.
+fn around(set: &MapSet, second: u64) -> MapSet {
+    let grid = set.grid();
+    let epochs = &set.areas.epochs[..grid.maps];
+    let map = epochs.iter().rposition(|&t| t <= second).unwrap_or(0);
+    let end = (map + 2).min(grid.maps);
+    let kept = end - map;
+    let (values, blocks) = (grid.values(), grid.blocks());
+    let mut cut = set.clone();
+    let areas = &mut cut.areas;
+    for area in [&mut areas.tec, &mut areas.rms, &mut areas.height] {
+        *area = area.get(map * values..end * values).unwrap_or(&[]).to_vec();
+    }
+    areas.exponents = (0..3)
+        .flat_map(|kind| {
+            let start = (kind * grid.maps + map) * blocks;
+            set.areas.exponents[start..start + kept * blocks].to_vec()
+        })
+        .collect();
+    areas.epochs = epochs[map..end].to_vec();
+    areas.marks = set.areas.marks[map..end].to_vec();
+    cut.header.maps = kept as i64;
+    cut.header.first_epoch = areas.epochs[0];
+    cut.header.last_epoch = areas.epochs[kept - 1];
+    cut
+}
+
+/// The answer where each map is moved by another number of seconds: made of those since its epoch, and of those since
+/// the first epoch used.
+fn turned_by(
+    set: &MapSet,
+    question: &Question,
+    seconds: fn(i128, i128) -> i128,
+) -> Result<Answer, Refusal> {
+    let epochs = &set.areas.epochs[..set.grid().maps];
+    let first = epochs[oracle::maps(epochs, question)[0].0];
+    let since = |epoch: u64| i128::from(question.second) - i128::from(epoch);
+    let asked = 12 * i128::from(question.longitude);
+    let moved = |_: &Question, epoch: u64| asked + 5 * seconds(since(epoch), since(first));
+    match oracle::answer(set, question, &moved) {
+        Ok(value) => Ok(in_unit(question, rounded(value.sum, value.all))),
+        Err(number) => Err(Refusal::Bare { number }),
+    }
+}
+
+/// Formula (3) with the value of each map rounded first.
+fn rounded_per_map(set: &MapSet, question: &Question) -> Option<Answer> {
+    let epochs = &set.areas.epochs[..set.grid().maps];
+    let (mut sum, mut all) = (0, 0);
+    for (map, shares) in oracle::maps(epochs, question) {
+        let at = oracle::longitude_at(question, epochs[map]);
+        let value = oracle::of_map(set, question, map, at).ok()?;
+        sum += shares * rounded(value.sum, value.all);
+        all += shares;
+    }
+    Some(in_unit(question, rounded(sum, all)))
+}
+
+fn rounded(sum: i128, all: i128) -> i128 {
+    (2 * sum.abs() + all) / (2 * all) * sum.signum()
+}
+
+fn in_unit(question: &Question, value: i128) -> Answer {
+    match question.kind {
+        2 => Answer::ThousandthsOfKilometre(value as i64),
+        _ => Answer::ThousandthsOfTecu(value as i64),
+    }
+}
+
 fn rounded_twice(set: &MapSet, question: &Question) -> Option<Answer> {
     if question.method != 1 {
         return None;
@@ -495,8 +598,8 @@ fn rounded_twice(set: &MapSet, question: &Question) -> Option<Answer> {
             _ => None,
         }
     };
-    let sum = at(from)? * (to - question.second) as i64 + at(to)? * (question.second - from) as i64;
-    let all = (to - from) as i64;
-    let size = (2 * sum.abs() + all) / (2 * all);
-    Some(Answer::ThousandthsOfTecu(size * sum.signum()))
+    let (before, after) = (to - question.second, question.second - from);
+    let sum = at(from)? * before as i64 + at(to)? * after as i64;
+    let value = rounded(i128::from(sum), i128::from(to - from));
+    Some(Answer::ThousandthsOfTecu(value as i64))
 }

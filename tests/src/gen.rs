@@ -40,32 +40,57 @@ fn sizes(rng: &mut Rng) -> [i64; 4] {
 }
 
 /// Columns that go round the Earth, with a strip from the last to the first or with LON1 a second time at LON1 + 360.0,
-/// and some that nearly do; in tenths.
-const ROUND: [Axis; 12] = [
-    round(0, 3575, 25),
-    round(0, 3550, 50),
-    round(-1800, 1750, 50),
-    round(0, 3450, 150),
-    round(-1800, 1650, 150),
-    round(0, 3600, 50),
-    round(0, 3600, 150),
-    round(-1800, 1800, 150),
-    round(0, 3550, 25),
-    round(0, 3500, 50),
-    round(0, 3300, 150),
-    round(-1650, 1650, 150),
+/// in tenths; these may turn with the Sun.
+const ROUND: [Axis; 6] = [
+    columns(0, 3575, 25),
+    columns(0, 3550, 50),
+    columns(-1800, 1750, 50),
+    columns(0, 3550, 50),
+    columns(0, 3600, 50),
+    columns(-1800, 1800, 50),
 ];
 
-const fn round(first: i64, last: i64, step: i64) -> Axis {
+/// Those with steps of more than 5.0.
+const COARSE: [Axis; 6] = [
+    columns(0, 3540, 60),
+    columns(0, 3600, 60),
+    columns(0, 3450, 150),
+    columns(-1800, 1650, 150),
+    columns(0, 3600, 150),
+    columns(-1800, 1800, 150),
+];
+
+/// Columns that nearly go round.
+const NEARLY: [Axis; 6] = [
+    columns(0, 3550, 25),
+    columns(0, 3500, 50),
+    columns(50, 3550, 50),
+    columns(0, 3575, 55),
+    columns(0, 3300, 150),
+    columns(-1650, 1650, 150),
+];
+
+const fn columns(first: i64, last: i64, step: i64) -> Axis {
     Axis { first, last, step }
 }
 
 /// The columns and all sizes.
 fn columns_and_sizes(rng: &mut Rng) -> (Axis, [i64; 4]) {
     if rng.once_in(4) {
-        let axis = rng.pick(&ROUND);
-        let [maps, layers, rows] =
-            rng.pick(&[[1, 1, 2], [2, 1, 1], [2, 1, 2], [3, 1, 1], [2, 2, 1]]);
+        let axis = match rng.below(5) {
+            0 => rng.pick(&COARSE),
+            1 => rng.pick(&NEARLY),
+            _ => rng.pick(&ROUND),
+        };
+        let some = [
+            [1, 1, 2],
+            [2, 1, 1],
+            [2, 1, 2],
+            [3, 1, 1],
+            [2, 2, 1],
+            [4, 1, 1],
+        ];
+        let [maps, layers, rows] = rng.pick(&some);
         return (axis, [maps, layers, rows, axis.count()]);
     }
     let sizes = sizes(rng);
@@ -250,6 +275,7 @@ fn areas(rng: &mut Rng, header: &Header) -> Buffers {
     };
     let style = rng.below(4);
     let common = rng.range(-3, 0) as i32;
+    let full = rng.once_in(2);
     for kind in 0..3u8 {
         let some = kind == 0 || areas.marks.iter().any(|m| m & kind != 0);
         for map in 0..grid.maps {
@@ -269,7 +295,7 @@ fn areas(rng: &mut Rng, header: &Header) -> Buffers {
                     _ => &mut areas.height,
                 };
                 for _ in 0..grid.values() {
-                    values.push(if present { value(rng) } else { 9999 });
+                    values.push(if present { value(rng, full) } else { 9999 });
                 }
             }
         }
@@ -291,10 +317,12 @@ fn marks(rng: &mut Rng, maps: usize) -> Vec<u8> {
         .collect()
 }
 
-fn value(rng: &mut Rng) -> i32 {
+/// A value; in a full set it is no 9999.
+fn value(rng: &mut Rng, full: bool) -> i32 {
     match rng.below(12) {
         0 => rng.pick(&[-9999, -9998, 99_999, 99_998, 9998, 10_000, 0, 1, -1]),
-        1 => 9999,
+        1 if !full => 9999,
+        1 => 9998,
         2 => rng.range(-9999, 99_999) as i32,
         3 => rng.range(-20, 20) as i32,
         _ => rng.range(0, 1500) as i32,
@@ -303,14 +331,19 @@ fn value(rng: &mut Rng) -> i32 {
 
 /// Epochs by INTERVAL or free, at the ends of the calendar at times.
 fn with_epochs(rng: &mut Rng, mut header: Header, texts: Texts, mut areas: Buffers) -> MapSet {
+    // Columns that go round get gaps at which maps turn with the Sun, or just not.
+    let longest = match header.longitudes.goes_round() {
+        true => rng.pick(&[7200, 7200, 7200, 7201, 21_600]),
+        false => 21_600,
+    };
     header.interval = match rng.below(4) {
         0 | 1 => 0,
-        2 => rng.pick(&[1, 900, 3600, 7200, 21_600]),
-        _ => rng.range(1, 21_600),
+        2 => rng.pick(&[1, 900, 3600, 7200, longest]),
+        _ => rng.range(1, longest),
     };
     let gaps: Vec<u64> = (1..header.maps)
         .map(|_| match header.interval {
-            0 => edged(rng, 1, 21_600) as u64,
+            0 => edged(rng, 1, longest) as u64,
             gap => gap as u64,
         })
         .collect();

@@ -1,9 +1,15 @@
 //! What an answer to a question must fulfil, by another way than the second
-//! program's: weights as hat functions over all nodes, and the rounding tested
-//! rather than done.
+//! program's: weights as hat functions over all nodes in whole units of 1/1200 of
+//! a degree, and the rounding tested rather than done.
 
 use crate::set::MapSet;
 use second::{Answer, Axis, Question, Refusal};
+
+/// Longitudes are in 1/1200 of a degree: so many in a tenth, a hundredth, the way of the Sun in a second, and a turn.
+const TENTH: i128 = 120;
+const HUNDREDTH: i128 = 12;
+const SECOND: i128 = 5;
+const TURN: i128 = 432_000;
 
 /// Says what is wrong with the answer about a valid set, if anything is.
 pub fn wrong(
@@ -13,32 +19,37 @@ pub fn wrong(
 ) -> Option<String> {
     let expected = expect(set, question);
     let right = match (&expected, answer) {
-        (Expected::Refused(number), Err(refusal)) => refusal.number() == *number,
-        (Expected::Tecu(fraction), Ok(Answer::ThousandthsOfTecu(value))) => fraction.rounds(*value),
-        (Expected::Km(fraction), Ok(Answer::ThousandthsOfKilometre(value))) => {
-            fraction.rounds(*value)
+        (Err(number), Err(refusal)) => refusal.number() == *number,
+        (Ok(value), Ok(Answer::ThousandthsOfTecu(found))) => {
+            question.kind != 2 && value.rounds(*found)
+        }
+        (Ok(value), Ok(Answer::ThousandthsOfKilometre(found))) => {
+            question.kind == 2 && value.rounds(*found)
         }
         _ => false,
     };
     (!right).then(|| format!("{question:?}: {answer:?}, but {expected:?}"))
 }
 
-#[derive(Debug)]
-enum Expected {
-    Refused(u8),
-    Tecu(Fraction),
-    Km(Fraction),
-}
-
-#[derive(Debug)]
-struct Fraction {
-    sum: i128,
-    all: i128,
+/// A value that is not rounded, and the smallest and largest node that it needs.
+#[derive(Clone, Copy, Debug)]
+pub struct Value {
+    pub sum: i128,
+    pub all: i128,
     low: i128,
     high: i128,
 }
 
-impl Fraction {
+impl Value {
+    fn new(all: i128) -> Value {
+        Value {
+            sum: 0,
+            all,
+            low: i128::MAX,
+            high: i128::MIN,
+        }
+    }
+
     /// Nearest, halves away from zero, and between the smallest and largest node.
     fn rounds(&self, value: i64) -> bool {
         let value = i128::from(value);
@@ -46,84 +57,160 @@ impl Fraction {
         let near = off < self.all || (off == self.all && value.abs() * self.all > self.sum.abs());
         near && (self.low..=self.high).contains(&value)
     }
+
+    fn add(&mut self, part: &Value, shares: i128) {
+        self.sum += shares * part.sum;
+        self.low = self.low.min(part.low);
+        self.high = self.high.max(part.high);
+    }
 }
 
-fn expect(set: &MapSet, question: &Question) -> Expected {
+fn expect(set: &MapSet, question: &Question) -> Result<Value, u8> {
     // Before anything of the set is looked at: it may be no map set.
-    if !(0..3).contains(&question.kind) || !(0..2).contains(&question.method) {
-        return Expected::Refused(23);
+    if !(0..3).contains(&question.kind) || !(0..4).contains(&question.method) {
+        return Err(23);
     }
-    let header = &set.header;
+    if question.method > 1 && !turns(set) {
+        return Err(24);
+    }
+    answer(set, question, &longitude_at)
+}
+
+/// As many columns as a turn has steps, or one more; at most 5 degrees and two hours between neighbours.
+fn turns(set: &MapSet) -> bool {
+    let epochs = &set.areas.epochs[..set.grid().maps];
+    let neighbours = epochs.iter().zip(&epochs[1..]);
+    (strip(set) || closed(set))
+        && set.header.longitudes.step * 10 <= 500
+        && neighbours.into_iter().all(|(a, b)| a + 2 * 3600 >= *b)
+}
+
+/// Between the last column and the first there is one step too.
+fn strip(set: &MapSet) -> bool {
+    set.grid().columns as i64 * set.header.longitudes.step == 3600
+}
+
+fn closed(set: &MapSet) -> bool {
+    (set.grid().columns as i64 - 1) * set.header.longitudes.step == 3600
+}
+
+/// Where a map is asked, by its epoch.
+pub fn longitude_at(question: &Question, epoch: u64) -> i128 {
+    let asked = HUNDREDTH * i128::from(question.longitude);
+    match question.method {
+        0 | 1 => asked,
+        _ => asked + SECOND * (i128::from(question.second) - i128::from(epoch)),
+    }
+}
+
+/// The answer from refusal 20 on, each map asked where `longitude` says.
+pub fn answer(
+    set: &MapSet,
+    question: &Question,
+    longitude: &dyn Fn(&Question, u64) -> i128,
+) -> Result<Value, u8> {
     let grid = set.grid();
     let epochs = &set.areas.epochs[..grid.maps];
     let time = question.second;
     if epochs.iter().all(|&t| time < t) || epochs.iter().all(|&t| time > t) {
-        return Expected::Refused(20);
+        return Err(20);
     }
+    let maps = maps(epochs, question);
+    let values: Vec<(Result<Value, u8>, i128)> = maps
+        .iter()
+        .map(|&(map, shares)| {
+            let at = longitude(question, epochs[map]);
+            (of_map(set, question, map, at), shares)
+        })
+        .collect();
+    // 21 before 22, in whichever map.
+    let first = values.iter().filter_map(|(value, _)| value.err()).min();
+    if let Some(number) = first {
+        return Err(number);
+    }
+    let all: i128 = maps.iter().map(|(_, shares)| shares).sum();
+    let width = of_map_shares(set);
+    let mut value = Value::new(all * width);
+    for (part, shares) in &values {
+        value.add(part.as_ref().expect("a value"), *shares);
+    }
+    Ok(value)
+}
+
+/// The maps that are needed, with their shares.
+pub fn maps(epochs: &[u64], question: &Question) -> Vec<(usize, i128)> {
+    let time = question.second;
+    match question.method {
+        0 | 3 => vec![(nearest(epochs, time), 1)],
+        _ => in_time(epochs, time),
+    }
+}
+
+/// The value of one map, asked at a longitude.
+pub fn of_map(set: &MapSet, question: &Question, map: usize, at: i128) -> Result<Value, u8> {
+    let header = &set.header;
+    let grid = set.grid();
     let latitude = i128::from(question.latitude);
     let lat_ends = [header.latitudes.first * 10, header.latitudes.last * 10];
-    let mut longitude = i128::from(question.longitude) % 36_000;
-    while longitude < i128::from(header.longitudes.first * 10) {
-        longitude += 36_000;
+    let mut longitude = at % TURN;
+    while longitude < i128::from(header.longitudes.first) * TENTH {
+        longitude += TURN;
     }
-    while longitude >= i128::from(header.longitudes.first * 10) + 36_000 {
-        longitude -= 36_000;
+    while longitude >= i128::from(header.longitudes.first) * TENTH + TURN {
+        longitude -= TURN;
     }
-    // As many columns as a turn has steps: between the last and the first there is one step too.
-    let strip = grid.columns as i64 * header.longitudes.step == 3600;
     let inside = (0..grid.layers as i64).contains(&question.layer)
         && latitude >= i128::from(lat_ends[0].min(lat_ends[1]))
         && latitude <= i128::from(lat_ends[0].max(lat_ends[1]))
-        && (strip || longitude <= i128::from(header.longitudes.last * 10));
+        && (strip(set) || longitude <= i128::from(header.longitudes.last) * TENTH);
     if !inside {
-        return Expected::Refused(21);
+        return Err(21);
     }
-    let rows = hats(&header.latitudes, grid.rows, |line| (latitude - line).abs());
-    let columns = hats(&header.longitudes, grid.columns, |line| {
+    let rows = hats(&header.latitudes, 10, grid.rows, |line| {
+        (latitude - line).abs()
+    });
+    let columns = hats(&header.longitudes, TENTH, grid.columns, |line| {
         let apart = (longitude - line).abs();
-        if strip {
-            apart.min(36_000 - apart)
+        if strip(set) {
+            apart.min(TURN - apart)
         } else {
             apart
         }
     });
-    let (maps, time_all) = if question.method == 0 {
-        (vec![(nearest(epochs, time), 1)], 1)
-    } else {
-        in_time(epochs, time)
-    };
-    let width = |step: i64| i128::from(step.abs() * 10);
-    let mut fraction = Fraction {
-        sum: 0,
-        all: time_all * width(header.latitudes.step) * width(header.longitudes.step),
-        low: i128::MAX,
-        high: i128::MIN,
-    };
-    for &(map, a) in &maps {
-        for &(row, b) in &rows {
-            for &(column, c) in &columns {
-                let Some(node) = node(set, question, map, row, column) else {
-                    return Expected::Refused(22);
-                };
-                fraction.sum += a * b * c * node;
-                fraction.low = fraction.low.min(node);
-                fraction.high = fraction.high.max(node);
-            }
+    let mut value = Value::new(of_map_shares(set));
+    for &(row, b) in &rows {
+        for &(column, c) in &columns {
+            let node = node(set, question, map, row, column).ok_or(22)?;
+            let node = Value {
+                sum: node,
+                all: 1,
+                low: node,
+                high: node,
+            };
+            value.add(&node, b * c);
         }
     }
-    if question.kind == 2 {
-        Expected::Km(fraction)
-    } else {
-        Expected::Tecu(fraction)
-    }
+    Ok(value)
 }
 
-/// Every grid line with a weight, as shares of the step, by how far the place is from it.
-fn hats(axis: &Axis, count: usize, distance: impl Fn(i128) -> i128) -> Vec<(usize, i128)> {
-    let width = i128::from(axis.step.abs() * 10);
+/// The shares of all nodes of one map together.
+fn of_map_shares(set: &MapSet) -> i128 {
+    let step = |axis: &Axis| i128::from(axis.step.abs());
+    step(&set.header.latitudes) * 10 * step(&set.header.longitudes) * TENTH
+}
+
+/// Every grid line with a weight, as shares of the step, by how far the place is from it; `tenth` units are a tenth of a
+/// degree.
+fn hats(
+    axis: &Axis,
+    tenth: i128,
+    count: usize,
+    distance: impl Fn(i128) -> i128,
+) -> Vec<(usize, i128)> {
+    let width = i128::from(axis.step.abs()) * tenth;
     (0..count)
         .map(|k| {
-            let line = i128::from((axis.first + k as i64 * axis.step) * 10);
+            let line = i128::from(axis.first + k as i64 * axis.step) * tenth;
             (k, width - distance(line))
         })
         .filter(|&(_, shares)| shares > 0)
@@ -139,20 +226,17 @@ fn nearest(epochs: &[u64], time: u64) -> usize {
         .unwrap_or(0)
 }
 
-fn in_time(epochs: &[u64], time: u64) -> (Vec<(usize, i128)>, i128) {
+fn in_time(epochs: &[u64], time: u64) -> Vec<(usize, i128)> {
     if let Some(map) = epochs.iter().position(|&t| t == time) {
-        return (vec![(map, 1)], 1);
+        return vec![(map, 1)];
     }
     let after = epochs.iter().position(|&t| t > time).unwrap_or(0);
     let before = after - 1;
     let shares = |a: u64, b: u64| i128::from(a - b);
-    (
-        vec![
-            (before, shares(epochs[after], time)),
-            (after, shares(time, epochs[before])),
-        ],
-        shares(epochs[after], epochs[before]),
-    )
+    vec![
+        (before, shares(epochs[after], time)),
+        (after, shares(time, epochs[before])),
+    ]
 }
 
 fn node(set: &MapSet, question: &Question, map: usize, row: usize, column: usize) -> Option<i128> {

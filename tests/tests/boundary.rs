@@ -189,6 +189,23 @@ fn own_area_too_short_for_moving() {
     assert_eq!(moved, [9, 7_777, 7_777]);
 }
 
+/// Methods 0 and 1 serve the example, which does not go round, so that 2 and 3 are 24; every other number is 23.
+#[test]
+fn methods() {
+    let set = set();
+    let answers = |method| {
+        let asked = Asked {
+            method,
+            ..question(&set)
+        };
+        ask(&set, &asked)
+    };
+    assert_eq!([0, 1, 2, 3].map(answers), [0, 0, 24, 24]);
+    for method in [4, 5, 255, 256, 257, 1 << 32, (1 << 32) + 2, u64::MAX] {
+        assert_eq!(answers(method), 23, "{method}");
+    }
+}
+
 /// Each of the six areas: exactly the need and more will do, one less and none at all are 11, and nothing is written.
 #[test]
 fn lengths_of_the_six_areas() {

@@ -329,6 +329,83 @@ fn the_strip() {
     });
 }
 
+/// Document 02's third request: two maps two hours apart on the columns 0.0 to 355.0 by 5.0, the second 1000 above the
+/// first. Each is asked where the Sun has gone with it: halfway, 15 degrees on and 15 degrees back.
+#[test]
+fn maps_that_turn() {
+    let mut set = columns(0, 3550, 50);
+    let above = set.areas.tec.iter().map(|value| value + 1000);
+    set.areas.tec = set.areas.tec.iter().copied().chain(above).collect();
+    set.areas.exponents = vec![-3, -3, -3, -3, -1, -1, -1, -1, -1, -1, -1, -1];
+    set.areas.epochs = vec![START, START + 7200];
+    set.areas.marks = vec![0, 0];
+    set.header.maps = 2;
+    set.header.last_epoch = START + 7200;
+    each(|library| {
+        let ask = |longitude, second, method| {
+            let question = question(500, longitude, second, method);
+            library.ask(&set, &question)
+        };
+        // At 40.0 and 10.0: 180 and 1120.
+        assert_eq!(ask(2_500, 3_600, 2), tecu(650));
+        // At 27.5 and in the strip, at 357.5: 155 and 1455.
+        assert_eq!(ask(1_250, 3_600, 2), tecu(805));
+        // 7.5 on and 22.5 back, at 17.5 and 347.5: 135 and 1795, with weights 3/4 and 1/4.
+        assert_eq!(ask(1_000, 1_800, 2), tecu(550));
+        // The earlier map alone, at 25.0.
+        assert_eq!(ask(1_000, 3_600, 3), tecu(150));
+        // As methods 1 and 0 at an epoch.
+        for longitude in [0, 2_500, 35_750] {
+            for second in [0, 7_200, 7_201] {
+                assert_eq!(ask(longitude, second, 2), ask(longitude, second, 1));
+                assert_eq!(ask(longitude, second, 3), ask(longitude, second, 0));
+            }
+        }
+    });
+}
+
+/// "24 when the grid does not go round, DLON is above 5.0, or two neighbouring epochs are more than 7,200 s apart"
+#[test]
+fn maps_that_do_not_turn() {
+    each(|library| {
+        let ask = |set: &MapSet, second, method| {
+            let question = question(500, 0, second, method);
+            library.ask(set, &question)
+        };
+        for (first, last, step, good) in [
+            (0, 3550, 50, true),
+            (-1800, 1800, 50, true),
+            (0, 3500, 50, false),
+            (0, 3540, 60, false),
+            (0, 3600, 60, false),
+            (0, 3575, 55, false),
+        ] {
+            let set = columns(first, last, step);
+            for method in [2, 3] {
+                let expected = if good { ask(&set, 0, 1) } else { no(24) };
+                assert_eq!(ask(&set, 0, method), expected);
+                // 24 before 20.
+                let expected = if good { no(20) } else { no(24) };
+                assert_eq!(ask(&set, 1, method), expected);
+            }
+        }
+        for (gap, good) in [(7_200, true), (7_201, false)] {
+            let mut set = columns(0, 3550, 50);
+            set.areas.tec.extend_from_within(..);
+            set.areas.exponents = vec![-1; 12];
+            set.areas.epochs = vec![START, START + gap];
+            set.areas.marks = vec![0, 0];
+            set.header.maps = 2;
+            set.header.last_epoch = START + gap;
+            for method in [2, 3] {
+                let expected = if good { tecu(10_000) } else { no(24) };
+                assert_eq!(ask(&set, 0, method), expected);
+            }
+            assert_eq!(ask(&set, 0, 1), tecu(10_000));
+        }
+    });
+}
+
 /// The figures of interpolation that are proved, run as well.
 #[test]
 fn corners_and_halves() {

@@ -15,6 +15,7 @@ use Rattle.mapset.specs.declared.Texts.{Texts}
 use Rattle.cells.specs.Place.{InCell100}
 use Rattle.spans.specs.Time.{Uses}
 use Rattle.nodes.specs.Value.{kind-of}
+use Rattle.asker.specs.Sun.{in-time, Cells, Serves}
 use Rattle.sums.specs.Mean.{Term, Valued, Mean, spread, terms}
 use Rattle.cells.specs.declared.Cell.{Cell}
 use Rattle.spans.specs.declared.Shares.{Shares}
@@ -58,9 +59,17 @@ pub data Guard (P : Type 0) (n : ℕ) (R : Told → Type 0) : Told → Type 0 wh
   stop : ¬ P → Guard P n R (refused n)
   go : {a : Told} → P → R a → Guard P n R a
 
--- kind 0 TEC, 1 RMS, 2 height; method 0 nearest, 1 formula (2)
+-- kind 0 TEC, 1 RMS, 2 height; method 0 nearest, 1 formula (2), 2 formula (3), 3 nearest and moved
 abbrev pub Known : Question → Type 0
-Known q = (q .kind < 3) × (q .method < 2)
+Known q = (q .kind < 3) × (q .method < 4)
+
+-- the epochs of the maps
+abbrev pub epochs : Question → List ℕ
+epochs q = take (q .header .times .maps) (q .areas .epochs)
+
+-- the maps can be turned where the method asks for it
+abbrev pub Served : Question → Type 0
+Served q = Serves (q .method) (q .header .grid .longitudes) (epochs q)
 
 -- from the first epoch to the last
 abbrev pub InTime : Question → Type 0
@@ -75,11 +84,10 @@ pub record Inside (q : Question) : Type 0 where
 -- the nodes with their weights; each map has a cell of its own
 pub record Weighs (q : Question) (ns : List Weighed) : Type 0 where
   pub shares : Shares
-  pub uses : Uses (take (q .header .times .maps) (q .areas .epochs)) (q .second) (q .method) shares
+  pub uses : Uses (epochs q) (q .second) (in-time (q .method)) shares
   pub first : Cell
   pub second : Cell
-  pub first-in : InCell100 (q .header .grid) (q .lat) (q .lon) first
-  pub second-in : InCell100 (q .header .grid) (q .lat) (q .lon) second
+  pub cells : Cells (q .method) (q .header .grid) (q .lat) (q .lon) (q .second) (epochs q) shares first second
   pub nodes : ns ≡ spread shares first second
 
 -- the values of a kind
@@ -116,15 +124,17 @@ abbrev pub Answers : Question → Told → Type 0
 Answers q =
     Guard (Known q) 23
     (Guard (Sound (q .header) (q .texts) (q .areas)) 31
+    (Guard (Served q) 24
     (Guard (InTime q) 20
     (Guard (Inside q) 21
-    (Blended q))))
+    (Blended q)))))
 
 -- ---- what the code's answer tells
 -- 01's number of each reason, and the answer's value
 abbrev pub number : Why → ℕ
 number W.Unknown = 23
 number W.Unsound = 31
+number W.Unserved = 24
 number W.OutOfTime = 20
 number W.OutOfPlace = 21
 number W.NoValue = 22

@@ -1,10 +1,10 @@
 -- At a map's epoch the answer is that map's alone, whatever the method; and at a node of it, the node's own value.
 use mathlib.Core.Path.{_≡_, refl, sym, ap, ap₂, _∙_}
-use mathlib.Core.Logic.{inl, inr, ⊎-elim}
+use mathlib.Core.Logic.{_⊎_, inl, inr, ⊎-elim}
 use mathlib.Core.List.{List, [], _∷_, _++_}
 use mathlib.Core.Option.{Option, none, some}
 use Prim.Native.Nat.{ℕ, zero, suc, _+_, _-_, _*_, _≤_, _<_}
-use native.Mathlib.Nat.{mul-le-mul-left, mul-pos, lt-of-not-le, mul-zero}
+use native.Mathlib.Nat.{mul-le-mul-left, mul-pos, mul-sub, lt-of-not-le, mul-zero}
 use native.Mathlib.Decide.{decLe, decLt}
 use native.Mathlib.Omega.{arith}
 use lib.IntN.{ℤ, pos, natAbs, _+ℤ_, _-ℤ_, _*ℤ_, +ℤ-idr, +ℤ-invr, zero-*ℤ}
@@ -12,19 +12,22 @@ use lib.ListN.{length}
 use Rattle.kit.specs.Answer.{All}
 use Rattle.kit.specs.Parts.{add-parts, sub-parts2, scale-up, scale-dn, eq-parts, abs-scale}
 use Rattle.mapset.specs.Areas.{Sound}
+use Rattle.mapset.specs.declared.Grid.{Grid}
 use Rattle.mapset.specs.declared.Kind.{Kind}
 use Rattle.rounding.specs.Round.{apart, Nearest, rounded}
 use Rattle.rounding.specs.RoundLaws.{round-nearest, nearest-unique}
+use Rattle.cells.specs.Place.{InCell100}
+use Rattle.cells.specs.EarthLaws.{finer, finer-in}
 use Rattle.spans.specs.Time.{epoch, NearestMap, shared, Uses, nearest, between, last}
 use Rattle.spans.specs.Spans.{Regular}
-use Rattle.spans.specs.TimeLaws.{uses-once, nearest-last, nearest-early}
+use Rattle.spans.specs.TimeLaws.{nearest-last, nearest-early}
 use Rattle.nodes.specs.Value.{kind-of, value}
 use Rattle.sums.specs.Mean.{corner, corners, spread, Term, terms, Valued, or-zero, weighted, weight}
-use Rattle.asker.specs.Ask.{Question, Told, in-unit, in-told, Guard, stop, go, Known, InTime, Inside, area, shape, asked, Rounded, Blended, Answers}
-use Rattle.asker.specs.AskLaws.{epochs, steady, has-weight}
-use Rattle.asker.specs.Once.{mean-once, weighs-is}
+use Rattle.asker.specs.Ask.{Question, Told, refused, in-unit, in-told, Guard, stop, go, Known, epochs, Served, InTime, Inside, Weighs, area, shape, asked, Rounded, Blended, Answers}
+use Rattle.asker.specs.Sun.{in-time, moved, CellAt}
+use Rattle.asker.specs.AskLaws.{in-time-small, steady}
+use Rattle.asker.specs.Once.{mean-once, weighs-once, weighs-weight}
 use Rattle.cells.specs.declared.Cell.{Cell}
-use Rattle.spans.specs.declared.Shares.{Shares}
 use Rattle.nodes.specs.declared.Weighed.{Weighed}
 
 -- ---- a map's epoch is the second: its share is all
@@ -158,15 +161,17 @@ unfolding terms
 terms-append q [] m = refl
 terms-append q (n ∷ l) m = ap (λ (ts : List Term). (n .weight, own q n) ∷ ts) (terms-append q l m)
 
-heavier : (q : Question) (g i : ℕ) (c : Cell) → asked q (corners g i c) ≡ times g (asked q (corners 1 i c))
+-- a share g and units k times as fine make every weight g·k times as large
+heavier : (q : Question) (g k i : ℕ) (c : Cell) → asked q (corners g i (finer k c)) ≡ times (g * k) (asked q (corners 1 i c))
 unfolding corners terms value
-heavier q g i c =
-    let e : (x : ℕ) → g * x ≡ g * (1 * x) = λ x. omega arith in
+heavier q g k i c =
+    let e : (x y : ℕ) → g * (x * (k * y)) ≡ g * k * (1 * (x * y)) = λ x y. omega arith in
+    let f : (x : ℕ) → g * (x * (k * c .wide - k * c .across)) ≡ g * k * (1 * (x * (c .wide - c .across))) = λ x. ap (λ (y : ℕ). g * (x * y)) (sym (mul-sub k (c .wide) (c .across))) ∙ e x (c .wide - c .across) in
     λ j.
-    (e ((c .tall - c .down) * (c .wide - c .across)) j, own q (corner 1 i (c .row) (c .column)))
-    ∷ (e ((c .tall - c .down) * c .across) j, own q (corner 1 i (c .row) (c .right)))
-    ∷ (e (c .down * (c .wide - c .across)) j, own q (corner 1 i (c .row + 1) (c .column)))
-    ∷ (e (c .down * c .across) j, own q (corner 1 i (c .row + 1) (c .right)))
+    (f (c .tall - c .down) j, own q (corner 1 i (c .row) (c .column)))
+    ∷ (e (c .tall - c .down) (c .across) j, own q (corner 1 i (c .row) (c .right)))
+    ∷ (f (c .down) j, own q (corner 1 i (c .row + 1) (c .column)))
+    ∷ (e (c .down) (c .across) j, own q (corner 1 i (c .row + 1) (c .right)))
     ∷ []
 
 shareless : (q : Question) (m : ℕ) (c : Cell) → Weightless (asked q (corners 0 m c))
@@ -181,16 +186,45 @@ passed p (go x r) = r
 abbrev pub Alone : Question → ℕ → Cell → Told → Type 0
 Alone q i c = Guard (Valued (asked q (corners 1 i c))) 22 (Rounded (kind-of (q .kind)) (asked q (corners 1 i c)))
 
-module _ (q : Question) (known : Known q) (sound : Sound (q .header) (q .texts) (q .areas)) (time : InTime q) (inside : Inside q) (i : ℕ) (there : i < length (epochs q)) (now : epoch (epochs q) i ≡ q .second) where
+-- ---- at its own epoch a map is not moved
+unmoved : (lon : ℤ) (t : ℕ) → moved lon t t ≡ pos 12 *ℤ lon
+unmoved lon t =
+    let z : ℤ = pos t -ℤ pos t in
+    eq-parts (moved lon t t) (pos 12 *ℤ lon) (omega (arith, add-parts (pos 12 *ℤ lon) (pos 5 *ℤ z), scale-up 5 z, scale-dn 5 z, sub-parts2 (pos t) (pos t)))
+
+same-cell : (c : Cell) → finer 1 c ≡ c
+same-cell c =
+    let e : (x : ℕ) → 1 * x ≡ x = λ x. omega arith in
+    λ j. record { row = c .row; down = c .down; tall = c .tall; column = c .column; right = c .right; across = e (c .across) j; wide = e (c .wide) j }
+
+-- its cell is the place's, in the method's units
+cell-here : (m : ℕ) (g : Grid) (lat lon : ℤ) (t : ℕ) (c : Cell) → InCell100 g lat lon c → (k : ℕ) × ((0 < k) × CellAt m g lat lon t t (finer k c))
+cell-here zero g lat lon t c i = (1, (omega arith, rw (same-cell c) i))
+cell-here (suc zero) g lat lon t c i = (1, (omega arith, rw (same-cell c) i))
+cell-here (suc (suc m)) g lat lon t c i = (12, (omega arith, rw (unmoved lon t) (finer-in g lat lon c i)))
+
+module _ (q : Question) (sound : Sound (q .header) (q .texts) (q .areas)) (served : Served q) (inside : Inside q) (i : ℕ) (there : i < length (epochs q)) (now : epoch (epochs q) i ≡ q .second) where
   abbrev c : Cell
   c = inside .cell
 
-  share : (g : ℕ) × ((1 ≤ g) × Uses (epochs q) (q .second) (q .method) (shared i g 0))
-  share = uses-at (epochs q) (steady q sound) (q .second) (q .method) i (known .1) there now
+  share : (g : ℕ) × ((1 ≤ g) × Uses (epochs q) (q .second) (in-time (q .method)) (shared i g 0))
+  share = uses-at (epochs q) (steady q sound) (q .second) (in-time (q .method)) i (in-time-small (q .method)) there now
 
-  parts : asked q (spread (shared i (share .0) 0) c c) ≡ times (share .0) (asked q (corners 1 i c)) ++ asked q (corners 0 (i + 1) c)
+  fine : (k : ℕ) × ((0 < k) × CellAt (q .method) (q .header .grid) (q .lat) (q .lon) (q .second) (q .second) (finer k c))
+  fine = cell-here (q .method) (q .header .grid) (q .lat) (q .lon) (q .second) c (inside .place)
+
+  abbrev d : Cell
+  d = finer (fine .0) c
+
+  abbrev g : ℕ
+  g = share .0 * fine .0
+
+  here : Weighs q (spread (shared i (share .0) 0) d d)
+  here = record { shares = shared i (share .0) 0; uses = share .1 .1; first = d; second = d; cells = record { first-in = rw now (fine .1 .1); second-in = inl (refl, refl) }; nodes = refl }
+
+  parts : asked q (spread (shared i (share .0) 0) d d) ≡ times g (asked q (corners 1 i c)) ++ asked q (corners 0 (i + 1) d)
   unfolding spread
-  parts = terms-append q (corners (share .0) i c) (corners 0 (i + 1) c) ∙ ap (λ (ts : List Term). ts ++ asked q (corners 0 (i + 1) c)) (heavier q (share .0) i c)
+  parts = terms-append q (corners (share .0) i d) (corners 0 (i + 1) d) ∙ ap (λ (ts : List Term). ts ++ asked q (corners 0 (i + 1) d)) (heavier q (share .0) (fine .0) i c)
 
   heavy : 0 < weight (asked q (corners 1 i c))
   heavy = by (decLt 0 (weight (asked q (corners 1 i c))))
@@ -199,16 +233,15 @@ module _ (q : Question) (known : Known q) (sound : Sound (q .header) (q .texts) 
       by (yes h) = h
       by (no h) =
           let z : weight (asked q (corners 1 i c)) ≡ 0 = omega arith in
-          let w : weight (asked q (spread (shared i (share .0) 0) c c)) ≡ share .0 * weight (asked q (corners 1 i c)) =
-          ap weight parts ∙ light-weight (times (share .0) (asked q (corners 1 i c))) (asked q (corners 0 (i + 1) c)) (shareless q (i + 1) c) ∙ times-weight (share .0) (asked q (corners 1 i c)) in
-          absurd (omega (arith, has-weight q sound known (inside .layer) c (inside .place) (shared i (share .0) 0) (share .1 .1), w, ap (λ (k : ℕ). share .0 * k) z))
+          let w : weight (asked q (spread (shared i (share .0) 0) d d)) ≡ g * weight (asked q (corners 1 i c)) =
+          ap weight parts ∙ light-weight (times g (asked q (corners 1 i c))) (asked q (corners 0 (i + 1) d)) (shareless q (i + 1) d) ∙ times-weight g (asked q (corners 1 i c)) in
+          absurd (omega (arith, weighs-weight q sound served (spread (shared i (share .0) 0) d d) here, w, ap (λ (k : ℕ). g * k) z))
 
   pub at-epoch : (a : Told) → Blended q a → Alone q i c a
-  at-epoch a (ns, (w, g)) =
-      let e : ns ≡ spread (shared i (share .0) 0) c c =
-      weighs-is q sound ns w c (inside .place) ∙ ap (λ (h : Shares). spread h c c) (uses-once (epochs q) (steady q sound) (q .second) (q .method) (w .uses) (share .1 .1)) in
-      let f : asked q ns ≡ times (share .0) (asked q (corners 1 i c)) ++ asked q (corners 0 (i + 1) c) = ap (asked q) e ∙ parts in
-      same-mean (kind-of (q .kind)) (share .0) (asked q (corners 1 i c)) (asked q (corners 0 (i + 1) c)) (share .1 .0) heavy (shareless q (i + 1) c) a (rw f at g)
+  at-epoch a (ns, (w, b)) =
+      let e : ns ≡ spread (shared i (share .0) 0) d d = weighs-once q sound ns (spread (shared i (share .0) 0) d d) w here in
+      let f : asked q ns ≡ times g (asked q (corners 1 i c)) ++ asked q (corners 0 (i + 1) d) = ap (asked q) e ∙ parts in
+      same-mean (kind-of (q .kind)) g (asked q (corners 1 i c)) (asked q (corners 0 (i + 1) d)) (mul-pos (share .1 .0) (fine .1 .0)) heavy (shareless q (i + 1) d) a (rw f at b)
 
   -- at a node of the map, its own value
   alone-at-node : c .down ≡ 0 → c .across ≡ 0 → Alone q i c (in-told (kind-of (q .kind)) (own q (corner 1 i (c .row) (c .column))))
@@ -227,11 +260,11 @@ module _ (q : Question) (known : Known q) (sound : Sound (q .header) (q .texts) 
       positive : 0 < 1 * ((c .tall - c .down) * (c .wide - c .across)) + (1 * ((c .tall - c .down) * c .across) + (1 * (c .down * (c .wide - c .across)) + (1 * (c .down * c .across) + 0))) → 0 < 1 * ((c .tall - c .down) * (c .wide - c .across))
       positive h = omega (arith, ap (λ (k : ℕ). (c .tall - c .down) * k) e, ap (λ (k : ℕ). k * (c .wide - c .across)) d, ap (λ (k : ℕ). k * c .across) d)
 
-  pub at-node : (a : Told) → c .down ≡ 0 → c .across ≡ 0 → Answers q a → a ≡ in-told (kind-of (q .kind)) (own q (corner 1 i (c .row) (c .column)))
-  at-node a d e answer =
-      mean-once (kind-of (q .kind)) (asked q (corners 1 i c)) heavy a _ (at-epoch a (passed inside (passed time (passed sound (passed known answer))))) (alone-at-node d e)
+  pub at-node : Known q → InTime q → (a : Told) → c .down ≡ 0 → c .across ≡ 0 → Answers q a → a ≡ in-told (kind-of (q .kind)) (own q (corner 1 i (c .row) (c .column)))
+  at-node known time a d e answer =
+      mean-once (kind-of (q .kind)) (asked q (corners 1 i c)) heavy a _ (at-epoch a (passed inside (passed time (passed served (passed sound (passed known answer)))))) (alone-at-node d e)
 
--- ---- methods 0 and 1 agree at a map's epoch
+-- ---- the methods agree at a map's epoch
 abbrev pub by-method : ℕ → Question → Question
 by-method m q =
     record { header = q .header; texts = q .texts; areas = q .areas; kind = q .kind; method = m; layer = q .layer; lat = q .lat; lon = q .lon; second = q .second }
@@ -242,16 +275,37 @@ guards-agree f g u (stop n) (go q s) = absurd (n (g q))
 guards-agree f g u (go p r) (stop m) = absurd (m (f p))
 guards-agree f g u (go p r) (go q s) = u p r s
 
-pub methods-agree : (q : Question) (i : ℕ) → i < length (epochs q) → epoch (epochs q) i ≡ q .second → (a b : Told) → Answers (by-method 0 q) a → Answers (by-method 1 q) b → a ≡ b
-methods-agree q i there now a b =
-    guards-agree (λ k. (k .0, omega arith)) (λ k. (k .0, omega arith))
-    (λ known. guards-agree (λ s. s) (λ s. s)
-    (λ sound. guards-agree (λ t. t) (λ t. t)
-    (λ time. guards-agree (λ x. moved 1 x) (λ x. moved 0 x)
-    (λ inside r s. mean-once (kind-of (q .kind)) (asked q (corners 1 i (inside .cell)))
-    (heavy (by-method 0 q) (known .0, omega arith) sound time inside i there now) a b
-    (at-epoch (by-method 0 q) (known .0, omega arith) sound time inside i there now a r)
-    (at-epoch (by-method 1 q) (known .0, omega arith) sound time (moved 1 inside) i there now b s)))))
-  where
-    moved : (m : ℕ) {n : ℕ} → Inside (by-method n q) → Inside (by-method m q)
-    moved m x = record { layer = x .layer; cell = x .cell; place = x .place }
+-- 24 is not given
+spared : {P : Type 0} {R : Told → Type 0} {a : Told} → P ⊎ ¬ (a ≡ refused 24) → Guard P 24 R a → P × R a
+spared (inl p) g = (p, passed p g)
+spared (inr n) (stop m) = absurd (n refl)
+spared (inr n) (go p r) = (p, r)
+
+module _ (q : Question) (i : ℕ) (there : i < length (epochs q)) (now : epoch (epochs q) i ≡ q .second) where
+  agree : (m n : ℕ) → m < 4 → n < 4 → (a b : Told) → Served (by-method m q) ⊎ ¬ (a ≡ refused 24) → Served (by-method n q) ⊎ ¬ (b ≡ refused 24) → Answers (by-method m q) a → Answers (by-method n q) b → a ≡ b
+  agree m n h k a b u v =
+      guards-agree (λ x. (x .0, k)) (λ x. (x .0, h))
+      (λ known. guards-agree (λ s. s) (λ s. s)
+      (λ sound x y.
+      let f = spared u x in
+      let g = spared v y in
+      guards-agree (λ t. t) (λ t. t)
+      (λ time. guards-agree (λ z. other n z) (λ z. other m z)
+      (λ inside r s. mean-once (kind-of (q .kind)) (asked q (corners 1 i (inside .cell)))
+      (heavy (by-method m q) sound (f .0) inside i there now) a b
+      (at-epoch (by-method m q) sound (f .0) inside i there now a r)
+      (at-epoch (by-method n q) sound (g .0) (other n inside) i there now b s)))
+      (f .1) (g .1)))
+    where
+      other : (m : ℕ) {n : ℕ} → Inside (by-method n q) → Inside (by-method m q)
+      other m x = record { layer = x .layer; cell = x .cell; place = x .place }
+
+  pub methods-agree : (a b : Told) → Answers (by-method 0 q) a → Answers (by-method 1 q) b → a ≡ b
+  methods-agree a b = agree 0 1 (omega arith) (omega arith) a b (inl (inl (omega arith))) (inl (inl (omega arith)))
+
+  -- where 24 is not given, the maps that turn with the Sun give what those that stand still give, or the same refusal
+  pub sun-at-epoch : (a b : Told) → ¬ (a ≡ refused 24) → Answers (by-method 2 q) a → Answers (by-method 1 q) b → a ≡ b
+  sun-at-epoch a b n = agree 2 1 (omega arith) (omega arith) a b (inr n) (inl (inl (omega arith)))
+
+  pub nearest-sun-at-epoch : (a b : Told) → ¬ (a ≡ refused 24) → Answers (by-method 3 q) a → Answers (by-method 0 q) b → a ≡ b
+  nearest-sun-at-epoch a b n = agree 3 0 (omega arith) (omega arith) a b (inr n) (inl (inl (omega arith)))

@@ -17,8 +17,7 @@ use Rattle.rounding.specs.RoundLaws.{round-above, round-below, round-nearest, n
 use Rattle.nodes.specs.Value.{kind-of}
 use Rattle.sums.specs.Mean.{Term, IsSome, Valued, Mean, or-zero, weighted, weight}
 use Rattle.asker.specs.Ask.{Question, Told, tecu, km, refused, in-unit, stop, go, Weighs, asked, Answers}
-use Rattle.asker.specs.AskLaws.{has-weight}
-use Rattle.asker.specs.Once.{weighs-is, weighs-once}
+use Rattle.asker.specs.Once.{weighs-once, weighs-weight}
 use Rattle.nodes.specs.declared.Weighed.{Weighed}
 
 -- a needed node's value lies from lo to hi
@@ -79,12 +78,10 @@ pub between : (q : Question) (a : Told) (v : ℤ) → Answers q a → thousandth
 between q a v (stop n) e ns w lo hi b = absurd (none-some v e)
 between q a v (go known (stop n)) e ns w lo hi b = absurd (none-some v e)
 between q a v (go known (go sound (stop n))) e ns w lo hi b = absurd (none-some v e)
-between q a v (go known (go sound (go time (stop n)))) e ns w lo hi b = absurd (none-some v e)
-between q a v (go known (go sound (go time (go inside (ms, (x, stop n)))))) e ns w lo hi b = absurd (none-some v e)
-between q a v (go known (go sound (go time (go inside (ms, (x, go valued (u, (m, f)))))))) e ns w lo hi b =
-    let c = inside .cell in
-    let i = inside .place in
-    let same : ms ≡ ns = weighs-once q sound ms ns x w c i in
-    let h : 0 < weight (asked q ms) = rw (weighs-is q sound ms x c i) (has-weight q sound known (inside .layer) c i (x .shares) (x .uses)) in
+between q a v (go known (go sound (go served (stop n)))) e ns w lo hi b = absurd (none-some v e)
+between q a v (go known (go sound (go served (go time (stop n))))) e ns w lo hi b = absurd (none-some v e)
+between q a v (go known (go sound (go served (go time (go inside (ms, (x, stop n))))))) e ns w lo hi b = absurd (none-some v e)
+between q a v (go known (go sound (go served (go time (go inside (ms, (x, go valued (u, (m, f))))))))) e ns w lo hi b =
+    let same : ms ≡ ns = weighs-once q sound ms ns x w in
     let uv : u ≡ v = some-once u v (sym (in-unit-of (kind-of (q .kind)) u) ∙ ap thousandths-of (sym f) ∙ e) in
-    rw uv at (mean-between lo hi (asked q ms) h valued (rw same b) u m)
+    rw uv at (mean-between lo hi (asked q ms) (weighs-weight q sound served ms x) valued (rw same b) u m)

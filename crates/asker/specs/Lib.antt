@@ -1,4 +1,6 @@
 -- The question and its answer.
+pub mod Sun
+pub mod Turned
 pub mod Ask
 pub mod MeanLaws
 pub mod ReachLaws
@@ -7,4 +9,6 @@ pub mod Once
 pub mod Between
 pub mod AtEpoch
 pub mod Strip
+pub mod WholeTurn
 pub mod Sample
+pub mod SunSample

@@ -1,9 +1,9 @@
 -- The needed nodes of a sound map set stand in its areas, and their weights come to the common denominator.
-use mathlib.Core.Path.{_≡_, ap₂, _∙_}
+use mathlib.Core.Path.{_≡_, sym, ap, ap₂, _∙_}
 use mathlib.Core.Logic.{_⊎_, inl, inr, ⊎-elim}
 use mathlib.Core.List.{List, [], _∷_, _++_}
 use Prim.Native.Nat.{ℕ, zero, suc, _+_, _-_, _*_, _≤_, _<_}
-use native.Mathlib.Nat.{mul-le-mul, mul-le-mul-right, mul-assoc, sub-add-cancel, mul-pos}
+use native.Mathlib.Nat.{mul-le-mul-right, mul-assoc, sub-add-cancel, mul-pos}
 use native.Mathlib.Omega.{arith}
 use lib.Arith.{digits-lt}
 use lib.IntN.{ℤ, pos, natAbs}
@@ -16,7 +16,7 @@ use Rattle.mapset.specs.Areas.{Present, Nowhere, nowhere?, blocks, values, Soun
 use Rattle.mapset.specs.declared.Kind.{Kind}
 use Rattle.mapset.specs.declared.Kind.the-variants.{Tec as tec, Rms as rms, Height as height}
 use Rattle.mapset.specs.SoundLaws.{header-groups, few-blocks, some-nodes}
-use Rattle.cells.specs.Place.{InCell100}
+use Rattle.cells.specs.Place.{InCell}
 use Rattle.nodes.specs.Value.{kind-of, block}
 use Rattle.sums.specs.Mean.{corners, spread, terms, weight}
 use Rattle.asker.specs.Ask.{Question, area, shape}
@@ -122,13 +122,13 @@ module _ (q : Question) (s : Sound (q .header) (q .texts) (q .areas)) where
   abbrev Needed : Weighed → Type 0
   Needed w = Reaches (area (kind-of (q .kind)) (q .areas)) (q .areas .exponents) (q .areas .marks) (shape q) w
 
-  module _ (k : q .kind < 3) (l : q .layer < L) (lat lon : ℤ) (c : Cell) (i : InCell100 (q .header .grid) lat lon c) where
+  module _ (unit : ℕ) (some : 0 < unit) (lat lon : ℤ) (c : Cell) (i : InCell unit (q .header .grid) lat lon c) where
     -- the needed nodes of a cell, of a map that is there or has no share
-    corners-reach : (t m : ℕ) → (t ≡ 0) ⊎ (m < n) → All Needed (corners t m c)
+    corners-reach : q .kind < 3 → q .layer < L → (t m : ℕ) → (t ≡ 0) ⊎ (m < n) → All Needed (corners t m c)
     unfolding corners
-    corners-reach t m (inl z) =
+    corners-reach k l t m (inl z) =
         (inl (rw z (omega arith)), (inl (rw z (omega arith)), (inl (rw z (omega arith)), (inl (rw z (omega arith)), tt))))
-    corners-reach t m (inr h) =
+    corners-reach k l t m (inr h) =
         let row = i .row .sits in
         let col = i .column .sits in
         let east : (c .across ≡ 0) ⊎ (c .right < C) = col .next in (
@@ -145,8 +145,8 @@ module _ (q : Question) (s : Sound (q .header) (q .texts) (q .areas)) where
     tall-small : (0 < c .tall) × (c .tall ≤ 1500)
     tall-small = let d = latitude-step q s in (omega (arith, i .tall), omega (arith, i .tall))
 
-    wide-small : (0 < c .wide) × (c .wide ≤ 1500)
-    wide-small = let d = longitude-step q s in (omega (arith, i .wide), omega (arith, i .wide))
+    wide-some : 0 < c .wide
+    wide-some = rw (i .wide) (mul-pos some (longitude-step q s .0))
 
     down-less : c .down ≤ c .tall
     down-less = omega (arith, i .tall, i .row .sits .less)
@@ -154,25 +154,31 @@ module _ (q : Question) (s : Sound (q .header) (q .texts) (q .areas)) where
     across-less : c .across ≤ c .wide
     across-less = omega (arith, i .wide, i .column .sits .less)
 
-    shared-cell : (t : ℕ) → t ≤ 21600 → Shared t c
-    shared-cell t h = record { small = h; tall = tall-small .1; wide = wide-small .1; down = down-less; across = across-less; row = omega (arith, i .row .sits .node, s .header .limits .0) }
+    shared-cell : (t : ℕ) → c .wide ≤ 6000 → t * (c .tall * c .wide) ≤ 64_800_000_000 → Shared t c
+    shared-cell t w h = record { tall = tall-small .1; wide = w; weights = h; down = down-less; across = across-less; row = omega (arith, i .row .sits .node, s .header .limits .0) }
 
+  -- two cells, those of the two maps
+  module _ (unit : ℕ) (some : 0 < unit) (lat lon east : ℤ) (c d : Cell) (i : InCell unit (q .header .grid) lat lon c) (j : InCell unit (q .header .grid) lat east d) where
     abbrev T : Shares → ℕ
-    T h = weight (terms (shape q) (area (kind-of (q .kind)) (q .areas)) (q .areas .exponents) (q .areas .marks) (spread h c c))
+    T h = weight (terms (shape q) (area (kind-of (q .kind)) (q .areas)) (q .areas .exponents) (q .areas .marks) (spread h c d))
+
+    same-size : d .tall * d .wide ≡ c .tall * c .wide
+    same-size = ap₂ _*_ (j .tall ∙ sym (i .tall)) (j .wide ∙ sym (i .wide))
 
     total : (h : Shares) → T h ≡ (h .early + h .late) * (c .tall * c .wide)
     total h =
-        spread-weight (shape q) (area (kind-of (q .kind)) (q .areas)) (q .areas .exponents) (q .areas .marks) h c c down-less across-less down-less across-less ∙ omega arith
+        spread-weight (shape q) (area (kind-of (q .kind)) (q .areas)) (q .areas .exponents) (q .areas .marks) h c d (down-less unit some lat lon c i) (across-less unit some lat lon c i) (down-less unit some lat east d j) (across-less unit some lat east d j)
+        ∙ ap (λ (x : ℕ). h .early * (c .tall * c .wide) + h .late * x) same-size ∙ omega arith
 
     pub some-weight : (h : Shares) → 1 ≤ h .early → 0 < T h
-    some-weight h e = rw (total h) (mul-pos (omega arith) (mul-pos (tall-small .0) (wide-small .0)))
+    some-weight h e = rw (total h) (mul-pos (omega arith) (mul-pos (tall-small unit some lat lon c i .0) (wide-some unit some lat lon c i)))
 
-    pub summable : (h : Shares) → h .early + h .late ≤ 21600 → h .map < n → (h .late ≡ 0) ⊎ (h .map + 1 < n) →
-        Summable (area (kind-of (q .kind)) (q .areas)) (q .areas .exponents) (q .areas .marks) (shape q) h c c
-    summable h e m o = record {
-      early = shared-cell (h .early) (omega arith);
-      late = shared-cell (h .late) (omega arith);
+    pub summable : q .kind < 3 → q .layer < L → (h : Shares) → c .wide ≤ 6000 → (h .early + h .late) * (c .tall * c .wide) ≤ 64_800_000_000 → h .map < n → (h .late ≡ 0) ⊎ (h .map + 1 < n) →
+        Summable (area (kind-of (q .kind)) (q .areas)) (q .areas .exponents) (q .areas .marks) (shape q) h c d
+    summable k l h w e m o = record {
+      early = shared-cell unit some lat lon c i (h .early) w (omega arith);
+      late = shared-cell unit some lat east d j (h .late) (omega (arith, i .wide, j .wide)) (rw same-size (omega arith));
       map = omega (arith, maps-range .1);
-      reaches = unfold spread in all-append Needed (corners (h .early) (h .map) c) (corners (h .late) (h .map + 1) c) (corners-reach (h .early) (h .map) (inr m)) (corners-reach (h .late) (h .map + 1) o);
-      weights = rw (total h) (omega (arith, mul-le-mul e (mul-le-mul (tall-small .1) (wide-small .1))));
+      reaches = unfold spread in all-append Needed (corners (h .early) (h .map) c) (corners (h .late) (h .map + 1) d) (corners-reach unit some lat lon c i k l (h .early) (h .map) (inr m)) (corners-reach unit some lat east d j k l (h .late) (h .map + 1) o);
+      weights = rw (total h) e;
     }

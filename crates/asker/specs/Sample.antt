@@ -2,7 +2,7 @@
 -- under exponent -1, halfway between the rows and the columns, give 25,000.
 use mathlib.Core.Path.{_≡_, refl}
 use mathlib.Core.Bool.{true, false}
-use mathlib.Core.Logic.{inr}
+use mathlib.Core.Logic.{inl, inr}
 use mathlib.Core.List.{[], _∷_}
 use Prim.Native.Nat.{ℕ}
 use native.Mathlib.Decide.{ℕ-discrete, decLe, decLt}
@@ -28,8 +28,8 @@ use Rattle.cells.specs.Place.{next, InCell100}
 use Rattle.spans.specs.Time.{alone, Uses, nearest}
 use Rattle.nodes.specs.Value.{is-value?, worth, value}
 use Rattle.sums.specs.Mean.{corners, spread, terms, weighted, weight, valued?, mean}
-use Rattle.asker.specs.Ask.{Question, question, tecu, refused, Answers}
-use Rattle.asker.specs.AskLaws.{epochs, answered}
+use Rattle.asker.specs.Ask.{Question, epochs, question, tecu, refused, Answers}
+use Rattle.asker.specs.AskLaws.{answered}
 use Rattle.asker.specs.Once.{answers-once}
 use Rattle.cells.specs.declared.Cell.{Cell}
 
@@ -87,7 +87,9 @@ uses = nearest 0 refl (record { map = omega arith; near = λ j h. omega arith; e
 
 pub sample-answer : Answers sample (tecu (pos 25000))
 unfolding sample header axis middle held rounded mean valued? weighted weight ⊎-dec all-dec terms spread corners value worth is-value? between? present? pick ×-dec ¬-dec dec-by le? int? ℕ-discrete
-sample-answer = answered sample sound (omega arith, omega arith) (omega arith) middle inside (alone 0) uses (omega arith, omega arith) (tecu (pos 25000)) refl
+sample-answer =
+    answered sample sound (inl (omega arith)) (alone 0) uses middle middle (record { first-in = inside; second-in = inl (refl, refl) })
+    (omega arith, omega arith) (omega arith, omega arith) (record { layer = omega arith; cell = middle; place = inside }) (tecu (pos 25000)) refl
 
 -- it is not refused
 pub not-refused : (n : ℕ) → ¬ Answers sample (refused n)

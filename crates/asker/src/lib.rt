@@ -4,7 +4,6 @@ ghost use Rattle.kit.specs.Range.{within?};
 ghost use Rattle.kit.specs.Truth.{truth};
 ghost use Rattle.mapset.specs.Areas.{six};
 ghost use Rattle.asker.specs.Ask.{layout, question, Answers, told};
-use cells::Found;
 use mapset::Header;
 use mapset::Texts;
 use mapset::Times;
@@ -12,13 +11,16 @@ use mapset::axes;
 pub use nodes::MilliKm;
 pub use nodes::MilliTecu;
 use nodes::Shape;
+use sun::Pair;
 
+mod sun;
 mod value;
 
-// Why there is no value: 23, 31, 20, 21 and 22 of document 01.
+// Why there is no value: 23, 31, 24, 20, 21 and 22.
 pub enum Why {
     Unknown,
     Unsound,
+    Unserved,
     OutOfTime,
     OutOfPlace,
     NoValue,
@@ -70,11 +72,15 @@ pub fn ask(
     if 3 <= kind {
         return Asked::Refused(Why::Unknown);
     }
-    if 2 <= method {
+    if 4 <= method {
         return Asked::Refused(Why::Unknown);
     }
     if !soundness::sound(header, texts, tec, rms, height, exponents, epochs, marks) {
         return Asked::Refused(Why::Unsound);
+    }
+    let maps = header.times.maps as usize;
+    if !sun::serves(header.grid.longitudes, method, &epochs[..maps]) {
+        return Asked::Refused(Why::Unserved);
     }
     if !in_time(header.times, second) {
         return Asked::Refused(Why::OutOfTime);
@@ -83,12 +89,19 @@ pub fn ask(
     if s.layers <= layer {
         return Asked::Refused(Why::OutOfPlace);
     }
-    match cells::cell_of(header.grid, lat, lon) {
-        Found::Outside => Asked::Refused(Why::OutOfPlace),
-        Found::In(cell) => {
-            let maps = header.times.maps as usize;
-            let shares = spans::shares_of(&epochs[..maps], second, method);
-            value::kind_value(shares, cell, cell, s, tec, rms, height, exponents, marks)
+    let shares = spans::shares_of(&epochs[..maps], second, sun::maps_by(method));
+    match sun::cells_at(
+        header.grid,
+        method,
+        lat,
+        lon,
+        second,
+        shares,
+        &epochs[..maps],
+    ) {
+        Pair::Outside => Asked::Refused(Why::OutOfPlace),
+        Pair::Of(first, other) => {
+            value::kind_value(shares, first, other, s, tec, rms, height, exponents, marks)
         }
     }
 }

@@ -78,13 +78,13 @@ module _ (a : Axis) (ok : AxisRules longitudes a) where
       let n : dn z ≡ 0 = ⊎-elim (λ o. o) (λ o. omega arith) (one-zero z) in
       omega (arith, spans, abs-parts z, sub-parts2 (a .last) (a .first), add-parts (a .first) (pos 3600), ap up h, ap dn h)
 
-  module _ (unit turn : ℕ) (some : 0 < unit) (full : turn ≡ unit * 3600) (lon : ℤ) where
+  module _ (unit : ℕ) (some : 0 < unit) (lon : ℤ) where
     -- where a longitude lies
     abbrev east : ℕ
-    east = turned-some (lon -ℤ (pos unit *ℤ a .first)) turn (omega arith) .0
+    east = turned-some (lon -ℤ (pos unit *ℤ a .first)) (unit * 3600) (omega arith) .0
 
-    abbrev brought : Turned turn (lon -ℤ (pos unit *ℤ a .first)) east
-    brought = turned-some (lon -ℤ (pos unit *ℤ a .first)) turn (omega arith) .1
+    abbrev brought : Turned (unit * 3600) (lon -ℤ (pos unit *ℤ a .first)) east
+    brought = turned-some (lon -ℤ (pos unit *ℤ a .first)) (unit * 3600) (omega arith) .1
 
     abbrev wide : ℕ
     wide = unit * s
@@ -99,7 +99,7 @@ module _ (a : Axis) (ok : AxisRules longitudes a) where
     below k e = div-lt-iff-lt-mul {x = east} {y = k} wide-some .1 (omega (arith, brought .below, ap (λ (x : ℕ). unit * x) e))
 
     -- every longitude is inside a grid that goes round
-    pub round-inside : GoesRound a → (i : ℕ) × ((r : ℕ) × ((part : ℕ) × InColumn unit turn a lon i r part))
+    pub round-inside : GoesRound a → (i : ℕ) × ((r : ℕ) × ((part : ℕ) × InColumn unit a lon i r part))
     round-inside g =
         let n : at < nodes a = ⊎-elim (λ h. below (nodes a) (strip-turn h)) (λ h. omega (arith, below (nodes a - 1) (closed-turn h))) g in
         let r = is-right a at in (
@@ -135,8 +135,8 @@ module _ (a : Axis) (ok : AxisRules longitudes a) where
         up-to : {j : ℕ} (n : ℕ) → j < n → j ≤ n - 1
         up-to n h = omega arith
 
-    module _ (x : ℕ) (b : Turned turn (lon -ℤ (pos unit *ℤ a .first)) x) where
-      reached : x ≤ reach → (i : ℕ) × ((r : ℕ) × ((part : ℕ) × InColumn unit turn a lon i r part))
+    module _ (x : ℕ) (b : Turned (unit * 3600) (lon -ℤ (pos unit *ℤ a .first)) x) where
+      reached : x ≤ reach → (i : ℕ) × ((r : ℕ) × ((part : ℕ) × InColumn unit a lon i r part))
       reached h =
           let steps : nodes a ≡ (nodes a - 1) + 1 = omega arith in
           let n : x / wide < nodes a = div-lt-iff-lt-mul {x = x} {y = nodes a} wide-some .1 (omega (arith, reach-is, wide-some, ap (λ (k : ℕ). wide * k) steps)) in
@@ -152,9 +152,9 @@ module _ (a : Axis) (ok : AxisRules longitudes a) where
           by (no z) (first p e) = inr (omega arith)
           by (no z) (next m) = inr (past z (decLe (nodes a - 1) (x / wide)))
 
-      pub inside-exactly : ((i : ℕ) × ((r : ℕ) × ((part : ℕ) × InColumn unit turn a lon i r part))) ↔ (Strip a ⊎ (x ≤ reach))
+      pub inside-exactly : ((i : ℕ) × ((r : ℕ) × ((part : ℕ) × InColumn unit a lon i r part))) ↔ (Strip a ⊎ (x ≤ reach))
       inside-exactly = (
-        (λ c. within (c .0) (c .1 .0) (c .1 .1 .0) x (c .1 .1 .1 .right) (rw (turned-once turn _ _ x (c .1 .1 .1 .from-first) b) at (c .1 .1 .1 .sits))),
+        (λ c. within (c .0) (c .1 .0) (c .1 .1 .0) x (c .1 .1 .1 .right) (rw (turned-once (unit * 3600) _ _ x (c .1 .1 .1 .from-first) b) at (c .1 .1 .1 .sits))),
         (λ h. ⊎-elim (λ p. round-inside (inl p)) reached h),
       )
 
@@ -169,11 +169,11 @@ plain-right a n i r (first p e) = absurd (n p)
 plain-right a n i r (next m) = refl
 
 -- a place on the first column's meridian takes that column, also where the last one stands there too
-pub meridian : (unit turn : ℕ) (a : Axis) (i r part : ℕ) → 0 < unit * natAbs (a .step) → InColumn unit turn a (pos unit *ℤ a .first) i r part → i ≡ 0
-meridian unit turn a i r part h c =
+pub meridian : (unit : ℕ) (a : Axis) (i r part : ℕ) → 0 < unit * natAbs (a .step) → InColumn unit a (pos unit *ℤ a .first) i r part → i ≡ 0
+meridian unit a i r part h c =
     let x : ℤ = pos unit *ℤ a .first in
-    let t : Turned turn (x -ℤ x) 0 = turned-by turn (x -ℤ x) 0 (pos 0) (omega (arith, c .from-first .below)) (omega (arith, sub-parts2 x x)) in
-    let e = turned-once turn (x -ℤ x) (c .east) 0 (c .from-first) t in
+    let t : Turned (unit * 3600) (x -ℤ x) 0 = turned-by (unit * 3600) (x -ℤ x) 0 (pos 0) (omega (arith, c .from-first .below)) (omega (arith, sub-parts2 x x)) in
+    let e = turned-once (unit * 3600) (x -ℤ x) (c .east) 0 (c .from-first) t in
     by (decLe i 0) (c .sits .place) e
   where
     by : Dec (i ≤ 0) → c .east ≡ unit * natAbs (a .step) * i + part → c .east ≡ 0 → i ≡ 0
@@ -199,16 +199,58 @@ turned-on turn x y k r e t =
       ap (λ (n : ℕ). turn * n) (add-parts (t .turns) k),
     ))
 
-pub whole-turns : (unit turn : ℕ) (g : Grid) (lat lon k : ℤ) (c : Cell) → InCell unit turn g lat lon c → InCell unit turn g lat (lon +ℤ pos turn *ℤ k) c
-whole-turns unit turn g lat lon k c i =
+pub whole-turns : (unit : ℕ) (g : Grid) (lat lon k : ℤ) (c : Cell) → InCell unit g lat lon c → InCell unit g lat (lon +ℤ pos (unit * 3600) *ℤ k) c
+whole-turns unit g lat lon k c i =
     let a = g .longitudes in
     let x : ℤ = lon -ℤ (pos unit *ℤ a .first) in
-    let y : ℤ = (lon +ℤ pos turn *ℤ k) -ℤ (pos unit *ℤ a .first) in
-    let e : y ≡ x +ℤ pos turn *ℤ k =
-    eq-parts y (x +ℤ pos turn *ℤ k) (omega (arith, add-parts x (pos turn *ℤ k), sub-parts2 lon (pos unit *ℤ a .first), sub-parts2 (lon +ℤ pos turn *ℤ k) (pos unit *ℤ a .first), add-parts lon (pos turn *ℤ k))) in
+    let y : ℤ = (lon +ℤ pos (unit * 3600) *ℤ k) -ℤ (pos unit *ℤ a .first) in
+    let e : y ≡ x +ℤ pos (unit * 3600) *ℤ k =
+    eq-parts y (x +ℤ pos (unit * 3600) *ℤ k) (omega (arith, add-parts x (pos (unit * 3600) *ℤ k), sub-parts2 lon (pos unit *ℤ a .first), sub-parts2 (lon +ℤ pos (unit * 3600) *ℤ k) (pos unit *ℤ a .first), add-parts lon (pos (unit * 3600) *ℤ k))) in
     record {
       row = i .row;
       tall = i .tall;
-      column = record { east = i .column .east; from-first = turned-on turn x y k (i .column .east) e (i .column .from-first); right = i .column .right; sits = i .column .sits };
+      column = record { east = i .column .east; from-first = turned-on (unit * 3600) x y k (i .column .east) e (i .column .from-first); right = i .column .right; sits = i .column .sits };
       wide = i .wide;
+    }
+
+-- ---- in units k times as fine
+abbrev pub finer : ℕ → Cell → Cell
+finer k c =
+    record { row = c .row; down = c .down; tall = c .tall; column = c .column; right = c .right; across = k * c .across; wide = k * c .wide }
+
+-- hundredths of a degree in 1/1200 of a degree
+pub finer-in : (g : Grid) (lat lon : ℤ) (c : Cell) → InCell 10 g lat lon c → InCell 120 g lat (pos 12 *ℤ lon) (finer 12 c)
+finer-in g lat lon c i =
+    let a = g .longitudes in
+    let f = i .column .from-first in
+    let e : ℕ = i .column .east in
+    let x : ℤ = lon -ℤ (pos 10 *ℤ a .first) in
+    let y : ℤ = pos 12 *ℤ lon -ℤ (pos 120 *ℤ a .first) in
+    let p = i .column .sits in
+    record {
+      row = i .row;
+      tall = i .tall;
+      column = record {
+        east = 12 * e;
+        from-first = turned-by (120 * 3600) y (12 * e) (f .turns) (omega (arith, f .below))
+            (omega (
+              arith,
+              ap up (f .whole),
+              ap dn (f .whole),
+              add-parts (pos e) (pos 36000 *ℤ f .turns),
+              scale-up 36000 (f .turns),
+              scale-dn 36000 (f .turns),
+              sub-parts2 lon (pos 10 *ℤ a .first),
+              scale-up 10 (a .first),
+              scale-dn 10 (a .first),
+              sub-parts2 (pos 12 *ℤ lon) (pos 120 *ℤ a .first),
+              scale-up 12 lon,
+              scale-dn 12 lon,
+              scale-up 120 (a .first),
+              scale-dn 120 (a .first),
+            ));
+        right = i .column .right;
+        sits = record { place = omega (arith, p .place); less = omega (arith, p .less); node = p .node; next = ⊎-elim (λ z. inl (omega (arith, z))) inr (p .next) };
+      };
+      wide = omega (arith, i .wide);
     }

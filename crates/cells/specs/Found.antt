@@ -4,11 +4,11 @@ use mathlib.Core.Bool.{Bool, true, false}
 use Prim.Native.Nat.{ℕ, _+_}
 use native.Mathlib.Decide.{ℕ-discrete}
 use lib.IntN.{ℤ, pos, _+ℤ_}
-use Rattle.kit.specs.Answer.{pick}
+use Rattle.kit.specs.Answer.{pick, ⊎-dec}
 use Rattle.kit.specs.Integer.{int?}
 use Rattle.mapset.specs.declared.Axis.{Axis}
 use Rattle.mapset.specs.declared.Grid.{Grid}
-use Rattle.cells.specs.Place.{Sits, along, InRow, Strip, InColumn, InCell100}
+use Rattle.cells.specs.Place.{Sits, along, InRow, Strip, Closed, GoesRound, InColumn, InCell}
 use Rattle.cells.specs.declared.Cell.{Cell}
 use Rattle.cells.specs.declared.Way.{Way}
 use Rattle.cells.specs.declared.Way.the-variants as W
@@ -26,6 +26,13 @@ IsWay x d W.Behind = (k : ℕ) → ¬ (x ≡ along d k)
 unfoldable pub strip? : (a : Axis) → Dec (Strip a)
 strip? a = int? (a .last +ℤ a .step) (a .first +ℤ pos 3600)
 
+-- whether the last column stands on the first one's meridian
+unfoldable pub closed? : (a : Axis) → Dec (Closed a)
+closed? a = int? (a .last) (a .first +ℤ pos 3600)
+
+unfoldable pub goes-round? : (a : Axis) → Dec (GoesRound a)
+goes-round? a = ⊎-dec (strip? a) (closed? a)
+
 -- the node after node i of n, where the first comes after the last or nothing does
 unfoldable pub after : Bool → ℕ → ℕ → ℕ
 after false n i = i + 1
@@ -39,10 +46,10 @@ abbrev pub RowFound : Axis → ℤ → Spot → Type 0
 RowFound a lat (S.At i j part) = InRow a lat i part
 RowFound a lat S.Outside = (i part : ℕ) → ¬ InRow a lat i part
 
-abbrev pub ColumnFound : Axis → ℤ → Spot → Type 0
-ColumnFound a lon (S.At i r part) = InColumn 10 36000 a lon i r part
-ColumnFound a lon S.Outside = (i r part : ℕ) → ¬ InColumn 10 36000 a lon i r part
+abbrev pub ColumnFound : ℕ → Axis → ℤ → Spot → Type 0
+ColumnFound unit a lon (S.At i r part) = InColumn unit a lon i r part
+ColumnFound unit a lon S.Outside = (i r part : ℕ) → ¬ InColumn unit a lon i r part
 
-abbrev pub CellFound : Grid → ℤ → ℤ → Found → Type 0
-CellFound g lat lon (F.In c) = InCell100 g lat lon c
-CellFound g lat lon F.Outside = (c : Cell) → ¬ InCell100 g lat lon c
+abbrev pub CellFound : ℕ → Grid → ℤ → ℤ → Found → Type 0
+CellFound unit g lat lon (F.In c) = InCell unit g lat lon c
+CellFound unit g lat lon F.Outside = (c : Cell) → ¬ InCell unit g lat lon c

@@ -51,20 +51,20 @@ pub data RightOf (a : Axis) (i : ℕ) : ℕ → Type 0 where
   first : Strip a → i + 1 ≡ nodes a → RightOf a i 0
   next : ¬ (Strip a × (i + 1 ≡ nodes a)) → RightOf a i (i + 1)
 
--- a longitude is `part` past column i toward column r. A tenth of a degree has `unit` units, the full turn `turn`
-pub record InColumn (unit turn : ℕ) (a : Axis) (lon : ℤ) (i r part : ℕ) : Type 0 where
+-- a longitude is `part` past column i toward column r. A tenth of a degree has `unit` units, the full turn 3,600 times as many
+pub record InColumn (unit : ℕ) (a : Axis) (lon : ℤ) (i r part : ℕ) : Type 0 where
   pub east : ℕ
-  pub from-first : Turned turn (lon -ℤ (pos unit *ℤ a .first)) east
+  pub from-first : Turned (unit * 3600) (lon -ℤ (pos unit *ℤ a .first)) east
   pub right : RightOf a i r
   pub sits : Sits (unit * natAbs (a .step)) (nodes a) east i r part
 
 -- a place is `down` of `tall` past the cell's row toward the next, and `across` of `wide` past its column toward the right one
-pub record InCell (unit turn : ℕ) (g : Grid) (lat lon : ℤ) (c : Cell) : Type 0 where
+pub record InCell (unit : ℕ) (g : Grid) (lat lon : ℤ) (c : Cell) : Type 0 where
   pub row : InRow (g .latitudes) lat (c .row) (c .down)
   pub tall : c .tall ≡ 10 * natAbs (g .latitudes .step)
-  pub column : InColumn unit turn (g .longitudes) lon (c .column) (c .right) (c .across)
+  pub column : InColumn unit (g .longitudes) lon (c .column) (c .right) (c .across)
   pub wide : c .wide ≡ unit * natAbs (g .longitudes .step)
 
 -- hundredths of a degree
 abbrev pub InCell100 : Grid → ℤ → ℤ → Cell → Type 0
-InCell100 = InCell 10 36000
+InCell100 = InCell 10

@@ -9,7 +9,7 @@ use native.Mathlib.Omega.{arith}
 use lib.IntN.{ℤ, pos, negsuc, negℤ, natAbs, _+ℤ_, _-ℤ_, _*ℤ_}
 use lib.Signed.{ltZ}
 use Rattle.kit.specs.Parts.{up, dn, add-parts, sub-parts2, scale-up, scale-dn, eq-parts, abs-parts, one-zero, neg-up, neg-dn, lt-true, below-zero, not-below-zero}
-use Rattle.kit.specs.Answer.{pick, pick-yes, pick-no}
+use Rattle.kit.specs.Answer.{pick-yes, pick-no}
 use Rattle.kit.specs.Truth.{truth}
 use Rattle.mapset.specs.Grid.{nodes}
 use Rattle.mapset.specs.declared.Axis.{Axis}
@@ -40,15 +40,15 @@ along-once : (p d : ℤ) (k l : ℕ) → p ≡ along d k → p ≡ along d l →
 along-once p d k l e f = sym (along-size d k) ∙ ap natAbs (sym e ∙ f) ∙ along-size d l
 
 -- an offset is no larger than its two numbers allow
-pub offset-size : (p o : ℤ) → natAbs (p -ℤ (pos 10 *ℤ o)) ≤ natAbs p + 10 * natAbs o
-offset-size p o =
-    let z : ℤ = p -ℤ (pos 10 *ℤ o) in
-    let a = sub-parts2 p (pos 10 *ℤ o) in
-    let b = scale-up 10 o in
-    let c = scale-dn 10 o in
+pub offset-size : (unit : ℕ) (p o : ℤ) → natAbs (p -ℤ (pos unit *ℤ o)) ≤ natAbs p + unit * natAbs o
+offset-size unit p o =
+    let z : ℤ = p -ℤ (pos unit *ℤ o) in
+    let a = sub-parts2 p (pos unit *ℤ o) in
+    let b = scale-up unit o in
+    let c = scale-dn unit o in
     let e = abs-parts z in
     let f = abs-parts p in
-    let g = abs-parts o in
+    let g : unit * natAbs o ≡ unit * up o + unit * dn o = ap (λ (k : ℕ). unit * k) (abs-parts o) ∙ omega arith in
     ⊎-elim (λ o. omega arith) (λ o. omega arith) (one-zero z)
 
 -- ---- what is located is found
@@ -130,25 +130,26 @@ is-right a i = by (strip? a) (ℕ-discrete (i + 1) (nodes a))
     by (yes p) (no n) = rw (pick-no (ℕ-discrete (i + 1) (nodes a)) 0 (i + 1) n) (next (λ h. n (h .1)))
     by (no n) e = next (λ h. n (h .0))
 
-pub column-found : (a : Axis) (lon : ℤ) (x : ℕ) (s : Spot) → Turned 36000 (lon -ℤ (pos 10 *ℤ a .first)) x → Located (truth (strip? a)) x (10 * natAbs (a .step)) (nodes a) s → ColumnFound a lon s
-column-found a lon x (S.At i r f) e g = record { east = x; from-first = e; right = rw (g .1) (is-right a i); sits = g .0 }
-column-found a lon x S.Outside e g = λ i r f c.
-    let t = turned-once 36000 _ x (c .east) e (c .from-first) in
+pub column-found : (unit : ℕ) (a : Axis) (lon : ℤ) (x : ℕ) (s : Spot) → Turned (unit * 3600) (lon -ℤ (pos unit *ℤ a .first)) x → Located (truth (strip? a)) x (unit * natAbs (a .step)) (nodes a) s → ColumnFound unit a lon s
+column-found unit a lon x (S.At i r f) e g = record { east = x; from-first = e; right = rw (g .1) (is-right a i); sits = g .0 }
+column-found unit a lon x S.Outside e g =
+    λ i r f c.
+    let t = turned-once (unit * 3600) _ x (c .east) e (c .from-first) in
     g i f (rw (t, right-once a i (is-right a i) (c .right)) (c .sits))
 
 row-once : (a : Axis) (lat : ℤ) (i f j g : ℕ) → InRow a lat i f → InRow a lat j g → (i ≡ j) × (f ≡ g)
 row-once a lat i f j g p q =
     sits-once (10 * natAbs (a .step)) (nodes a) (q .far) i (i + 1) f j (j + 1) g (rw (along-once (lat -ℤ (pos 10 *ℤ a .first)) (a .step) (p .far) (q .far) (p .from-first) (q .from-first)) at (p .sits)) (q .sits)
 
-column-once : (unit turn : ℕ) (a : Axis) (lon : ℤ) (i r f j s g : ℕ) → InColumn unit turn a lon i r f → InColumn unit turn a lon j s g → (i ≡ j) × (r ≡ s) × (f ≡ g)
-column-once unit turn a lon i r f j s g p q =
-    let o = sits-once (unit * natAbs (a .step)) (nodes a) (q .east) i r f j s g (rw (turned-once turn (lon -ℤ (pos unit *ℤ a .first)) (p .east) (q .east) (p .from-first) (q .from-first)) at (p .sits)) (q .sits) in
+column-once : (unit : ℕ) (a : Axis) (lon : ℤ) (i r f j s g : ℕ) → InColumn unit a lon i r f → InColumn unit a lon j s g → (i ≡ j) × (r ≡ s) × (f ≡ g)
+column-once unit a lon i r f j s g p q =
+    let o = sits-once (unit * natAbs (a .step)) (nodes a) (q .east) i r f j s g (rw (turned-once (unit * 3600) (lon -ℤ (pos unit *ℤ a .first)) (p .east) (q .east) (p .from-first) (q .from-first)) at (p .sits)) (q .sits) in
     (o .0, right-once a j (rw (o .0) at (p .right)) (q .right), o .1)
 
-pub cell-once : (unit turn : ℕ) (g : Grid) (lat lon : ℤ) (c d : Cell) → InCell unit turn g lat lon c → InCell unit turn g lat lon d → c ≡ d
-cell-once unit turn g lat lon c d p q =
+pub cell-once : (unit : ℕ) (g : Grid) (lat lon : ℤ) (c d : Cell) → InCell unit g lat lon c → InCell unit g lat lon d → c ≡ d
+cell-once unit g lat lon c d p q =
     let r = row-once (g .latitudes) lat (c .row) (c .down) (d .row) (d .down) (p .row) (q .row) in
-    let k = column-once unit turn (g .longitudes) lon (c .column) (c .right) (c .across) (d .column) (d .right) (d .across) (p .column) (q .column) in
+    let k = column-once unit (g .longitudes) lon (c .column) (c .right) (c .across) (d .column) (d .right) (d .across) (p .column) (q .column) in
     let t : c .tall ≡ d .tall = p .tall ∙ sym (q .tall) in
     let w : c .wide ≡ d .wide = p .wide ∙ sym (q .wide) in
     λ i. record { row = r .0 i; down = r .1 i; tall = t i; column = k .0 i; right = k .1 i; across = k .2 i; wide = w i }

@@ -1,17 +1,17 @@
 // Where a place lies among the rows and columns of a grid.
 ghost use mathlib.Core.Path.{_≡_};
-ghost use Prim.Native.Nat.{_*_, _<_, _^_};
+ghost use Prim.Native.Nat.{_*_, _≤_, _<_, _^_};
 ghost use lib.IntN.{ℤ, pos, natAbs, _+ℤ_, _-ℤ_, _*ℤ_};
 ghost use Rattle.cells.specs.Place.{Turned};
 ghost use Rattle.kit.specs.Integer.{int?};
 ghost use Rattle.kit.specs.Truth.{truth};
-ghost use Rattle.cells.specs.Found.{IsWay, strip?, after, Located, RowFound, ColumnFound, CellFound};
+ghost use Rattle.cells.specs.Found.{IsWay, strip?, goes-round?, after, Located, RowFound, ColumnFound, CellFound};
 use mapset::Axis;
 use mapset::Grid;
 use mapset::axes;
 
 // Between a row and the next, `down` of `tall` hundredths of a degree past the first; between a column and the one to
-// its right, `across` of `wide` past the first.
+// its right, `across` of `wide` units past the first.
 pub struct Cell {
     pub row: u64,
     pub down: u64,
@@ -39,11 +39,12 @@ pub enum Found {
     Outside,
 }
 
-// p hundredths less o tenths.
-fn offset(p: i32, o: i32) -> i64
-    ensures { λ r. ⌜ r ≡ p -ℤ (pos 10 *ℤ o) ⌝ }
+// p less o tenths of a degree, each of so many units.
+fn offset(p: i64, o: i32, unit: u64) -> i64
+    requires { ⌜ (natAbs p < 2 ^ 60) × (unit ≤ 120) ⌝ }
+    ensures { λ r. ⌜ r ≡ p -ℤ (pos unit *ℤ o) ⌝ }
 {
-    (p as i64) - 10 * (o as i64)
+    p - (unit as i64) * (o as i64)
 }
 
 // x in the direction of d.
@@ -117,6 +118,13 @@ fn is_strip(a: Axis) -> bool
     is_turn(a.last, a.step, a.first)
 }
 
+// Whether the columns go round the whole Earth.
+pub fn goes_round(a: Axis) -> bool
+    ensures { λ r. ⌜ r ≡ truth (goes-round? a) ⌝ }
+{
+    is_strip(a) | is_turn(a.last, 0, a.first)
+}
+
 // x brought by whole turns into 0 ≤ r < turn.
 fn turned(x: i64, turn: u64) -> u64
     requires { ⌜ (0 < turn) × (natAbs x < 2 ^ 63) ⌝ }
@@ -131,50 +139,52 @@ fn turned(x: i64, turn: u64) -> u64
 }
 
 // How far two nodes of an axis of degrees are apart.
-fn step_of(a: Axis) -> u64
-    ensures { λ r. ⌜ r ≡ 10 * natAbs (a .step) ⌝ }
+fn step_of(a: Axis, unit: u64) -> u64
+    requires { ⌜ unit ≤ 120 ⌝ }
+    ensures { λ r. ⌜ r ≡ unit * natAbs (a .step) ⌝ }
 {
-    10 * axes::size(a.step)
+    unit * axes::size(a.step)
 }
 
 fn row_of(a: Axis, lat: i32) -> Spot
     requires { ⌜ 0 < natAbs (a .step) ⌝ }
     ensures { λ r. ⌜ RowFound a lat r ⌝ }
 {
-    match toward(offset(lat, a.first), a.step as i64) {
+    match toward(offset(lat as i64, a.first, 10), a.step as i64) {
         Way::Behind => Spot::Outside,
-        Way::Ahead(x) => locate(x, step_of(a), axes::nodes(a), false),
+        Way::Ahead(x) => locate(x, step_of(a, 10), axes::nodes(a), false),
     }
 }
 
-fn column_of(a: Axis, lon: i32) -> Spot
-    requires { ⌜ 0 < natAbs (a .step) ⌝ }
-    ensures { λ r. ⌜ ColumnFound a lon r ⌝ }
+fn column_of(a: Axis, lon: i64, unit: u64) -> Spot
+    requires { ⌜ (0 < natAbs (a .step)) × (natAbs lon < 2 ^ 60) × (0 < unit) × (unit ≤ 120) ⌝ }
+    ensures { λ r. ⌜ ColumnFound unit a lon r ⌝ }
 {
     locate(
-        turned(offset(lon, a.first), 36000),
-        step_of(a),
+        turned(offset(lon, a.first, unit), unit * 3600),
+        step_of(a, unit),
         axes::nodes(a),
         is_strip(a),
     )
 }
 
-pub fn cell_of(g: Grid, lat: i32, lon: i32) -> Found
-    requires { ⌜ (0 < natAbs (g .latitudes .step)) × (0 < natAbs (g .longitudes .step)) ⌝ }
-    ensures { λ r. ⌜ CellFound g lat lon r ⌝ }
+// The cell of a latitude in hundredths of a degree and a longitude in units, of which a tenth of a degree has `unit`.
+pub fn cell_of(g: Grid, lat: i32, lon: i64, unit: u64) -> Found
+    requires { ⌜ (0 < natAbs (g .latitudes .step)) × (0 < natAbs (g .longitudes .step)) × (natAbs lon < 2 ^ 60) × (0 < unit) × (unit ≤ 120) ⌝ }
+    ensures { λ r. ⌜ CellFound unit g lat lon r ⌝ }
 {
     match row_of(g.latitudes, lat) {
         Spot::Outside => Found::Outside,
-        Spot::At(row, _next, down) => match column_of(g.longitudes, lon) {
+        Spot::At(row, _next, down) => match column_of(g.longitudes, lon, unit) {
             Spot::Outside => Found::Outside,
             Spot::At(column, right, across) => Found::In(Cell {
                 row: row,
                 down: down,
-                tall: step_of(g.latitudes),
+                tall: step_of(g.latitudes, 10),
                 column: column,
                 right: right,
                 across: across,
-                wide: step_of(g.longitudes),
+                wide: step_of(g.longitudes, unit),
             }),
         },
     }

@@ -108,6 +108,7 @@ fn number_of(why: Why) -> u64
     match why {
         Why::Unknown => 23,
         Why::Unsound => 31,
+        Why::Unserved => 24,
         Why::OutOfTime => 20,
         Why::OutOfPlace => 21,
         Why::NoValue => 22,

@@ -6,7 +6,7 @@ ghost use Rattle.rounding.specs.Round.{roundAbs, rounded};
 
 // The nearest whole number to m / d, a half rounded up.
 fn round_abs(m: u64, d: u64) -> u64
-    requires { ⌜ (0 < d) × (d ≤ 100_000_000_000) × (m ≤ 5_000_000_000_000_000_000) ⌝ }
+    requires { ⌜ (0 < d) × (d ≤ 100_000_000_000) × (m ≤ 6_480_000_000_000_000_000) ⌝ }
     ensures { λ r. ⌜ r ≡ roundAbs m d ⌝ }
 {
     let whole = m / d;
@@ -18,7 +18,7 @@ fn round_abs(m: u64, d: u64) -> u64
 
 // The nearest whole number to s / d, halves away from zero.
 pub fn round_half_away(s: i64, d: u64) -> i64
-    requires { ⌜ (0 < d) × (d ≤ 100_000_000_000) × (natAbs s ≤ 5_000_000_000_000_000_000) ⌝ }
+    requires { ⌜ (0 < d) × (d ≤ 100_000_000_000) × (natAbs s ≤ 6_480_000_000_000_000_000) ⌝ }
     ensures { λ r. ⌜ r ≡ rounded s d ⌝ }
 {
     let m = round_abs(kit::magnitude(s), d);

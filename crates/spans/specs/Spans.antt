@@ -1,5 +1,6 @@
 -- What the search of a map asks of the epochs, and what it answers.
 use mathlib.Core.Path.{_≡_}
+use mathlib.Core.Bool.{Bool, true, false}
 use mathlib.Core.Logic.{_⊎_}
 use mathlib.Core.List.{List}
 use Prim.Native.Nat.{ℕ, _+_, _≤_, _<_}
@@ -22,3 +23,12 @@ pub record Spanned (es : List ℕ) (t : ℕ) : Type 0 where
   pub some : 1 ≤ length es
   pub from : epoch es 0 ≤ t
   pub to : (i : ℕ) → i + 1 ≡ length es → t ≤ epoch es i
+
+-- no two neighbouring epochs are more than `limit` seconds apart
+abbrev pub Close : ℕ → List ℕ → Type 0
+Close limit es = (i : ℕ) → i + 1 < length es → epoch es (i + 1) ≤ epoch es i + limit
+
+-- a test says whether P holds
+abbrev pub Says : Bool → Type 0 → Type 0
+Says true P = P
+Says false P = ¬ P

@@ -10,7 +10,7 @@ use native.Mathlib.Omega.{arith}
 use lib.ListN.{length, getD}
 use Rattle.mapset.specs.Areas.{Follows}
 use Rattle.mapset.specs.Sound.{Runs}
-use Rattle.spans.specs.Spans.{Regular}
+use Rattle.spans.specs.Spans.{Regular, Close}
 use Rattle.spans.specs.Time.{epoch, gap, NearestMap, alone, shared, Uses, nearest, between, last}
 use Rattle.spans.specs.declared.Shares.{Shares}
 
@@ -42,7 +42,7 @@ module _ (es : List ℕ) (r : Regular es) where
       let e : i + suc k ≡ (i + k) + 1 = omega arith in
       rw e (omega (arith, rises-by i k (omega arith), r .rises (i + k) (omega arith)))
 
-  rises-to : (i j : ℕ) → i ≤ j → j < length es → epoch es i ≤ epoch es j
+  pub rises-to : (i j : ℕ) → i ≤ j → j < length es → epoch es i ≤ epoch es j
   rises-to i j h k =
       let e : i + (j - i) ≡ j = omega arith in
       rw e at (rises-by i (j - i) (omega arith))
@@ -98,6 +98,11 @@ module _ (es : List ℕ) (r : Regular es) where
     uses-once method (last i m h k) (last j n h′ k′) = ap alone (omega arith)
 
     -- ---- the shares are small, and the maps they are taken from are there
+    pub shares-within : (limit : ℕ) → 1 ≤ limit → Close limit es → (method : ℕ) {s : Shares} → Uses es t method s → s .early + s .late ≤ limit
+    shares-within limit o c method (nearest i m p) = omega arith
+    shares-within limit o c method (between i m h k l) = omega (arith, c i h)
+    shares-within limit o c method (last i m h k) = omega arith
+
     pub shares-small : (method : ℕ) {s : Shares} → Uses es t method s → (1 ≤ s .early) × (s .early + s .late ≤ 21600) × (s .map < length es) × ((s .late ≡ 0) ⊎ (s .map + 1 < length es))
     shares-small method (nearest i m p) = (omega arith, omega arith, p .map, inl refl)
     shares-small method (between i m h k l) = (omega arith, omega (arith, r .near i h), omega arith, inr h)

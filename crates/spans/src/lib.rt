@@ -2,7 +2,7 @@
 ghost use Prim.Native.Nat.{_+_, _≤_, _<_};
 ghost use lib.ListN.{length};
 ghost use Rattle.spans.specs.Time.{epoch, Uses};
-ghost use Rattle.spans.specs.Spans.{Regular, Before, Spanned};
+ghost use Rattle.spans.specs.Spans.{Regular, Before, Spanned, Close, Says};
 
 // The shares of a map and of the next one.
 pub struct Shares {
@@ -24,6 +24,21 @@ fn map_before(epochs: &[u64], second: u64) -> usize
         i += 1;
     }
     i
+}
+
+// Whether no two neighbouring epochs are more than limit seconds apart.
+pub fn is_close(epochs: &[u64], limit: u64) -> bool
+    requires { ⌜ Regular (now epochs) ⌝ }
+    ensures { λ r. ⌜ Says r (Close limit (now (epochs .entry))) ⌝ }
+{
+    let mut i: usize = 0;
+    while i + 1 < epochs.len() {
+        if limit < epochs[i + 1] - epochs[i] {
+            return false;
+        }
+        i += 1;
+    }
+    true
 }
 
 pub fn shares_of(epochs: &[u64], second: u64, method: u64) -> Shares

@@ -156,7 +156,7 @@ unfolding terms
 small-terms s vs ks ms [] = tt
 small-terms s vs ks ms (n ∷ ns) = (small-value s vs ks ms n, small-terms s vs ks ms ns)
 
-ready-sum : (ts : List Term) → 0 < weight ts → weight ts ≤ 48_600_000_000 → All (λ (t : Term). Small (t .1)) ts → Ready (add-all (S.Of (pos 0) 0) ts)
+ready-sum : (ts : List Term) → 0 < weight ts → weight ts ≤ 64_800_000_000 → All (λ (t : Term). Small (t .1)) ts → Ready (add-all (S.Of (pos 0) 0) ts)
 ready-sum ts h w a = by (valued? ts) (room-all (S.Of (pos 0) 0) ts (omega arith, omega arith) a)
   where
     by : Dec (Valued ts) → Room (add-all (S.Of (pos 0) 0) ts) 0 → Ready (add-all (S.Of (pos 0) 0) ts)
@@ -166,5 +166,5 @@ ready-sum ts h w a = by (valued? ts) (room-all (S.Of (pos 0) 0) ts (omega arith,
         rw e (k .0, omega arith, omega arith)
     by (no n) r = rw (lacking-sum ts n (pos 0) 0) tt
 
-pub ready-terms : (s : Shape) (vs ks : List ℤ) (ms : List ℕ) (ns : List Weighed) → 0 < weight (terms s vs ks ms ns) → weight (terms s vs ks ms ns) ≤ 48_600_000_000 → Ready (add-all (S.Of (pos 0) 0) (terms s vs ks ms ns))
+pub ready-terms : (s : Shape) (vs ks : List ℤ) (ms : List ℕ) (ns : List Weighed) → 0 < weight (terms s vs ks ms ns) → weight (terms s vs ks ms ns) ≤ 64_800_000_000 → Ready (add-all (S.Of (pos 0) 0) (terms s vs ks ms ns))
 ready-terms s vs ks ms ns h w = ready-sum (terms s vs ks ms ns) h w (small-terms s vs ks ms ns)

@@ -28,11 +28,12 @@ bare (N.Km v) = some (v .0)
 abbrev pub Reaches : List ℤ → List ℤ → List ℕ → Shape → Weighed → Type 0
 Reaches values exponents marks s n = (n .weight ≡ 0) ⊎ Reached values exponents marks s n
 
--- a cell and a share that are small enough for their weights
+-- a cell and a share that are small enough for their weights: 21,600 s with 1,500 by 1,500 hundredths of a degree, 7,200 s with 6,000
+-- of 1/1200
 pub record Shared (share : ℕ) (c : Cell) : Type 0 where
-  pub small : share ≤ 21600
   pub tall : c .tall ≤ 1500
-  pub wide : c .wide ≤ 1500
+  pub wide : c .wide ≤ 6000
+  pub weights : share * (c .tall * c .wide) ≤ 64_800_000_000
   pub down : c .down ≤ c .tall
   pub across : c .across ≤ c .wide
   pub row : c .row ≤ 1000
@@ -43,7 +44,7 @@ pub record Summable (values exponents : List ℤ) (marks : List ℕ) (s : Shape)
   pub late : Shared (h .late) second
   pub map : h .map ≤ 1000
   pub reaches : All (Reaches values exponents marks s) (spread h first second)
-  pub weights : weight (terms s values exponents marks (spread h first second)) ≤ 48_600_000_000
+  pub weights : weight (terms s values exponents marks (spread h first second)) ≤ 64_800_000_000
 
 -- ---- sums
 abbrev pub add-value : Sum → ℕ → Option ℤ → Sum
@@ -61,15 +62,15 @@ add-all s (t ∷ ts) = add-all (add-value s (t .0) (t .1)) ts
 
 -- the sum is no larger than its weight allows, and there is room for the weight w
 abbrev pub Room : Sum → ℕ → Type 0
-Room S.Lacks w = w ≤ 48_600_000_000
-Room (S.Of t u) w = (natAbs t ≤ u * 99_999_000) × (u + w ≤ 48_600_000_000)
+Room S.Lacks w = w ≤ 64_800_000_000
+Room (S.Of t u) w = (natAbs t ≤ u * 99_999_000) × (u + w ≤ 64_800_000_000)
 
 abbrev pub InRange : Node → Type 0
 InRange n = Small (bare n)
 
 abbrev pub Ready : Sum → Type 0
 Ready S.Lacks = Unit {0}
-Ready (S.Of t u) = (natAbs t ≤ u * 99_999_000) × (0 < u) × (u ≤ 48_600_000_000)
+Ready (S.Of t u) = (natAbs t ≤ u * 99_999_000) × (0 < u) × (u ≤ 64_800_000_000)
 
 -- what a sum comes to
 abbrev pub summed : Sum → Option ℤ

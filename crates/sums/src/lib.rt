@@ -58,7 +58,7 @@ fn term(sum: Sum, n: Weighed, s: Shape, values: &[i32], exponents: &[i32], marks
 
 // A node of a cell, and its weight.
 fn weigh(share: u64, a: u64, b: u64, map: u64, row: u64, column: u64) -> Weighed
-    requires { ⌜ (share ≤ 21600) × (a ≤ 1500) × (b ≤ 1500) ⌝ }
+    requires { ⌜ (a ≤ 1500) × (b ≤ 6000) × (share * (a * b) ≤ 64_800_000_000) ⌝ }
     ensures { λ r. ⌜ r ≡ corner (share * (a * b)) map row column ⌝ }
 {
     Weighed {

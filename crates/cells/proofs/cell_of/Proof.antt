@@ -1,7 +1,5 @@
 -- `asker::place::cell_of` meets its contract.
 use borrow.Author.Needs.{needs}
-use mathlib.Core.Path.{refl}
-use native.Mathlib.Omega.{arith}
 use mir.Facts.{toZ-ofZ}
 use Rattle.cells.specs.Found.{RowFound, ColumnFound}
 use Rattle.cells.proofs.cell_of.Statement.{statement}
@@ -10,7 +8,7 @@ use Rattle.cells.proofs.cell_of.Tie as tie
 row-is : (c : tie.After-row-of) → RowFound (c .before .args .g .latitudes) (c .before .args .lat) (c .row-of .result)
 row-is c = rw (toZ-ofZ (c .before .fits .lat)) at (c .row-of .ensures)
 
-column-is : (c : tie.After-column-of) → ColumnFound (c .before .before .before .before .before .args .g .longitudes) (c .before .before .before .before .before .args .lon) (c .column-of .result)
+column-is : (c : tie.After-column-of) → ColumnFound (c .before .before .before .before .before .args .unit) (c .before .before .before .before .before .args .g .longitudes) (c .before .before .before .before .before .args .lon) (c .column-of .result)
 column-is c = rw (toZ-ofZ (c .before .before .before .before .before .fits .lon)) at (c .column-of .ensures)
 
 row-of-requires : tie.Need-row-of-requires
@@ -23,7 +21,7 @@ enum-known-row : tie.Need-enum-known-row
 enum-known-row c = search needs
 
 column-of-requires : tie.Need-column-of-requires
-column-of-requires c κs = search needs
+column-of-requires c κs = let s = c .before .before .before .before in rw (toZ-ofZ (s .fits .lon)) (s .pre .1, s .pre .2, s .pre .3, s .pre .4)
 
 enum-told-2 : tie.Need-enum-told-2
 enum-told-2 c = search needs

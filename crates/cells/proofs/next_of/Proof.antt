@@ -1,6 +1,6 @@
 -- `cells::next_of` meets its contract.
 use borrow.Author.Needs.{needs}
-use mathlib.Core.Path.{_≡_, refl, sym}
+use mathlib.Core.Path.{refl, sym}
 use borrow.Author.Tests.{not-true, not-false}
 use native.Mathlib.Decide.{ℕ-discrete}
 use Rattle.kit.specs.Answer.{pick-yes, pick-no}

@@ -12,11 +12,14 @@ use Rattle.cells.specs.PlaceLaws.{offset-size, row-found}
 use Rattle.cells.proofs.row_of.Statement.{statement}
 use Rattle.cells.proofs.row_of.Tie as tie
 
+wide-lat : (s : tie.Start) → toZ w64 (ofZ w64 (toZ w32 (ofZ w32 (s .args .lat)))) ≡ s .args .lat
+wide-lat s = rw (toZ-ofZ (s .fits .lat)) (toZ-ofZ (sfits-widen tt (s .fits .lat)))
+
 off : (c : tie.After-offset) → toZ w64 (ofZ w64 (c .offset .result)) ≡ c .before .before .args .lat -ℤ (pos 10 *ℤ c .before .before .args .a .first)
 off c =
     let s = c .before .before in
     let e : toZ w32 (ofZ w32 (s .args .a .first)) ≡ s .args .a .first = search needs in
-    (search needs) ∙ c .offset .ensures ∙ ap₂ (λ (x y : ℤ). x -ℤ (pos 10 *ℤ y)) (toZ-ofZ (s .fits .lat)) e
+    (search needs) ∙ c .offset .ensures ∙ ap₂ (λ (x y : ℤ). x -ℤ (pos 10 *ℤ y)) (wide-lat s) e
 
 wide-step : (c : tie.After-struct-told2) → toZ w64 (ofZ w64 (toZ w32 (ofZ w32 (c .before .before .before .before .args .a .step)))) ≡ c .before .before .before .before .args .a .step
 wide-step c =
@@ -28,8 +31,11 @@ wide-step c =
 way : (c : tie.After-toward) → IsWay (c .before .before .before .before .before .args .lat -ℤ (pos 10 *ℤ c .before .before .before .before .before .args .a .first)) (c .before .before .before .before .before .args .a .step) (c .toward .result)
 way c = rw (off (c .before .before .before), wide-step (c .before)) at (c .toward .ensures)
 
+cast-offset : tie.Need-cast-offset
+cast-offset c = rw (toZ-ofZ (c .fits .lat)) (sfits-widen tt (c .fits .lat))
+
 offset-requires : tie.Need-offset-requires
-offset-requires c κs = search needs
+offset-requires c κs = rw (wide-lat (c .before)) (omega (arith, size-of-fits w32 _ (c .before .fits .lat)), omega arith)
 
 cast-toward : tie.Need-cast-toward
 cast-toward c =
@@ -42,7 +48,7 @@ toward-requires : tie.Need-toward-requires
 toward-requires c κs =
     let s = c .before .before .before .before in
     let f : SFits w32 (s .args .a .first) = search needs in
-    rw (off (c .before .before)) (omega (arith, offset-size (s .args .lat) (s .args .a .first), size-of-fits w32 _ (s .fits .lat), size-of-fits w32 _ f))
+    rw (off (c .before .before)) (omega (arith, offset-size 10 (s .args .lat) (s .args .a .first), size-of-fits w32 _ (s .fits .lat), size-of-fits w32 _ f))
 
 enum-told : tie.Need-enum-told
 enum-told c = search needs
@@ -73,6 +79,7 @@ pub row-of-spec : {M : Type 1} → statement M
 row-of-spec =
     tie.close
     (tie.spec
+    cast-offset
     offset-requires
     cast-toward
     toward-requires

@@ -3,6 +3,7 @@ use borrow.Author.Needs.{needs}
 use mathlib.Core.Path.{_≡_, ap, _∙_}
 use native.Mathlib.Omega.{arith}
 use Prim.Native.Nat.{ℕ, _*_}
+use native.Mathlib.Nat.{mul-le-mul}
 use lib.IntN.{natAbs}
 use mir.Syntax.{w32}
 use mir.Val.{toZ, ofZ, SFits}
@@ -21,10 +22,10 @@ size-requires c κs = search needs
 mul-result : tie.Need-mul-result
 mul-result c =
     let f : SFits w32 (c .before .before .args .a .step) = search needs in
-    omega (arith, sized c, size-of-fits w32 (c .before .before .args .a .step) f)
+    omega (arith, mul-le-mul (c .before .before .pre) (size-of-fits w32 (c .before .before .args .a .step) f), ap (λ (k : ℕ). c .before .before .args .unit * k) (sized c))
 
 returns : tie.Need-returns
-returns c = ap (λ (k : ℕ). 10 * k) (sized c)
+returns c = ap (λ (k : ℕ). c .before .before .args .unit * k) (sized c)
 
 pub step-of-spec : {M : Type 1} → statement M
 step-of-spec = tie.close (tie.spec size-requires mul-result returns)

@@ -6,10 +6,10 @@ use Rattle.sums.proofs.weigh.Statement.{statement}
 use Rattle.sums.proofs.weigh.Tie as tie
 
 mul-t7 : tie.Need-mul-t7
-mul-t7 c = omega (arith, mul-le-mul (c .pre .1) (c .pre .2))
+mul-t7 c = omega (arith, mul-le-mul (c .pre .0) (c .pre .1))
 
 mul-t8 : tie.Need-mul-t8
-mul-t8 c = omega (arith, mul-le-mul (c .pre .0) (mul-le-mul (c .pre .1) (c .pre .2)))
+mul-t8 c = omega (arith, c .pre .2)
 
 returns : tie.Need-returns
 returns c = search needs
