@@ -8,7 +8,7 @@ use crate::plot::{draw, png, svg, Field, Picture};
 use crate::question::Question;
 use crate::status::{usage, Status, Stop};
 use crate::{files, refused, time};
-use ionex::{Epoch, Kind, MapSet, Place, Refusal};
+use ionex::{Epoch, Kind, MapSet, Place};
 use std::path::Path;
 
 pub const COMMAND: Command = Command {
@@ -113,7 +113,12 @@ impl Chosen {
             .heights
             .at(question.layer as usize)
             .unwrap_or(header.heights.first);
-        let made = [maps.program(), maps.run_by(), maps.date()].join(" ");
+        let made = [name, maps.program(), maps.run_by(), maps.date()].map(str::trim);
+        let made: Vec<&str> = made.into_iter().filter(|part| !part.is_empty()).collect();
+        let layer = match maps.layers() {
+            1 => String::new(),
+            _ => format!(", layer {}", question.layer),
+        };
         Ok(Field {
             latitudes: &header.latitudes,
             longitudes: &header.longitudes,
@@ -125,8 +130,8 @@ impl Chosen {
             },
             title: format!("{}, {} UT", title(question.kind), time::words(epoch)),
             notes: vec![
-                format!("{note}, layer {} at {} km", question.layer, tenths(height)),
-                format!("{name}: {made}"),
+                format!("{note}{layer}, {} km", tenths(height)),
+                made.join(", "),
             ],
         })
     }
@@ -142,28 +147,23 @@ fn title(kind: Kind) -> &'static str {
 
 /// The place of a map, counted from 0, or why it cannot be drawn, by the numbers of a question.
 fn standing(maps: &MapSet, question: &Question, number: u64) -> Result<usize, Stop> {
-    let refused = |number, words: String| {
-        let meaning = Refusal::meaning_of(number).unwrap_or_default();
-        Err(Stop::Refused(format!(
-            "ionex: refused {number}: {meaning}: {words}"
-        )))
-    };
+    let refused = |words: String| Err(Stop::Refused(format!("ionex: refused {words}")));
     if number > maps.maps() as u64 {
-        return refused(20, format!("map {number} of {}", maps.maps()));
+        return refused(format!(
+            "21: there is no map {number}, the last is {}",
+            maps.maps()
+        ));
     }
     if question.layer >= maps.layers() as u64 {
-        return refused(
-            21,
-            format!(
-                "layer {} of {}, counted from 0",
-                question.layer,
-                maps.layers()
-            ),
-        );
+        let last = maps.layers() - 1;
+        return refused(format!(
+            "21: there is no layer {}, the last is {last}",
+            question.layer
+        ));
     }
     let map = number as usize - 1;
     if !maps.has(question.kind, map) {
-        return refused(22, format!("there is no {} map {number}", question.kind));
+        return refused(format!("22: there is no {} map {number}", question.kind));
     }
     Ok(map)
 }

@@ -50,7 +50,7 @@ impl Side {
         let fits = |step: &&i64| **step * 10 * i64::from(self.pixels) >= apart * span;
         let step = *STEPS.iter().find(fits).unwrap_or(&900);
         let first = self.low.div_euclid(10 * step) * step;
-        (first..=self.high / 10)
+        (first..=self.high.div_euclid(10))
             .step_by(step as usize)
             .filter(|line| line * 10 >= self.low)
             .collect()
@@ -131,6 +131,13 @@ mod tests {
             step: -25,
         };
         assert_eq!(extent(&axis, Some((-9000, 9000))), (-8875, 8875));
+        let side = Side {
+            low: -75,
+            high: -25,
+            start: 0,
+            pixels: 160,
+        };
+        assert_eq!(side.lines(40), [-6, -4]);
         let side = Side {
             low: -9000,
             high: 9000,

@@ -21,8 +21,10 @@ pub struct Field<'a> {
 /// The map is not larger than this, and not smaller, so that words find room.
 const WIDEST: i64 = 960;
 const HIGHEST: i64 = 600;
-const LEAST_WIDTH: i64 = 480;
+const LEAST_WIDTH: i64 = 240;
 const LEAST_HEIGHT: i64 = 160;
+/// The title needs so much.
+const LEAST_PICTURE: i32 = 960;
 
 /// Room around the map for the names of lines, the titles, the scale and the legend.
 const LEFT: i32 = 90;
@@ -43,7 +45,7 @@ struct Chart {
 pub fn draw(field: &Field) -> Picture {
     let chart = layout(field);
     let mut picture = Picture {
-        width: LEFT + chart.across.pixels + RIGHT,
+        width: (LEFT + chart.across.pixels + RIGHT).max(LEAST_PICTURE),
         height: chart.along.start + chart.along.pixels + BOTTOM,
         title: field.title.clone(),
         shapes: Vec::new(),
