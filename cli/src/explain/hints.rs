@@ -184,18 +184,21 @@ fn end_of_file(place: &Place) -> Option<String> {
 }
 
 fn cut(place: &Place) -> Option<String> {
-    let begun = place.state.stage != Stage::Start;
-    let cut_in_block =
-        place.number == 6 && values_due(&place.state) > 0 && !place.label().is_empty();
-    if place.number == 10 && begun {
-        return Some(
-            "the file was cut off, on its way or while it was written: fetch it again".to_string(),
-        );
-    }
-    if place.number == 10 && place.text.is_empty() {
-        return Some("nothing was written into this file: fetch it again".to_string());
-    }
-    cut_in_block.then(|| "lines are missing here, or a line lost values".to_string())
+    let last = text::line(place.text, place.line + 1).is_none();
+    let in_mid_line = last && !place.text.ends_with(b"\n");
+    let in_block = values_due(&place.state) > 0 && !place.label().is_empty();
+    let words = match place.number {
+        10 if place.text.is_empty() => "nothing was written into this file: fetch it again",
+        10 if place.state.stage != Stage::Start => {
+            "the file was cut off, on its way or while it was written: fetch it again"
+        }
+        4 | 6 if in_mid_line => {
+            "the text ends in mid-line: the file was cut off, so fetch it again"
+        }
+        6 if in_block => "lines are missing here, or a line lost values",
+        _ => return None,
+    };
+    Some(words.to_string())
 }
 
 /// Fortran's sign for a number too wide for its field.
