@@ -208,10 +208,9 @@ fn rows(maps: &MapSet) -> Vec<(String, String)> {
             .map(|count| ("satellites", count.to_string())),
     );
     for (letter, stations, satellites) in systems(maps) {
-        rows.push((
-            "system",
-            format!("{letter}, {stations} stations, {satellites} satellites"),
-        ));
+        let stations = counted(stations as usize, "station");
+        let satellites = counted(satellites as usize, "satellite");
+        rows.push(("system", format!("{letter}, {stations}, {satellites}")));
     }
     rows.extend([
         ("base radius", format!("{} km", tenths(header.radius))),

@@ -9,6 +9,7 @@ use std::process::{Command, Stdio};
 use std::sync::atomic::{AtomicU32, Ordering};
 
 pub mod global;
+pub mod peer;
 
 /// What the program did.
 #[derive(Debug)]
