@@ -89,12 +89,6 @@ fn damaged_texts() {
             damage(&mut lines, &mut chance);
         }
         let text = joined(&lines);
-        if lines
-            .iter()
-            .any(|line| line.contains(" .") || line.contains("-."))
-        {
-            continue;
-        }
         let (status, words) = check::answer("f", &text, false, Style::PLAIN);
         match Peer::read(&text) {
             Ok(_) => assert_eq!(status, Status::Done, "seed {seed}: {words}"),

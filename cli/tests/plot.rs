@@ -46,8 +46,8 @@ fn cells_by_hand() {
     assert_eq!(image.at(200, 200), [0x44, 0x01, 0x54]);
     assert_eq!(image.at(900, 700), [0xfd, 0xe7, 0x25]);
     // The scale, its largest value above.
-    assert_eq!(image.at(1030, 130), [0xfd, 0xe7, 0x25]);
-    assert_eq!(image.at(1030, 718), [0x44, 0x01, 0x54]);
+    assert_eq!(image.at(1030, 125), [0xfd, 0xe7, 0x25]);
+    assert_eq!(image.at(1030, 722), [0x44, 0x01, 0x54]);
     let found = words(&svg);
     assert_eq!(
         found[..3],
