@@ -28,7 +28,7 @@ impl Progress {
     /// One more is done. The clock is looked at now and then only.
     pub fn step(&mut self) {
         self.count += 1;
-        if self.hidden || self.count % 64 != 0 || Instant::now() < self.next {
+        if self.hidden || !self.count.is_multiple_of(64) || Instant::now() < self.next {
             return;
         }
         self.next = Instant::now() + AGAIN;

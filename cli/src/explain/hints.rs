@@ -133,7 +133,7 @@ fn two_files(place: &Place) -> Option<String> {
 
 fn no_ascii(place: &Place) -> Option<String> {
     let bytes = place.bytes.get(place.column.wrapping_sub(1)..)?;
-    if place.number != 2 || !bytes.first().is_some_and(|&byte| byte > 127) {
+    if place.number != 2 || bytes.first().is_none_or(|&byte| byte <= 127) {
         return None;
     }
     let letter = match bytes

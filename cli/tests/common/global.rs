@@ -1,6 +1,6 @@
 //! A file as centres make them: 25 hourly maps of the whole Earth, 71 by 73, and their RMS maps.
 
-use super::record;
+use super::{joined, record};
 use std::f64::consts::PI;
 
 pub const MAPS: usize = 25;
@@ -43,7 +43,7 @@ pub fn text(with_rms: bool) -> Vec<u8> {
         put_map(&mut lines, "RMS", map, None, rms);
     }
     lines.push(record("", "END OF FILE"));
-    super::joined(&lines)
+    joined(&lines)
 }
 
 type Values = fn(usize, usize, usize) -> i32;
