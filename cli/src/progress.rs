@@ -35,9 +35,11 @@ impl Progress {
         self.shown = true;
         let _ = write!(io::stderr(), "\r{} answered", self.count);
     }
+}
 
-    /// Takes the line away.
-    pub fn end(&mut self) {
+/// Takes the line away, however the run ends.
+impl Drop for Progress {
+    fn drop(&mut self) {
         if self.shown {
             let _ = write!(io::stderr(), "\r\x1b[K");
         }

@@ -58,7 +58,7 @@ fn cells_by_hand() {
         ]
     );
     for label in [
-        "5°W", "0°", "5°E", "15°N", "5°S", "0.10", "0.35", "0.60", "TECU",
+        "5°W", "0°", "5°E", "14°N", "4°S", "0.10", "0.35", "0.60", "TECU",
     ] {
         assert!(found.contains(&label), "{label} in {found:?}");
     }

@@ -151,7 +151,6 @@ impl Asker {
             }
             progress.step();
         }
-        progress.end();
         Ok(out.reached)
     }
 
