@@ -13,15 +13,6 @@ use std::time::{Duration, Instant};
 #[path = "../tests/common/global.rs"]
 mod global;
 
-/// What the file of a day is made of, for `global`.
-fn record(body: &str, label: &str) -> String {
-    format!("{body:<60}{label}").trim_end().to_string()
-}
-
-fn joined(lines: &[String]) -> Vec<u8> {
-    (lines.join("\n") + "\n").into_bytes()
-}
-
 /// The library alone, with areas and an output that are made once.
 struct Plain {
     tec: Vec<i32>,

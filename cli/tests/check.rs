@@ -2,7 +2,8 @@
 
 mod common;
 
-use common::{example, global, ionex, ionex_given, joined, lines, record, Folder};
+use common::global::{self, joined, record};
+use common::{example, ionex, ionex_given, lines, Folder};
 
 #[test]
 fn accepted_files() {

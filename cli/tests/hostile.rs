@@ -2,8 +2,9 @@
 
 mod common;
 
+use common::global::{self, joined};
 use common::peer::{Chance, Peer};
-use common::{command, example, global, ionex, ionex_given, joined, lines, Folder};
+use common::{command, example, ionex, ionex_given, lines, Folder};
 use ionex_cli::commands::check;
 use ionex_cli::{Status, Style};
 use second::Refusal;

@@ -1,7 +1,15 @@
 //! A file as centres make them: 25 hourly maps of the whole Earth, 71 by 73, and their RMS maps.
 
-use super::{joined, record};
 use std::f64::consts::PI;
+
+/// A record as it stands in a file.
+pub fn record(body: &str, label: &str) -> String {
+    format!("{body:<60}{label}").trim_end().to_string()
+}
+
+pub fn joined(lines: &[String]) -> Vec<u8> {
+    (lines.join("\n") + "\n").into_bytes()
+}
 
 pub const MAPS: usize = 25;
 pub const ROWS: usize = 71;

@@ -142,12 +142,3 @@ pub fn lines() -> Vec<String> {
     let text = String::from_utf8(example("accepted-canonical.inx")).expect("ASCII");
     text.lines().map(str::to_string).collect()
 }
-
-pub fn joined(lines: &[String]) -> Vec<u8> {
-    (lines.join("\n") + "\n").into_bytes()
-}
-
-/// A record as it stands in a file.
-pub fn record(body: &str, label: &str) -> String {
-    format!("{body:<60}{label}").trim_end().to_string()
-}
