@@ -6,10 +6,19 @@
  *
  * WHAT THE CALLER MUST GIVE. The functions are proved for callers that keep these four rules, and C cannot check them:
  *   - each pointer points to as many elements as the length behind it says, and is aligned for them;
- *   - each pointer is valid and not null, for length 0 too (any valid pointer will do there);
+ *   - each pointer is valid and not null, for length 0 too (any valid pointer will do there). In C malloc(0), and in
+ *     C++ data() of an empty std::vector, may be null: give the address of any object of that type instead;
  *   - an area that a call writes overlaps no other area of that call;
- *   - no other thread writes to an area during the call.
+ *   - no other thread writes to an area during the call. Calls in many threads at once may share what they only read:
+ *     a text that is read, a map set that is asked or written.
  * Everything else may be anything at all: every text, number and length has an answer.
+ *
+ * STACK. Reading takes less than 16 KiB, each other call less than 4 KiB, whatever it is given: none calls itself. Nothing
+ * is allocated; of the C library memcpy and memset are called, no more.
+ *
+ * TIME. Every epoch is in seconds from 1900-01-01 00:00:00, in universal time (UT) as document 001 has its maps, and
+ * each day has 86,400 seconds. A clock in GPS time runs ahead of it by the leap seconds that have come since 1980, 18
+ * since 2017-01-01: who has GPS time subtracts them.
  *
  * THE ANSWER of each function is 0 for done, or a number of enum ionex_answer. Lengths count elements, not bytes.
  */
@@ -22,6 +31,10 @@
 #ifdef __cplusplus
 extern "C" {
 #endif
+
+/* Where other clocks begin: to be added to Unix seconds, and to GPS seconds without their leap seconds. */
+#define IONEX_UNIX_ZERO UINT64_C(2208988800) /* 1970-01-01 00:00:00 */
+#define IONEX_GPS_ZERO UINT64_C(2524953600)  /* 1980-01-06 00:00:00 */
 
 enum ionex_answer {
     IONEX_DONE = 0,
@@ -46,14 +59,17 @@ enum ionex_answer {
     /* Asking. */
     IONEX_OUTSIDE_TIME = 20,  /* the second lies before the first or after the last map */
     IONEX_OUTSIDE_GRID = 21,  /* the place or the layer lies outside the grid */
-    IONEX_NO_VALUE = 22,      /* a node that the answer needs has no value */
+    IONEX_NO_VALUE = 22,      /* a node that the answer needs has no value: it holds IONEX_ABSENT or a number outside
+                               * -9999 to 99999, its exponent is outside -3 to 0, or its map does not stand, so also
+                               * where the kind has no map at all */
     IONEX_UNKNOWN_CHOICE = 23, /* kind or method is none of those listed */
     IONEX_UNSERVED = 24, /* methods 2 and 3: the grid does not go round the Earth, DLON is above 5.0 degrees, or two
                           * neighbouring epochs are more than 7,200 s apart */
 
     /* Writing, and 31 also asking. */
     IONEX_SHORT_OUTPUT = 30, /* the output is too short; count[0] is the bytes needed */
-    IONEX_NO_MAP_SET = 31,   /* what was given is not a valid map set */
+    IONEX_NO_MAP_SET = 31,   /* what was given is not a valid map set. Writing looks at all of it; asking at header,
+                              * texts, lengths of the areas, epochs and marks only */
 
     /* A small area of the call's own is too short. Told first, in this order, before anything else is looked at,
      * and then nothing is written. */
@@ -74,16 +90,18 @@ enum ionex_answer {
  *   epochs      uint64_t  n                 seconds from 1900-01-01 00:00:00
  *   marks       uint8_t   n                 which maps stand beside TEC map i: 1 RMS, 2 height, 3 both, 0 neither
  *
- * A value v under exponent k is v * 10^k TECU (TEC, RMS) or kilometres (height); 9999 says that there is none. A missing
- * RMS or height map holds 9999 everywhere and exponent -1. Areas may be longer than the need: the rest is neither read
- * nor written. Never more than 2,000,000 values of each kind, 6,000,000 exponents, 300 epochs and 300 marks are needed.
+ * A value v under exponent k is v * 10^k TECU (TEC, RMS) or kilometres (height); IONEX_ABSENT says that there is none. A
+ * missing RMS or height map holds IONEX_ABSENT everywhere and exponent -1. Areas may be longer than the need: the rest is
+ * neither read nor written. Never more than 2,000,000 values of each kind, 6,000,000 exponents, 300 epochs and 300 marks
+ * are needed.
  */
+#define IONEX_ABSENT 9999
 
 /* Places in the header, IONEX_HEADER numbers. Tenths: 87.5 degrees are 875. */
 enum ionex_header {
     IONEX_VERSION = 0,     /* in tenths: 11 */
     IONEX_TYPE = 1,        /* the byte 'I', 73 */
-    IONEX_CODE = 2,        /* 0 BEN, 1 ENV, 2 ERS, 3 GEO, 4 GNS, 5 IRI, 6 MIX, 7 NNS, 8 TOP */
+    IONEX_CODE = 2,        /* the system or model that the maps are from, of enum ionex_code */
     IONEX_FIRST_EPOCH = 3, /* EPOCH OF FIRST MAP, seconds from 1900-01-01 00:00:00 */
     IONEX_LAST_EPOCH = 4,  /* EPOCH OF LAST MAP */
     IONEX_INTERVAL = 5,    /* seconds, 0 to 21,600; 0 says that it varies */
@@ -93,7 +111,7 @@ enum ionex_header {
     IONEX_DIMENSION = 9,   /* MAP DIMENSION, 2 or 3 */
     IONEX_HGT1 = 10,       /* heights of the layers, tenths of a kilometre: first, */
     IONEX_HGT2 = 11,       /* last */
-    IONEX_DHGT = 12,       /* and step; 0 in dimension 2, where L is 1 */
+    IONEX_DHGT = 12,       /* and step; L is (HGT2 - HGT1) / DHGT + 1, and 1 in dimension 2, where DHGT is 0 */
     IONEX_LAT1 = 13,       /* latitudes of the rows, tenths of a degree: first, */
     IONEX_LAT2 = 14,       /* last */
     IONEX_DLAT = 15,       /* and step, often negative; R is (LAT2 - LAT1) / DLAT + 1 */
@@ -102,7 +120,7 @@ enum ionex_header {
     IONEX_DLON = 18,       /* and step; C is (LON2 - LON1) / DLON + 1 */
 
     /* Optional records. A flag says whether the record stands: a reading gives 0 or 1, a call takes any number but 0
-     * for yes. The numbers of a record that does not stand are 0. */
+     * for yes. The numbers of a record that does not stand are 0, and a call that is given others answers 31. */
     IONEX_HAS_STATIONS = 19,
     IONEX_STATIONS = 20, /* # OF STATIONS */
     IONEX_HAS_SATELLITES = 21,
@@ -110,6 +128,18 @@ enum ionex_header {
     IONEX_SYSTEMS = 23,    /* SYS / #STA / #SAT of G R E C J I S: three numbers each, see below */
 
     IONEX_HEADER = 44 /* how many numbers there are */
+};
+
+enum ionex_code {
+    IONEX_BEN = 0,
+    IONEX_ENV = 1,
+    IONEX_ERS = 2,
+    IONEX_GEO = 3,
+    IONEX_GNS = 4,
+    IONEX_IRI = 5,
+    IONEX_MIX = 6,
+    IONEX_NNS = 7,
+    IONEX_TOP = 8
 };
 
 /* For the j-th letter of G R E C J I S (j from 0): whether its SYS record stands, its stations, its satellites. */
@@ -149,7 +179,8 @@ uint64_t ionex_read(const uint8_t *text, size_t text_len,
                     uint64_t *place, size_t place_len); /* 2 numbers, else 103 */
 
 /*
- * Writes a map set as canonical text: the one text that says the same in a fixed order and spacing.
+ * Writes a map set as canonical text: the one text that says the same in a fixed order and spacing. What a reading skips
+ * is not in it: DESCRIPTION and COMMENT records and aux blocks.
  *
  *   0    count[0] bytes of text stand in front of out; the bytes behind them are as found.
  *   30   out is too short; count[0] is the bytes needed.
@@ -190,6 +221,8 @@ enum ionex_method {
  *              the column after the last is the first, so that no longitude is outside; else x beyond LON2 is
  *   layer      counted from 0
  *   second     seconds from 1900-01-01 00:00:00
+ *
+ * A node whose weight is zero is not needed, and its value is not looked at.
  *
  *   0                        value[0] is the answer: thousandths of a TECU (TEC, RMS) or of a kilometre (height).
  *   23, 31, 24, 20, 21, 22   refused, told in this order; value is as found.

@@ -48,7 +48,7 @@ int main(int argc, char **argv)
     must(place[0] == 1 && place[1] == 8, "area and need");
     must(ionex_read(text, length, AREA(tec), AREA(rms), AREA(height), AREA(exponents), AREA(epochs), AREA(marks),
                     AREA(header), AREA(texts), AREA(place)) == IONEX_DONE, "reading");
-    must(header[IONEX_VERSION] == 11 && header[IONEX_TYPE] == 'I' && header[IONEX_CODE] == 6, "version, type, code");
+    must(header[IONEX_VERSION] == 11 && header[IONEX_TYPE] == 'I' && header[IONEX_CODE] == IONEX_MIX, "version, type, code");
     must(header[IONEX_FIRST_EPOCH] == 3155673599 && header[IONEX_LAST_EPOCH] == 3155673600, "epochs of the header");
     must(header[IONEX_INTERVAL] == 0 && header[IONEX_MAPS] == 2, "interval and maps");
     must(header[IONEX_CUTOFF] == 0 && header[IONEX_RADIUS] == 63710 && header[IONEX_DIMENSION] == 2, "radius");
@@ -73,7 +73,25 @@ int main(int argc, char **argv)
     must(ask(IONEX_KIND_HEIGHT) == IONEX_DONE && value[0] == 50, "height asked for");
     must(ask(IONEX_KIND_RMS) == IONEX_NO_VALUE && value[0] == 50, "no RMS value");
 
+    must(tec[3] == IONEX_ABSENT && rms[0] == IONEX_ABSENT, "no value, and no map");
+    int32_t node = tec[1];
+    tec[1] = 100000;
+    must(ionex_write(SET, AREA(out), AREA(count)) == IONEX_NO_MAP_SET, "writing looks at every value");
+    must(ask(IONEX_KIND_TEC) == IONEX_DONE && value[0] == 10, "asking looks at the needed node alone");
+    tec[1] = node;
+    marks[0] = 0;
+    must(ask(IONEX_KIND_HEIGHT) == IONEX_NO_VALUE, "a kind without a map");
+    marks[0] = 2;
+    header[IONEX_SATELLITES] = 1;
+    must(ionex_write(SET, AREA(out), AREA(count)) == IONEX_NO_MAP_SET, "a number without its record, written");
+    must(ask(IONEX_KIND_TEC) == IONEX_NO_MAP_SET, "a number without its record, asked");
+    header[IONEX_SATELLITES] = 0;
+    texts[IONEX_DATE] = 127;
+    must(ask(IONEX_KIND_TEC) == IONEX_NO_MAP_SET, "asking looks at the texts");
+    texts[IONEX_DATE] = ' ';
+
     uint64_t moved[1] = {9};
+    must(ionex_moved(IONEX_UNIX_ZERO, 315964800, AREA(moved)) == IONEX_DONE && moved[0] == IONEX_GPS_ZERO, "GPS zero");
     must(ionex_moved(epochs[0], 1, AREA(moved)) == IONEX_DONE && moved[0] == epochs[1], "an epoch moved");
     must(ionex_moved(0, -1, AREA(moved)) == IONEX_OUT_OF_RANGE && moved[0] == epochs[1], "before 1900");
 

@@ -1,0 +1,33 @@
+//! The commands, one to a module.
+
+pub mod ask;
+pub mod canon;
+pub mod check;
+pub mod info;
+pub mod plot;
+
+use crate::args::{Args, Options};
+use crate::output::Output;
+use crate::status::{Status, Stop};
+
+pub struct Command {
+    pub name: &'static str,
+    /// What it does, in a line.
+    pub does: &'static str,
+    pub help: &'static str,
+    pub options: Options,
+    pub run: fn(&Args, &mut Output) -> Result<Status, Stop>,
+}
+
+/// Every command, in the order of the help. A new one is a row here and a module of its own.
+pub const COMMANDS: [&Command; 5] = [
+    &check::COMMAND,
+    &info::COMMAND,
+    &canon::COMMAND,
+    &ask::COMMAND,
+    &plot::COMMAND,
+];
+
+pub fn find(name: &str) -> Option<&'static Command> {
+    COMMANDS.into_iter().find(|command| command.name == name)
+}

@@ -1,0 +1,46 @@
+//! A refused text: one line as compilers print it, the line of the text, and what was expected there.
+
+use crate::explain::{explain, show};
+use crate::json::{array, string, Object};
+use crate::output::Style;
+use crate::status::Stop;
+use ionex::{MapSet, Refusal};
+
+/// For people, without the last line end.
+pub fn words(name: &str, text: &[u8], refusal: &Refusal, style: Style) -> String {
+    let (number, line, column) = place(refusal);
+    let explanation = explain(text, number, line, column);
+    let place = style.bold(&format!("{name}:{line}:{column}:"));
+    let refused = style.red(&format!("refused {number}:"));
+    let below = show(text, &explanation, style);
+    format!("{place} {refused} {}\n{below}", refusal.meaning())
+}
+
+/// For machines.
+pub fn json(name: &str, text: &[u8], refusal: &Refusal) -> Object {
+    let (number, line, column) = place(refusal);
+    let explanation = explain(text, number, line, column);
+    Object::new()
+        .text("file", name)
+        .text("status", "refused")
+        .raw("number", number)
+        .raw("line", line)
+        .raw("column", column)
+        .text("reason", refusal.meaning())
+        .text("expected", &explanation.expected)
+        .raw(
+            "hints",
+            array(explanation.hints.iter().map(|hint| string(hint))),
+        )
+}
+
+fn place(refusal: &Refusal) -> (u64, u64, u64) {
+    let [line, column] = [refusal.line(), refusal.column()].map(|part| part.unwrap_or(0));
+    (refusal.number(), line, column)
+}
+
+/// A map set, or the words of its refusal.
+pub fn read(name: &str, text: &[u8]) -> Result<MapSet, Stop> {
+    MapSet::read(text)
+        .map_err(|refusal| Stop::Refused(words(name, text, &refusal, Style::of_errors())))
+}

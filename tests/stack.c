@@ -1,0 +1,94 @@
+/* How much stack the calls take, against what include/ionex.h says: each is run on a stack that was painted before. Given
+ * texts; those that are accepted are written and asked too. */
+#define _GNU_SOURCE
+#include "ionex.h"
+#include <stdio.h>
+#include <stdlib.h>
+#include <string.h>
+#include <ucontext.h>
+
+#define AREA(a) a, sizeof a / sizeof a[0]
+#define SET AREA(header), AREA(texts), AREA(tec), AREA(rms), AREA(height), AREA(exponents), AREA(epochs), AREA(marks)
+#define PAINT 0xA5
+
+static int32_t tec[2000000], rms[2000000], height[2000000], exponents[6000000], value[1];
+static uint64_t epochs[300], place[2], count[1], moved[1], method;
+static uint8_t text[1 << 24], out[1 << 24], marks[300], texts[IONEX_TEXTS];
+static int64_t header[IONEX_HEADER];
+static size_t length;
+static uint64_t answer;
+
+static uint8_t stack[1 << 18];
+static ucontext_t back, there;
+
+static void reading(void)
+{
+    answer = ionex_read(text, length, AREA(tec), AREA(rms), AREA(height), AREA(exponents), AREA(epochs), AREA(marks),
+                        AREA(header), AREA(texts), AREA(place));
+}
+
+static void writing(void) { ionex_write(SET, AREA(out), AREA(count)); }
+
+static void asking(void)
+{
+    int32_t lat = (int32_t)(10 * header[IONEX_LAT1] + 3 * header[IONEX_DLAT]);
+    int32_t lon = (int32_t)(10 * header[IONEX_LON1] + 3 * header[IONEX_DLON]);
+    ionex_ask(SET, IONEX_KIND_TEC, method, 0, lat, lon, epochs[0] + 1, AREA(value));
+}
+
+static void moving(void) { ionex_moved(epochs[0], 1, AREA(moved)); }
+static void nothing(void) {}
+
+/* The bytes of stack that a call changed. */
+static size_t taken(void (*call)(void))
+{
+    memset(stack, PAINT, sizeof stack);
+    getcontext(&there);
+    there.uc_stack.ss_sp = stack;
+    there.uc_stack.ss_size = sizeof stack;
+    there.uc_link = &back;
+    makecontext(&there, call, 0);
+    swapcontext(&back, &there);
+    size_t clean = 0;
+    while (clean < sizeof stack && stack[clean] == PAINT)
+        clean++;
+    return sizeof stack - clean;
+}
+
+static int wrong;
+
+/* Compares the most that a call took, less what an empty one takes, with what the header file allows. */
+static void judge(const char *name, void (*call)(void), size_t allowed, size_t *most)
+{
+    size_t bytes = taken(call) - taken(nothing);
+    if (bytes > *most)
+        *most = bytes;
+    if (bytes >= allowed) {
+        printf("%s took %zu bytes of stack, and less than %zu are told\n", name, bytes, allowed);
+        wrong = 1;
+    }
+}
+
+int main(int argc, char **argv)
+{
+    size_t most[4] = {0};
+    int accepted = 0;
+    /* Found by the loader at their first call, which takes stack of its own. */
+    memcpy(out, text, (size_t)argc);
+    for (int i = 1; i < argc; i++) {
+        FILE *file = fopen(argv[i], "rb");
+        length = file ? fread(text, 1, sizeof text, file) : 0;
+        if (!file || fclose(file) != 0)
+            return 2;
+        judge("reading", reading, 16384, &most[0]);
+        if (answer != IONEX_DONE)
+            continue;
+        accepted++;
+        judge("writing", writing, 4096, &most[1]);
+        for (method = 0; method <= 4; method++)
+            judge("asking", asking, 4096, &most[2]);
+        judge("moving", moving, 4096, &most[3]);
+    }
+    printf("reading %zu, writing %zu, asking %zu, moving %zu bytes of stack at most\n", most[0], most[1], most[2], most[3]);
+    return wrong || !accepted;
+}
