@@ -13,8 +13,8 @@
  *     a text that is read, a map set that is asked or written.
  * Everything else may be anything at all: every text, number and length has an answer.
  *
- * STACK. Reading takes less than 16 KiB, each other call less than 4 KiB, whatever it is given: none calls itself. Nothing
- * is allocated; of the C library memcpy and memset are called, no more.
+ * STACK. Reading, and ionex_needs, takes less than 16 KiB, each other call less than 4 KiB, whatever it is given: none
+ * calls itself. Nothing is allocated; of the C library memcpy and memset are called, no more.
  *
  * TIME. Every epoch is in seconds from 1900-01-01 00:00:00, in universal time (UT) as document 001 has its maps, and
  * each day has 86,400 seconds. A clock in GPS time runs ahead of it by the leap seconds that have come since 1980, 18
