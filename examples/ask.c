@@ -191,30 +191,22 @@ static void *area(size_t elements, size_t size)
     return made;
 }
 
-/* Makes area 1 to 6 anew, with as many elements as it needs. */
-static void make_area(struct maps *m, uint64_t which, uint64_t need)
-{
-    size_t length = (size_t)need;
-    switch (which) {
-    case 1: free(m->tec); m->tec = area(m->tec_len = length, sizeof *m->tec); break;
-    case 2: free(m->rms); m->rms = area(m->rms_len = length, sizeof *m->rms); break;
-    case 3: free(m->height); m->height = area(m->height_len = length, sizeof *m->height); break;
-    case 4: free(m->exponents); m->exponents = area(m->exponents_len = length, sizeof *m->exponents); break;
-    case 5: free(m->epochs); m->epochs = area(m->epochs_len = length, sizeof *m->epochs); break;
-    case 6: free(m->marks); m->marks = area(m->marks_len = length, sizeof *m->marks); break;
-    }
-}
-
-/* Reads a text. The first readings tell what the areas need (11), the last one fills them. */
+/* Makes areas as long as the text needs, and reads it into them. */
 static int read_maps(const uint8_t *text, size_t length, struct maps *m)
 {
-    uint64_t answer, place[2];
-    for (uint64_t which = 1; which <= 6; which++)
-        make_area(m, which, 0);
-    while ((answer = ionex_read(text, length, m->tec, m->tec_len, m->rms, m->rms_len, m->height, m->height_len,
-                                m->exponents, m->exponents_len, m->epochs, m->epochs_len, m->marks, m->marks_len,
-                                m->header, IONEX_HEADER, m->texts, IONEX_TEXTS, place, 2)) == IONEX_SHORT_AREA)
-        make_area(m, place[0], place[1]);
+    uint64_t needs[IONEX_NEEDS], place[2];
+    uint64_t answer = ionex_needs(text, length, needs, IONEX_NEEDS, place, 2);
+    if (answer != IONEX_DONE)
+        return refused(answer, place);
+    m->tec = area(m->tec_len = needs[IONEX_NEEDS_TEC], sizeof *m->tec);
+    m->rms = area(m->rms_len = needs[IONEX_NEEDS_RMS], sizeof *m->rms);
+    m->height = area(m->height_len = needs[IONEX_NEEDS_HEIGHT], sizeof *m->height);
+    m->exponents = area(m->exponents_len = needs[IONEX_NEEDS_EXPONENTS], sizeof *m->exponents);
+    m->epochs = area(m->epochs_len = needs[IONEX_NEEDS_EPOCHS], sizeof *m->epochs);
+    m->marks = area(m->marks_len = needs[IONEX_NEEDS_MARKS], sizeof *m->marks);
+    answer = ionex_read(text, length, m->tec, m->tec_len, m->rms, m->rms_len, m->height, m->height_len, m->exponents,
+                        m->exponents_len, m->epochs, m->epochs_len, m->marks, m->marks_len, m->header, IONEX_HEADER,
+                        m->texts, IONEX_TEXTS, place, 2);
     return answer == IONEX_DONE ? 0 : refused(answer, place);
 }
 

@@ -13,8 +13,8 @@
  *     a text that is read, a map set that is asked or written.
  * Everything else may be anything at all: every text, number and length has an answer.
  *
- * STACK. Reading takes less than 16 KiB, each other call less than 4 KiB, whatever it is given: none calls itself. Nothing
- * is allocated; of the C library memcpy and memset are called, no more.
+ * STACK. Reading, and ionex_needs, takes less than 16 KiB, each other call less than 4 KiB, whatever it is given: none
+ * calls itself. Nothing is allocated; of the C library memcpy and memset are called, no more.
  *
  * TIME. Every epoch is in seconds from 1900-01-01 00:00:00, in universal time (UT) as document 001 has its maps, and
  * each day has 86,400 seconds. A clock in GPS time runs ahead of it by the leap seconds that have come since 1980, 18
@@ -75,7 +75,7 @@ enum ionex_answer {
      * and then nothing is written. */
     IONEX_SHORT_HEADER = 101, /* fewer than IONEX_HEADER numbers of header */
     IONEX_SHORT_TEXTS = 102,  /* fewer than IONEX_TEXTS bytes of texts */
-    IONEX_SHORT_RESULT = 103  /* no room for place, count, value or moved */
+    IONEX_SHORT_RESULT = 103  /* no room for place, needs, count, value or moved */
 };
 
 /*
@@ -163,7 +163,7 @@ enum ionex_texts {
  *   0         the map set stands in front of the six areas, of header and of texts; place is as found.
  *   1 to 10   the text is refused; place says where.
  *   11        an area is too short; place says which, and what it needs. 11 is told only where nothing else is wrong,
- *             so a reading with areas of length 0 tells the need of the first.
+ *             so a reading with areas of length 0 tells the need of the first; ionex_needs tells all six.
  *
  * After a refusal header, texts and all six areas are as they were found, byte for byte.
  */
@@ -177,6 +177,29 @@ uint64_t ionex_read(const uint8_t *text, size_t text_len,
                     int64_t *header, size_t header_len, /* IONEX_HEADER numbers, else 101 */
                     uint8_t *texts, size_t texts_len,   /* IONEX_TEXTS bytes, else 102 */
                     uint64_t *place, size_t place_len); /* 2 numbers, else 103 */
+
+/* Places in what ionex_needs tells: the elements that each area needs, IONEX_NEEDS numbers. */
+enum ionex_need {
+    IONEX_NEEDS_TEC = 0,
+    IONEX_NEEDS_RMS = 1,
+    IONEX_NEEDS_HEIGHT = 2,
+    IONEX_NEEDS_EXPONENTS = 3,
+    IONEX_NEEDS_EPOCHS = 4,
+    IONEX_NEEDS_MARKS = 5,
+    IONEX_NEEDS = 6 /* how many numbers there are */
+};
+
+/*
+ * Tells what each of the six areas needs for an IONEX text, before any of them is lent. It goes over the text once, as
+ * ionex_read does before it writes.
+ *
+ *   0         the six needs stand in front of needs; place is as found. With areas of at least these lengths ionex_read
+ *             accepts this text: it never answers 11 then.
+ *   1 to 10   the text is refused, as ionex_read refuses it whatever is lent; place says where, needs is as found.
+ */
+uint64_t ionex_needs(const uint8_t *text, size_t text_len,
+                     uint64_t *needs, size_t needs_len,  /* IONEX_NEEDS numbers, else 103 */
+                     uint64_t *place, size_t place_len); /* 2 numbers, else 103 */
 
 /*
  * Writes a map set as canonical text: the one text that says the same in a fixed order and spacing. What a reading skips

@@ -2,7 +2,7 @@
  * after another from standard input and answers each on standard output. src/bridge.rs is the other end.
  *
  * A call is a struct call, then its areas. What goes back is the function's answer, then the areas that were lent, as
- * the call left them. -D READ, WRITE, ASK or MOVED: the archive has this function. */
+ * the call left them. -D READ, NEEDS, WRITE, ASK or MOVED: the archive has this function. */
 #include "ionex.h"
 #include <stdio.h>
 #include <stdlib.h>
@@ -10,7 +10,7 @@
 enum { AREAS = 10, NUMBERS = 6 };
 
 /* src/bridge.rs has the same numbers. */
-enum function { FUNCTION_READ, FUNCTION_WRITE, FUNCTION_ASK, FUNCTION_MOVED };
+enum function { FUNCTION_READ, FUNCTION_WRITE, FUNCTION_ASK, FUNCTION_MOVED, FUNCTION_NEEDS };
 
 struct area {
     uint64_t length; /* in elements, as the library is told */
@@ -47,6 +47,10 @@ static uint64_t answer(const struct call *call, void *const *at)
 #ifdef MOVED
     case FUNCTION_MOVED:
         return ionex_moved(N(0), (int64_t)N(1), AREA(0));
+#endif
+#ifdef NEEDS
+    case FUNCTION_NEEDS:
+        return ionex_needs(AREA(0), AREA(1), AREA(2));
 #endif
     default:
         fprintf(stderr, "bridge: no function %d\n", (int)call->function);

@@ -5,7 +5,7 @@ use std::env;
 use std::path::{Path, PathBuf};
 use std::process::Command;
 
-const FUNCTIONS: [&str; 4] = ["READ", "ASK", "MOVED", "WRITE"];
+const FUNCTIONS: [&str; 5] = ["READ", "NEEDS", "ASK", "MOVED", "WRITE"];
 
 fn main() {
     println!("cargo:rerun-if-env-changed=IONEX_LIB");

@@ -6,7 +6,7 @@
 
 static uint8_t text[8192], canonical[8192], out[8192], marks[2], texts[IONEX_TEXTS];
 static int32_t tec[8], rms[8], height[8], exponents[12], value[1];
-static uint64_t epochs[2], place[2], count[1];
+static uint64_t epochs[2], place[2], count[1], needs[IONEX_NEEDS];
 static int64_t header[IONEX_HEADER];
 
 #define AREA(a) a, sizeof a / sizeof a[0]
@@ -46,6 +46,11 @@ int main(int argc, char **argv)
     must(ionex_read(text, length, tec, 7, AREA(rms), AREA(height), AREA(exponents), AREA(epochs), AREA(marks),
                     AREA(header), AREA(texts), AREA(place)) == IONEX_SHORT_AREA, "a short area");
     must(place[0] == 1 && place[1] == 8, "area and need");
+    must(ionex_needs(text, length, AREA(needs), AREA(place)) == IONEX_DONE, "needs of a text");
+    must(needs[IONEX_NEEDS_TEC] == 8 && needs[IONEX_NEEDS_RMS] == 8 && needs[IONEX_NEEDS_HEIGHT] == 8, "values");
+    must(needs[IONEX_NEEDS_EXPONENTS] == 12 && needs[IONEX_NEEDS_EPOCHS] == 2, "exponents and epochs");
+    must(needs[IONEX_NEEDS_MARKS] == 2 && place[0] == 1 && place[1] == 8, "marks, and place as found");
+    must(ionex_needs(text, 0, AREA(needs), AREA(place)) == IONEX_CUT_SHORT && place[0] == 1, "needs of no text");
     must(ionex_read(text, length, AREA(tec), AREA(rms), AREA(height), AREA(exponents), AREA(epochs), AREA(marks),
                     AREA(header), AREA(texts), AREA(place)) == IONEX_DONE, "reading");
     must(header[IONEX_VERSION] == 11 && header[IONEX_TYPE] == 'I' && header[IONEX_CODE] == IONEX_MIX, "version, type, code");

@@ -12,7 +12,7 @@
 #define PAINT 0xA5
 
 static int32_t tec[2000000], rms[2000000], height[2000000], exponents[6000000], value[1];
-static uint64_t epochs[300], place[2], count[1], moved[1], method;
+static uint64_t epochs[300], place[2], needs[IONEX_NEEDS], count[1], moved[1], method;
 static uint8_t text[1 << 24], out[1 << 24], marks[300], texts[IONEX_TEXTS];
 static int64_t header[IONEX_HEADER];
 static size_t length;
@@ -26,6 +26,8 @@ static void reading(void)
     answer = ionex_read(text, length, AREA(tec), AREA(rms), AREA(height), AREA(exponents), AREA(epochs), AREA(marks),
                         AREA(header), AREA(texts), AREA(place));
 }
+
+static void needing(void) { ionex_needs(text, length, AREA(needs), AREA(place)); }
 
 static void writing(void) { ionex_write(SET, AREA(out), AREA(count)); }
 
@@ -71,7 +73,7 @@ static void judge(const char *name, void (*call)(void), size_t allowed, size_t *
 
 int main(int argc, char **argv)
 {
-    size_t most[4] = {0};
+    size_t most[5] = {0};
     int accepted = 0;
     /* Found by the loader at their first call, which takes stack of its own. */
     memcpy(out, text, (size_t)argc);
@@ -80,6 +82,7 @@ int main(int argc, char **argv)
         length = file ? fread(text, 1, sizeof text, file) : 0;
         if (!file || fclose(file) != 0)
             return 2;
+        judge("needs", needing, 16384, &most[4]);
         judge("reading", reading, 16384, &most[0]);
         if (answer != IONEX_DONE)
             continue;
@@ -89,6 +92,7 @@ int main(int argc, char **argv)
             judge("asking", asking, 4096, &most[2]);
         judge("moving", moving, 4096, &most[3]);
     }
-    printf("reading %zu, writing %zu, asking %zu, moving %zu bytes of stack at most\n", most[0], most[1], most[2], most[3]);
+    printf("needs %zu, reading %zu, writing %zu, asking %zu, moving %zu bytes of stack at most\n", most[4], most[0], most[1],
+           most[2], most[3]);
     return wrong || !accepted;
 }

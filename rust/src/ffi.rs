@@ -12,6 +12,10 @@ extern "C" {
         header: *mut i64, header_len: usize, texts: *mut u8, texts_len: usize, place: *mut u64, place_len: usize,
     ) -> u64;
 
+    fn ionex_needs(
+        text: *const u8, text_len: usize, needs: *mut u64, needs_len: usize, place: *mut u64, place_len: usize,
+    ) -> u64;
+
     fn ionex_write(
         header: *const i64, header_len: usize, texts: *const u8, texts_len: usize,
         tec: *const i32, tec_len: usize, rms: *const i32, rms_len: usize, height: *const i32, height_len: usize,
@@ -83,6 +87,14 @@ pub fn read(text: &[u8], lent: Lent, place: &mut [u64]) -> u64 {
             marks.as_mut_ptr(), marks.len(),
             header.as_mut_ptr(), header.len(), texts.as_mut_ptr(), texts.len(), place.as_mut_ptr(), place.len(),
         )
+    }
+}
+
+/// `ionex_needs`.
+#[rustfmt::skip]
+pub fn needs(text: &[u8], needs: &mut [u64], place: &mut [u64]) -> u64 {
+    unsafe {
+        ionex_needs(text.as_ptr(), text.len(), needs.as_mut_ptr(), needs.len(), place.as_mut_ptr(), place.len())
     }
 }
 

@@ -193,6 +193,30 @@ fn areas_are_as_long_as_they_need_to_be() {
 }
 
 #[test]
+fn needs_are_the_lengths_of_what_is_read() {
+    for name in [
+        "accepted-2d-freedoms",
+        "accepted-3d",
+        "accepted-canonical",
+        "001-table-3",
+        "001-table-4",
+    ] {
+        let text = text(&format!("{name}.inx"));
+        let read = MapSet::read(&text).expect("an accepted text").into_areas();
+        let values = [&read.tec, &read.rms, &read.height, &read.exponents].map(Vec::len);
+        let needs = MapSet::needs(&text).expect("an accepted text");
+        assert_eq!(
+            (&needs[..4], needs[4..].to_vec()),
+            (&values[..], vec![read.epochs.len(), read.marks.len()])
+        );
+    }
+    for number in 1..=10 {
+        let damaged = text(&format!("refused-{number:02}.inx"));
+        assert_eq!(MapSet::needs(&damaged).err(), MapSet::read(&damaged).err());
+    }
+}
+
+#[test]
 fn a_refused_text_leaves_the_set_in_use() {
     let mut in_use = accepted("accepted-canonical.inx");
     let before = in_use.clone();

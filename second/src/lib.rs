@@ -24,6 +24,6 @@ pub use ask::{ask, Answer, Question};
 pub use calendar::moved;
 pub use header::{Axis, Count, Header, System, Texts};
 pub use maps::{Areas, View};
-pub use read::{read, Reading};
+pub use read::{needs, read, Reading};
 pub use refusal::Refusal;
 pub use write::write;

@@ -28,6 +28,12 @@ pub fn read(text: &[u8], areas: &mut Areas) -> Reading {
     }
 }
 
+/// Elements that a text needs of each area, or why it is refused: a reading up to
+/// the point where the areas' lengths would be looked at.
+pub fn needs(text: &[u8]) -> Result<[usize; 6], Refusal> {
+    read_all(text).map(|reader| reader.grid.needs(&reader.marks))
+}
+
 /// "Lowest line first": one line after the other, up to the first refusal.
 fn read_all(text: &[u8]) -> Result<Reader, Refusal> {
     let mut reader = Reader::new();

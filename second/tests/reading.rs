@@ -2,7 +2,7 @@
 
 mod common;
 use common::*;
-use second::{read, Axis, Reading, Refusal};
+use second::{needs, read, Axis, Reading, Refusal};
 
 fn place(number: u8, line: usize, column: usize) -> String {
     format!("refused {number} line {line} column {column}")
@@ -87,6 +87,21 @@ fn too_short_areas_in_order() {
         column: 0,
     };
     assert_eq!(answer, Reading::Refused(refusal));
+}
+
+#[test]
+fn needs_of_a_text() {
+    assert_eq!(needs(&join(&base())), Ok([12, 12, 0, 12, 2, 2]));
+    let mut without_rms = base();
+    without_rms.drain(29..35);
+    assert_eq!(needs(&join(&without_rms)), Ok([12, 0, 0, 12, 2, 2]));
+    // Refused as a reading is, whatever is lent.
+    for text in [join(&without(36)), join(&with(5, "x")), Vec::new()] {
+        let Reading::Refused(refusal) = read(&text, &mut Own::new([0; 6]).lent()) else {
+            panic!("accepted");
+        };
+        assert_eq!(needs(&text), Err(refusal));
+    }
 }
 
 #[test]

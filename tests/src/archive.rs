@@ -7,8 +7,9 @@ pub use crate::bridge::Archive;
 pub use crate::c::Archive;
 
 /// Each function of the boundary, and whether it comes from the archive.
-pub const FUNCTIONS: [(&str, bool); 4] = [
+pub const FUNCTIONS: [(&str, bool); 5] = [
     ("ionex_read", cfg!(feature = "read")),
+    ("ionex_needs", cfg!(feature = "needs")),
     ("ionex_ask", cfg!(feature = "ask")),
     ("ionex_moved", cfg!(feature = "moved")),
     ("ionex_write", cfg!(feature = "write")),

@@ -37,9 +37,13 @@ pub struct Lent {
     pub place: Vec<u64>,
 }
 
-/// The four functions. Each answers with 0, a refusal's number, or 101 to 103.
+/// How many needs there are.
+pub const NEEDS: usize = 6;
+
+/// The functions. Each answers with 0, a refusal's number, or 101 to 103.
 pub trait Boundary {
     fn read(&self, text: &[u8], lent: &mut Lent) -> u64;
+    fn needs(&self, text: &[u8], needs: &mut [u64], place: &mut [u64]) -> u64;
     fn write(&self, given: &Given, out: &mut [u8], count: &mut [u64]) -> u64;
     fn ask(&self, given: &Given, asked: &Asked, value: &mut [i32]) -> u64;
     fn moved(&self, epoch: u64, by: i64, moved: &mut [u64]) -> u64;
@@ -184,6 +188,10 @@ impl Boundary for Plain {
         number(read(text, lent))
     }
 
+    fn needs(&self, text: &[u8], needs: &mut [u64], place: &mut [u64]) -> u64 {
+        number(measure(text, needs, place))
+    }
+
     fn write(&self, given: &Given, out: &mut [u8], count: &mut [u64]) -> u64 {
         number(write(given, out, count))
     }
@@ -205,15 +213,31 @@ fn read(text: &[u8], lent: &mut Lent) -> Result<(), u64> {
             lent.texts[..TEXTS].copy_from_slice(&bytes_of(&texts));
             Ok(())
         }
-        Reading::Refused(refusal) => {
-            let place = match refusal {
-                Refusal::Place { line, column, .. } => [line, column],
-                Refusal::Area { area, need } => [u64::from(area), need],
-                other => panic!("{other} is no refusal of reading"),
-            };
-            lent.place[..2].copy_from_slice(&place);
-            Err(u64::from(refusal.number()))
+        Reading::Refused(refusal) => refused(refusal, &mut lent.place),
+    }
+}
+
+/// A refusal of reading: its number, and its place in front of a lent area.
+fn refused(refusal: Refusal, place: &mut [u64]) -> Result<(), u64> {
+    let found = match refusal {
+        Refusal::Place { line, column, .. } => [line, column],
+        Refusal::Area { area, need } => [u64::from(area), need],
+        other => panic!("{other} is no refusal of reading"),
+    };
+    place[..2].copy_from_slice(&found);
+    Err(u64::from(refusal.number()))
+}
+
+fn measure(text: &[u8], needs: &mut [u64], place: &mut [u64]) -> Result<(), u64> {
+    if needs.len() < NEEDS || place.len() < 2 {
+        return Err(103);
+    }
+    match second::needs(text) {
+        Ok(found) => {
+            needs[..NEEDS].copy_from_slice(&found.map(|need| need as u64));
+            Ok(())
         }
+        Err(refusal) => refused(refusal, place),
     }
 }
 

@@ -13,6 +13,7 @@ const READ: u64 = 0;
 const WRITE: u64 = 1;
 const ASK: u64 = 2;
 const MOVED: u64 = 3;
+const NEEDS: u64 = 4;
 const NUMBERS: usize = 6;
 const AREAS: usize = 10;
 
@@ -40,6 +41,17 @@ impl Boundary for Archive {
         call.lend(&mut lent.header);
         call.lend(&mut lent.texts);
         call.lend(&mut lent.place);
+        call.answer()
+    }
+
+    fn needs(&self, text: &[u8], needs: &mut [u64], place: &mut [u64]) -> u64 {
+        if !cfg!(feature = "needs") {
+            return Plain.needs(text, needs, place);
+        }
+        let mut call = Call::new(NEEDS, &[]);
+        call.give(text);
+        call.lend(needs);
+        call.lend(place);
         call.answer()
     }
 

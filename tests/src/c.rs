@@ -15,6 +15,11 @@ extern "C" {
         header: *mut i64, header_len: usize, texts: *mut u8, texts_len: usize, place: *mut u64, place_len: usize,
     ) -> u64;
 
+    #[cfg(feature = "needs")]
+    fn ionex_needs(
+        text: *const u8, text_len: usize, needs: *mut u64, needs_len: usize, place: *mut u64, place_len: usize,
+    ) -> u64;
+
     #[cfg(feature = "write")]
     fn ionex_write(
         header: *const i64, header_len: usize, texts: *const u8, texts_len: usize,
@@ -58,6 +63,15 @@ impl Boundary for Archive {
         }
     }
 
+    #[cfg(feature = "needs")]
+    fn needs(&self, text: &[u8], needs: &mut [u64], place: &mut [u64]) -> u64 {
+        unsafe {
+            ionex_needs(
+                text.as_ptr(), text.len(), needs.as_mut_ptr(), needs.len(), place.as_mut_ptr(), place.len(),
+            )
+        }
+    }
+
     #[cfg(feature = "write")]
     fn write(&self, given: &Given, out: &mut [u8], count: &mut [u64]) -> u64 {
         let Given { header, texts, areas: a } = given;
@@ -97,6 +111,11 @@ impl Boundary for Archive {
     #[cfg(not(feature = "read"))]
     fn read(&self, text: &[u8], lent: &mut Lent) -> u64 {
         crate::boundary::Plain.read(text, lent)
+    }
+
+    #[cfg(not(feature = "needs"))]
+    fn needs(&self, text: &[u8], needs: &mut [u64], place: &mut [u64]) -> u64 {
+        crate::boundary::Plain.needs(text, needs, place)
     }
 
     #[cfg(not(feature = "write"))]

@@ -1,7 +1,7 @@
 //! Seeded calls at the C boundary: own areas of every length, rubbish behind what is needed, and numbers that no field
 //! can hold. Everything lent is compared byte for byte afterwards.
 
-use crate::boundary::{self, Asked, Boundary, Given, Lent, Plain, FLAGS, HEADER, TEXTS};
+use crate::boundary::{self, Asked, Boundary, Given, Lent, Plain, FLAGS, HEADER, NEEDS, TEXTS};
 use crate::check::{leave_file, Tally, OFTEN, SHOWN};
 use crate::jobs::{self, Job};
 use crate::rng::Rng;
@@ -15,6 +15,11 @@ pub enum Call {
     Read {
         text: Vec<u8>,
         lent: Lent,
+    },
+    Needs {
+        text: Vec<u8>,
+        needs: Vec<u64>,
+        place: Vec<u64>,
     },
     Write {
         given: Given,
@@ -37,6 +42,7 @@ impl Call {
     fn name(&self) -> &'static str {
         match self {
             Call::Read { .. } => "read",
+            Call::Needs { .. } => "needs",
             Call::Write { .. } => "write",
             Call::Ask { .. } => "ask",
             Call::Move { .. } => "moved",
@@ -47,6 +53,7 @@ impl Call {
 fn perform(boundary: &dyn Boundary, call: &mut Call) -> u64 {
     match call {
         Call::Read { text, lent } => boundary.read(text, lent),
+        Call::Needs { text, needs, place } => boundary.needs(text, needs, place),
         Call::Write { given, out, count } => boundary.write(given, out, count),
         Call::Ask {
             given,
@@ -91,6 +98,11 @@ fn call(rng: &mut Rng, job: Job) -> Call {
                 texts: words(rng, TEXTS).iter().map(|&w| w as u8).collect(),
                 place: words(rng, 2),
             },
+        },
+        Job::Needs { text, .. } => Call::Needs {
+            text,
+            needs: words(rng, NEEDS),
+            place: words(rng, 2),
         },
         Job::Write { set, out, .. } => Call::Write {
             given: given(rng, &set),
@@ -180,6 +192,17 @@ fn difference(a: (u64, &Call), b: (u64, &Call)) -> Option<String> {
             part("place", &left.place, &right.place),
         ],
         (
+            Call::Needs { needs, place, .. },
+            Call::Needs {
+                needs: other_needs,
+                place: other_place,
+                ..
+            },
+        ) => vec![
+            part("needs", needs, other_needs),
+            part("place", place, other_place),
+        ],
+        (
             Call::Write { out, count, .. },
             Call::Write {
                 out: other_out,
@@ -247,7 +270,9 @@ pub fn compare(other: &dyn Boundary, count: u64, seed: u64) -> Tally {
 
 fn leave(seed: u64, k: usize, call: &Call) {
     match call {
-        Call::Read { text, .. } => leave_file(&format!("{seed}-call-{k}.inx"), text),
+        Call::Read { text, .. } | Call::Needs { text, .. } => {
+            leave_file(&format!("{seed}-call-{k}.inx"), text)
+        }
         _ => leave_file(
             &format!("{seed}-call-{k}.txt"),
             format!("{call:#?}\n").as_bytes(),
@@ -260,6 +285,7 @@ fn expected_often() -> Vec<(&'static str, u64)> {
     let mut rows = Vec::new();
     let mut add = |name, answers: &[u64]| rows.extend(answers.iter().map(|&answer| (name, answer)));
     add("read", &[0, 6, 8, 11, 101, 102, 103]);
+    add("needs", &[0, 6, 8, 103]);
     add("write", &[0, 30, 31, 101, 102, 103]);
     add("ask", &[0, 20, 21, 22, 23, 24, 31, 101, 102, 103]);
     add("moved", &[0, 7, 103]);
@@ -284,6 +310,12 @@ pub enum Fault {
     AskOrder,
     /// Something written after 101 to 103.
     ReadShortWritten,
+    NeedsPlaceWhenDone,
+    NeedsWhenRefused,
+    NeedsTail,
+    NeedsPlaceTail,
+    /// Written although the other area is too short.
+    NeedsShortPlace,
     CountWhenRefused,
     CountTail,
     ValueWhenRefused,
@@ -300,7 +332,7 @@ pub enum Fault {
     AskedNarrow,
 }
 
-pub const FAULTS: [Fault; 22] = [
+pub const FAULTS: [Fault; 27] = [
     Fault::PlaceWhenDone,
     Fault::HeaderWhenRefused,
     Fault::TextsWhenRefused,
@@ -312,6 +344,11 @@ pub const FAULTS: [Fault; 22] = [
     Fault::WriteOrder,
     Fault::AskOrder,
     Fault::ReadShortWritten,
+    Fault::NeedsPlaceWhenDone,
+    Fault::NeedsWhenRefused,
+    Fault::NeedsTail,
+    Fault::NeedsPlaceTail,
+    Fault::NeedsShortPlace,
     Fault::CountWhenRefused,
     Fault::CountTail,
     Fault::ValueWhenRefused,
@@ -369,6 +406,19 @@ impl Boundary for Faulty {
                 }
             }
             (Fault::ReadFlagTwo, 0) => lent.header[19] *= 2,
+            _ => {}
+        }
+        answer
+    }
+
+    fn needs(&self, text: &[u8], needs: &mut [u64], place: &mut [u64]) -> u64 {
+        let answer = Plain.needs(text, needs, place);
+        match (self.0, answer) {
+            (Fault::NeedsPlaceWhenDone, 0) => flip(place, 1),
+            (Fault::NeedsWhenRefused, 1..=10) => flip(needs, 5),
+            (Fault::NeedsTail, 0..=10) => flip(needs, NEEDS),
+            (Fault::NeedsPlaceTail, 0..=10) => flip(place, 2),
+            (Fault::NeedsShortPlace, 103) => flip(needs, 0),
             _ => {}
         }
         answer

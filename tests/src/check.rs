@@ -20,6 +20,7 @@ pub const SHOWN: u64 = 20;
 #[derive(Default)]
 pub struct Counts {
     pub accepted: u64,
+    pub measured: u64,
     pub written: u64,
     /// By method.
     pub answered: [u64; 4],
@@ -29,6 +30,7 @@ pub struct Counts {
     /// Refusals of reading by number, and those after END OF HEADER.
     pub reading: [u64; 12],
     pub deep: [u64; 12],
+    pub measuring: u64,
     pub writing: [u64; 32],
     pub asking: [u64; 32],
     pub moving: u64,
@@ -47,6 +49,8 @@ impl Counts {
                     }
                 }
             }
+            (Job::Needs { .. }, None) => self.measured += 1,
+            (Job::Needs { .. }, Some(_)) => self.measuring += 1,
             (Job::Write { .. }, None) => self.written += 1,
             (Job::Write { .. }, Some(number)) => self.writing[number] += 1,
             (Job::Ask { set, question, .. }, None) => {
@@ -68,6 +72,8 @@ impl Counts {
             let name = format!("refused {number} inside the maps");
             rows.push((name, self.deep[number]));
         }
+        rows.push(("measured".to_string(), self.measured));
+        rows.push(("measuring refused".to_string(), self.measuring));
         rows.push(("written".to_string(), self.written));
         for number in 30..=31 {
             rows.push((format!("writing refused {number}"), self.writing[number]));
@@ -162,7 +168,9 @@ fn over_seeds(count: u64, seed: u64, try_job: impl Fn(&Job) -> (Outcome, Option<
 /// Leaves what a failed job was given.
 fn leave(seed: u64, k: usize, job: &Job) {
     match job {
-        Job::Read { text, .. } => leave_file(&format!("{seed}-{k}.inx"), text),
+        Job::Read { text, .. } | Job::Needs { text, .. } => {
+            leave_file(&format!("{seed}-{k}.inx"), text)
+        }
         _ => leave_file(&format!("{seed}-{k}.txt"), format!("{job:#?}\n").as_bytes()),
     }
 }
@@ -181,6 +189,9 @@ fn judge(library: &dyn Library, job: &Job, outcome: &Outcome) -> Option<String> 
     match (job, outcome) {
         (Job::Read { text, lent, truth }, Outcome::Read { answer, areas }) => {
             judge_reading(library, text, lent, truth, answer, areas)
+        }
+        (Job::Needs { text, truth }, Outcome::Needs(answer)) => {
+            judge_needs(library, text, truth, answer)
         }
         (Job::Write { set, out, known }, Outcome::Write { answer, out: after }) => {
             judge_writing(library, set, out, *known, answer, after)
@@ -281,6 +292,38 @@ fn judge_reading(
             must(*areas == expected, "more than the needs was changed")
                 .or_else(|| round_trip(library, &cut))
         }
+    }
+}
+
+/// With areas of what is needed a text is read, with one element less it is 11; it is refused as its reading is.
+fn judge_needs(
+    library: &dyn Library,
+    text: &[u8],
+    truth: &Option<[usize; 6]>,
+    answer: &Result<[usize; 6], Refusal>,
+) -> Option<String> {
+    let read = |lengths: [usize; 6]| library.read(text, &mut Buffers::filled(lengths, 1));
+    match answer {
+        Err(refusal) => must(truth.is_none(), "a good text is refused").or_else(|| {
+            let same = read([0; 6]) == Reading::Refused(*refusal);
+            must(same && refusal.number() != 11, "not refused as its reading")
+        }),
+        Ok(needs) => must(truth.is_none_or(|truth| truth == *needs), "not the needs")
+            .or_else(|| {
+                let done = matches!(read(*needs), Reading::Accepted { .. });
+                must(done, "not accepted with what it needs")
+            })
+            .or_else(|| {
+                (0..6).filter(|&area| needs[area] > 0).find_map(|area| {
+                    let mut lengths = *needs;
+                    lengths[area] -= 1;
+                    let short = Reading::Refused(Refusal::Area {
+                        area: area as u8 + 1,
+                        need: needs[area] as u64,
+                    });
+                    must(read(lengths) == short, "one less is not 11")
+                })
+            }),
     }
 }
 

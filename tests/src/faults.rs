@@ -49,6 +49,11 @@ pub enum Fault {
     ExponentReset,
     /// A point with no digit after it taken as 0.
     PointAlone,
+    // Needs: one of them, or the place of a refusal.
+    Need(usize),
+    NeedOfNone,
+    NeedsLine,
+    NeedsAccepted,
     // Writing.
     WrittenByte,
     WrittenPast,
@@ -110,6 +115,9 @@ pub fn all() -> Vec<Fault> {
         SatellitesCount,
         ExponentReset,
         PointAlone,
+        NeedOfNone,
+        NeedsLine,
+        NeedsAccepted,
         WrittenByte,
         WrittenPast,
         WrittenLength,
@@ -141,7 +149,7 @@ pub fn all() -> Vec<Fault> {
     }
     faults.extend((0..5).map(Text));
     for k in 0..6 {
-        faults.extend([Area(k), Guard(k), Touched(k)]);
+        faults.extend([Area(k), Guard(k), Touched(k), Need(k)]);
     }
     faults
 }
@@ -184,6 +192,19 @@ impl Library for Faulty {
                 _ => self.refused(areas, refusal),
             },
         }
+    }
+
+    fn needs(&self, text: &[u8]) -> Result<[usize; 6], Refusal> {
+        let mut answer = Second.needs(text);
+        match (self.0, &mut answer) {
+            (Fault::Need(k), Ok(needs)) => needs[k] += 1,
+            // RMS maps taken to be there in every text.
+            (Fault::NeedOfNone, Ok(needs)) => needs[1] = needs[0],
+            (Fault::NeedsLine, Err(Refusal::Place { line, .. })) => *line += 1,
+            (Fault::NeedsAccepted, Err(_)) => return Ok([1; 6]),
+            _ => {}
+        }
+        answer
     }
 
     fn write(&self, set: &MapSet, out: &mut [u8]) -> Result<usize, Refusal> {

@@ -33,6 +33,11 @@ pub enum Job {
         lent: Buffers,
         truth: Truth,
     },
+    /// A text, and what it needs where that is known.
+    Needs {
+        text: Vec<u8>,
+        truth: Option<[usize; 6]>,
+    },
     Write {
         set: Box<MapSet>,
         /// The output as it is lent.
@@ -54,6 +59,7 @@ impl Job {
     pub fn name(&self) -> &'static str {
         match self {
             Job::Read { .. } => "read",
+            Job::Needs { .. } => "needs",
             Job::Write { .. } => "write",
             Job::Ask { .. } => "ask",
             Job::Move { .. } => "move",
@@ -85,7 +91,22 @@ pub fn jobs(seed: u64) -> Vec<Job> {
     for _ in 0..2 {
         jobs.push(move_job(rng));
     }
+    jobs.extend(needs_jobs(&jobs, &set));
     jobs
+}
+
+/// What the first three texts need: the good one, and two that are damaged.
+fn needs_jobs(jobs: &[Job], set: &MapSet) -> Vec<Job> {
+    let text = |job: &Job| match job {
+        Job::Read { text, .. } => Some(text.clone()),
+        _ => None,
+    };
+    let texts = jobs[1..].iter().filter_map(text).take(3);
+    let truths = [Some(set.needs()), None, None];
+    texts
+        .zip(truths)
+        .map(|(text, truth)| Job::Needs { text, truth })
+        .collect()
 }
 
 /// Guard elements behind each need, and rubbish areas for kinds with no map.

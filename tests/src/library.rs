@@ -1,7 +1,7 @@
-//! What is compared: four functions over lent areas.
+//! What is compared: functions over lent areas.
 
 use crate::archive::{Archive, FUNCTIONS};
-use crate::boundary::{self, Boundary, Lent, HEADER, TEXTS};
+use crate::boundary::{self, Boundary, Lent, HEADER, NEEDS, TEXTS};
 use crate::set::{Buffers, MapSet};
 use second::{Answer, Question, Reading, Refusal};
 
@@ -11,6 +11,9 @@ pub trait Library {
 
     /// Reads a text into the areas, whose lengths are the lengths lent.
     fn read(&self, text: &[u8], areas: &mut Buffers) -> Reading;
+
+    /// Elements that a text needs of each area.
+    fn needs(&self, text: &[u8]) -> Result<[usize; 6], Refusal>;
 
     /// Writes to the front of `out` and gives the length of the text.
     fn write(&self, set: &MapSet, out: &mut [u8]) -> Result<usize, Refusal>;
@@ -30,6 +33,10 @@ impl Library for Second {
 
     fn read(&self, text: &[u8], areas: &mut Buffers) -> Reading {
         second::read(text, &mut areas.lent())
+    }
+
+    fn needs(&self, text: &[u8]) -> Result<[usize; 6], Refusal> {
+        second::needs(text)
     }
 
     fn write(&self, set: &MapSet, out: &mut [u8]) -> Result<usize, Refusal> {
@@ -62,7 +69,6 @@ impl<B: Boundary> Library for Behind<B> {
         };
         let answer = self.0.read(text, &mut lent);
         *areas = lent.areas;
-        let [first, second] = [lent.place[0], lent.place[1]];
         match answer {
             0 => {
                 let header = boundary::header_of(&lent.header).expect("a header");
@@ -73,16 +79,19 @@ impl<B: Boundary> Library for Behind<B> {
                     texts: boundary::texts_of(&lent.texts),
                 }
             }
-            1..=10 => Reading::Refused(Refusal::Place {
-                number: answer as u8,
-                line: first,
-                column: second,
-            }),
-            11 => Reading::Refused(Refusal::Area {
-                area: u8::try_from(first).expect("an area"),
-                need: second,
-            }),
-            _ => panic!("reading answered {answer}"),
+            _ => Reading::Refused(refusal(answer, &lent.place)),
+        }
+    }
+
+    fn needs(&self, text: &[u8]) -> Result<[usize; 6], Refusal> {
+        let mut needs = [u64::MAX; NEEDS];
+        let mut place = [0; 2];
+        match self.0.needs(text, &mut needs, &mut place) {
+            0 => Ok(needs.map(|need| need as usize)),
+            answer => {
+                assert_eq!(needs, [u64::MAX; NEEDS], "a refusal tells no needs");
+                Err(refusal(answer, &place))
+            }
         }
     }
 
@@ -111,6 +120,22 @@ impl<B: Boundary> Library for Behind<B> {
             0 => Ok(moved[0]),
             answer => Err(bare(answer)),
         }
+    }
+}
+
+/// A refusal of reading, from its number and place.
+fn refusal(answer: u64, place: &[u64]) -> Refusal {
+    match answer {
+        1..=10 => Refusal::Place {
+            number: answer as u8,
+            line: place[0],
+            column: place[1],
+        },
+        11 => Refusal::Area {
+            area: u8::try_from(place[0]).expect("an area"),
+            need: place[1],
+        },
+        _ => panic!("reading answered {answer}"),
     }
 }
 

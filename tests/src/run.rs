@@ -14,6 +14,7 @@ pub enum Outcome {
         /// All six areas afterwards, with their guard elements.
         areas: Buffers,
     },
+    Needs(Result<[usize; 6], Refusal>),
     Write {
         answer: Result<usize, Refusal>,
         /// The whole output afterwards.
@@ -32,6 +33,7 @@ impl Outcome {
                 answer: Reading::Refused(refusal),
                 ..
             } => Some(*refusal),
+            Outcome::Needs(answer) => answer.err(),
             Outcome::Write { answer, .. } => answer.err(),
             Outcome::Ask(answer) => answer.err(),
             Outcome::Move(answer) => answer.err(),
@@ -51,6 +53,7 @@ fn attempt(library: &dyn Library, job: &Job) -> Outcome {
             let answer = library.read(text, &mut areas);
             Outcome::Read { answer, areas }
         }
+        Job::Needs { text, .. } => Outcome::Needs(library.needs(text)),
         Job::Write { set, out, .. } => {
             let mut out = out.clone();
             let answer = library.write(set, &mut out);
@@ -85,6 +88,7 @@ pub fn difference(a: &Outcome, b: &Outcome) -> Option<String> {
             },
         ) => unequal("answer of writing", first, second)
             .or_else(|| (left != right).then(|| place("output", left, right))),
+        (Outcome::Needs(first), Outcome::Needs(second)) => unequal("needs", first, second),
         (Outcome::Ask(first), Outcome::Ask(second)) => unequal("value asked", first, second),
         (Outcome::Move(first), Outcome::Move(second)) => unequal("moved epoch", first, second),
         _ => Some(format!("one of the two failed: {a:?} {b:?}")),

@@ -237,6 +237,28 @@ fn lengths_of_the_six_areas() {
     }
 }
 
+/// All six needs at once; a refusal, and an area too short, leave them as they were.
+#[test]
+fn needs_of_a_text() {
+    let text = text();
+    let expected = needs(&set().header).map(|need| need as u64);
+    let mut found = [7_777; 8];
+    let mut place = [8_888; 3];
+    assert_eq!(Archive.needs(&text, &mut found, &mut place), 0);
+    assert_eq!((&found[..6], &found[6..]), (&expected[..], &[7_777; 2][..]));
+    assert_eq!(place, [8_888; 3]);
+    let mut found = [7_777; 6];
+    assert_eq!(Archive.needs(b"\nx", &mut found, &mut place), 3);
+    assert_eq!((found, place), ([7_777; 6], [2, 61, 8_888]));
+    for (needs, place) in [(5, 2), (6, 1), (0, 0), (6, 0), (0, 2)] {
+        let (mut found, mut at) = (vec![7_777; needs], vec![8_888; place]);
+        for text in [&text[..], b"x"] {
+            assert_eq!(Archive.needs(text, &mut found, &mut at), 103);
+        }
+        assert_eq!((found, at), (vec![7_777; needs], vec![8_888; place]));
+    }
+}
+
 /// A refusal of writing leaves the output as it was, and 31 leaves count too.
 #[test]
 fn refused_writings() {

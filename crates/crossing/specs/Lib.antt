@@ -1,6 +1,7 @@
 -- What crosses to other languages.
 pub mod Own
 pub mod ReadExported
+pub mod NeedsExported
 pub mod WriteExported
 pub mod AskExported
 pub mod MoveExported

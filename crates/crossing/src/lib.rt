@@ -4,20 +4,24 @@ ghost use mathlib.Core.List.{[], _∷_};
 ghost use Prim.Native.Nat.{_≤_};
 ghost use lib.ListN.{length};
 ghost use Rattle.kit.specs.Lists.{front};
-ghost use Rattle.outcome.specs.Outcome.{told-number as read-number, told-place, told as told-read};
+ghost use Rattle.outcome.specs.Outcome.{told-number as read-number, told-place, told as told-read, told-reason};
 ghost use Rattle.output.specs.Write.{done, told as told-written};
 ghost use Rattle.asker.specs.Ask.{told as told-asked, number, tecu};
 ghost use Rattle.calendar.specs.Calendar.{toldWhen};
 ghost use Rattle.crossing.specs.Own.{too-short};
 ghost use Rattle.crossing.specs.ReadExported.{told-header, told-texts, Small};
+ghost use Rattle.crossing.specs.NeedsExported.{listed, number as needs-number, told-needs, place as needs-place};
 ghost use Rattle.crossing.specs.WriteExported.{told-number as write-number, told-count};
 ghost use Rattle.crossing.specs.AskExported.{told-number as ask-number, told-value};
 ghost use Rattle.crossing.specs.MoveExported.{told-number as move-number, told-moved};
 use asker::Asked;
 use asker::Why;
 use calendar::When;
+use needs::Elements;
+use outcome::Measured;
 use outcome::ReadOut;
 use outcome::Reading;
+use outcome::Reason;
 use output::Written;
 
 // ---- The areas of a call's own
@@ -48,6 +52,16 @@ fn put_place(out: &mut [u64], first: u64, second: u64)
     out[1] = second;
 }
 
+// A refusal crosses: its number, and its place.
+fn put_refusal(reason: Reason, place: &mut [u64]) -> u64
+    requires { ⌜ 2 ≤ length (now place) ⌝ }
+    ensures { λ r. ⌜ (r ≡ read-number (told-reason reason)) × (now (place .exit) ≡ front (told-place (told-reason reason)) (now (place .entry))) ⌝ }
+{
+    let w = outcome::refusal_of(reason);
+    put_place(place, w.first, w.second);
+    w.number
+}
+
 // A reading crosses: its number; the header record and its texts, or the place.
 pub fn put_reading(r: ReadOut, header: &mut [i64], texts: &mut [u8], place: &mut [u64]) -> u64
     requires { ⌜ (44 ≤ length (now header)) × ((124 ≤ length (now texts)) × ((2 ≤ length (now place)) × Small (r .answer))) ⌝ }
@@ -64,11 +78,37 @@ pub fn put_reading(r: ReadOut, header: &mut [i64], texts: &mut [u8], place: &mut
             numbers::put_texts(texts, x);
             0
         }
-        Reading::Refused(reason) => {
-            let w = outcome::refusal_of(reason);
-            put_place(place, w.first, w.second);
-            w.number
+        Reading::Refused(reason) => put_refusal(reason, place),
+    }
+}
+
+// ---- What a text needs
+
+fn put_elements(out: &mut [u64], n: Elements)
+    requires { ⌜ 6 ≤ length (now out) ⌝ }
+    ensures { λ _. ⌜ now (out .exit) ≡ front (listed n) (now (out .entry)) ⌝ }
+{
+    out[0] = n.tec as u64;
+    out[1] = n.rms as u64;
+    out[2] = n.height as u64;
+    out[3] = n.exponents as u64;
+    out[4] = n.epochs as u64;
+    out[5] = n.marks as u64;
+}
+
+// What a text needs crosses: its number; the six needs, or the place.
+pub fn put_needs(measured: Measured, needs: &mut [u64], place: &mut [u64]) -> u64
+    requires { ⌜ (6 ≤ length (now needs)) × (2 ≤ length (now place)) ⌝ }
+    ensures { λ r. ⌜ (r ≡ needs-number measured)
+        × ((now (needs .exit) ≡ front (told-needs measured) (now (needs .entry)))
+        × (now (place .exit) ≡ front (needs-place measured) (now (place .entry)))) ⌝ }
+{
+    match measured {
+        Measured::Needs(n) => {
+            put_elements(needs, n);
+            0
         }
+        Measured::Refused(reason) => put_refusal(reason, place),
     }
 }
 

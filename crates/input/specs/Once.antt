@@ -5,7 +5,7 @@ use mathlib.Core.List.{List, [], _∷_}
 use mathlib.Core.Option.{Option, none, some}
 use Prim.Native.Nat.{ℕ, suc, _≤_, _<_}
 use native.Mathlib.Omega.{arith}
-use native.Mathlib.Decide.{ℕ-discrete, decLe}
+use native.Mathlib.Decide.{decLe}
 use Rattle.kit.specs.Answer.{Answer, ok, refused, pick, pick-yes, pick-no, All}
 use Rattle.mapset.specs.declared.Header.{Header}
 use Rattle.mapset.specs.MapSet.{MapSet}
@@ -17,7 +17,8 @@ use Rattle.reading.specs.Exact.{read-made, made-read}
 use Rattle.areas.specs.Flat.{areas}
 use Rattle.areas.specs.Stores.{fronts}
 use Rattle.needs.specs.Needs.{needed-and-lent, first-short}
-use Rattle.outcome.specs.Outcome.{Told, accepted, at-place, eleven, Outcome, with-room, outcome-of, outcome, told-reason, told, comes}
+use Rattle.outcome.specs.Once.{told-once}
+use Rattle.outcome.specs.Outcome.{accepted, at-place, eleven, Outcome, with-room, outcome-of, outcome, told-reason, told, comes}
 use Rattle.outcome.specs.declared.Reason.{Reason}
 use Rattle.outcome.specs.declared.Reason.the-variants.{LongLine, BadByte, NotIonex, UnknownLabel, Misplaced, IllFormed, OutOfRange, Disagrees, Missing, EndsEarly, AreaTooShort}
 use Rattle.outcome.specs.declared.Reading.{Reading}
@@ -29,43 +30,6 @@ abbrev pub Reads : List ℕ → Areas → ReadOut → Areas → Type 0
 Reads t l r l′ = comes r l′ ≡ outcome t l
 
 -- ---- no second answer
-
-unfoldable reason : ℕ → ℕ → ℕ → Reason
-reason k l c =
-    pick (ℕ-discrete k 1) (LongLine l c)
-    (pick (ℕ-discrete k 2) (BadByte l c)
-    (pick (ℕ-discrete k 3) (NotIonex l c)
-    (pick (ℕ-discrete k 4) (UnknownLabel l c)
-    (pick (ℕ-discrete k 5) (Misplaced l c)
-    (pick (ℕ-discrete k 6) (IllFormed l c)
-    (pick (ℕ-discrete k 7) (OutOfRange l c)
-    (pick (ℕ-discrete k 8) (Disagrees l c) (pick (ℕ-discrete k 9) (Missing l c) (EndsEarly l c)))))))))
-
-abbrev back : Told → Reading
-back (accepted h) = Accepted h
-back (at-place k l c) = Refused (reason k l c)
-back (eleven a n) = Refused (AreaTooShort a n)
-
-back-reason : (w : Reason) → back (told-reason w) ≡ Refused w
-unfolding reason pick ℕ-discrete
-back-reason (LongLine l c) = refl
-back-reason (BadByte l c) = refl
-back-reason (NotIonex l c) = refl
-back-reason (UnknownLabel l c) = refl
-back-reason (Misplaced l c) = refl
-back-reason (IllFormed l c) = refl
-back-reason (OutOfRange l c) = refl
-back-reason (Disagrees l c) = refl
-back-reason (Missing l c) = refl
-back-reason (EndsEarly l c) = refl
-back-reason (AreaTooShort a n) = refl
-
-back-told : (a : Reading) → back (told a) ≡ a
-back-told (Accepted h) = refl
-back-told (Refused w) = back-reason w
-
-pub told-once : (a b : Reading) → told a ≡ told b → a ≡ b
-told-once a b e = sym (back-told a) ∙ ap back e ∙ back-told b
 
 pub read-once : (t : List ℕ) (l : Areas) (r s : ReadOut) (l′ l″ : Areas) → Reads t l r l′ → Reads t l s l″ → (r ≡ s) × (l′ ≡ l″)
 read-once t l r s l′ l″ p q =
@@ -177,7 +141,7 @@ unfolding with-room
 same-short m l b k e = (cc, cc)
 
 module _ (t : List ℕ) (l : Areas) (r : ReadOut) (l′ : Areas) (c : Reads t l r l′) where
-  given : (m : MapSet) → Makes m t → Fits m l → Given m l r l′
+  pub given : (m : MapSet) → Makes m t → Fits m l → Given m l r l′
   unfolding outcome-of with-room
   given m k f =
       let e : comes r l′ ≡ with-room m l none = c ∙ ap (λ a. outcome-of a l) (read-made k) ∙ ap (with-room m l) (none-short 1 _ f) in

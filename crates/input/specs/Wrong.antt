@@ -1,5 +1,5 @@
--- The wrong readers that 01 names, each on an input where what it does contradicts the contract of `read`.
-use mathlib.Core.Path.{_≡_, sym, ap, _∙_}
+-- The wrong readers that 01 names, each on an input where what it does contradicts the contract of `read`; and so for `needs`.
+use mathlib.Core.Path.{_≡_, refl, sym, ap, _∙_}
 use mathlib.Core.List.{[], _∷_}
 use Prim.Native.Nat.{ℕ}
 use native.Mathlib.Omega.{arith}
@@ -14,8 +14,12 @@ use Rattle.reading.specs.Vectors.{lines, two-faults, eight-before-seven, small-
 use Rattle.areas.specs.Flat.{areas-of, areas}
 use Rattle.areas.specs.Stores.{fronts}
 use Rattle.needs.specs.Needs.{first-short}
+use Rattle.outcome.specs.Measures.{Measures}
+use Rattle.outcome.specs.Once.{needs-once}
 use Rattle.outcome.specs.Outcome.{Told, accepted, at-place, eleven, with-room, outcome-of, outcome}
 use Rattle.input.specs.Once.{Reads, not-accepted}
+use Rattle.outcome.specs.declared.Measured.{Measured}
+use Rattle.outcome.specs.declared.Measured.the-variants.{Needs}
 use Rattle.outcome.specs.declared.Reason.{Reason}
 use Rattle.outcome.specs.declared.Reason.the-variants.{Disagrees, AreaTooShort}
 use Rattle.outcome.specs.declared.Reading.the-variants.{Accepted, Refused}
@@ -91,3 +95,8 @@ not-another-need n x l′ c = let e : eleven 1 n ≡ eleven 1 6 = ap (λ o. o .t
 -- an invented line number
 pub not-another-line : (n : ℕ) (x : Texts) (l l′ : Areas) → Reads (lines two-faults) l (record { answer = Refused (Disagrees n 0); texts = x }) l′ → n ≡ 15
 not-another-line n x l l′ c = let e : at-place 8 n 0 ≡ at-place 8 15 0 = ap (λ o. o .told) c ∙ faults-come l in cc
+
+-- other needs than these, or a refusal, told of a text with one TEC map and its RMS map
+pub not-other-needs : (r : Measured) → Measures (lines small-text) r → r ≡ Needs (record { tec = 6; rms = 6; height = 0; exponents = 6; epochs = 1; marks = 1 })
+unfolding pick ℕ-discrete areas-of small-set
+not-other-needs r s = needs-once (lines small-text) r _ s (small-set, (small-read, refl))

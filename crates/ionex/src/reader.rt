@@ -1,8 +1,11 @@
-// A text read, and as other languages have it read.
+// A text read, and what it needs; and as other languages have it read.
 ghost use mathlib.Core.Path.{_≡_};
 ghost use Rattle.mapset.specs.Areas.{six};
 ghost use Rattle.outcome.specs.Outcome.{outcome, comes};
+ghost use Rattle.outcome.specs.Measures.{Measures};
 ghost use Rattle.crossing.specs.ReadExported.{crossed, read-crossed};
+ghost use Rattle.crossing.specs.NeedsExported.{NeedsCross};
+use outcome::Measured;
 use outcome::ReadOut;
 
 // A text into six lent areas: the map set's header record and texts, or the reason why not.
@@ -44,4 +47,26 @@ pub extern "C" fn ionex_read(
     }
     let r = read(text, tec, rms, height, exponents, epochs, marks);
     crossing::put_reading(r, header, texts, place)
+}
+
+// What each of the six areas needs for a text, or the reason why it is refused.
+pub fn needs(text: &[u8]) -> Measured
+    ensures { λ r. ⌜ Measures (now (text .entry)) r ⌝ }
+{
+    measuring::measure(text)
+}
+
+// What a text needs: 0, with the six needs; or 01's number, with its place.
+#[no_mangle]
+pub extern "C" fn ionex_needs(text: &[u8], needs: &mut [u64], place: &mut [u64]) -> u64
+    ensures { λ r. ⌜ NeedsCross (now (text .entry)) (now (needs .entry)) (now (place .entry)) r (now (needs .exit)) (now (place .exit)) ⌝ }
+{
+    if needs.len() < 6 {
+        return 103;
+    }
+    if place.len() < 2 {
+        return 103;
+    }
+    let measured = measuring::measure(text);
+    crossing::put_needs(measured, needs, place)
 }

@@ -12,16 +12,31 @@ use Rattle.needs.specs.declared.Others.{Others}
 use Rattle.needs.specs.declared.Room.{Room}
 use Rattle.needs.specs.declared.Room.the-variants.{Enough, Short}
 
+-- the elements of each area
+abbrev pub lengths : Areas → Elements
+lengths a =
+    record {
+      tec = length (a .tec);
+      rms = length (a .rms);
+      height = length (a .height);
+      exponents = length (a .exponents);
+      epochs = length (a .epochs);
+      marks = length (a .marks);
+    }
+
 -- the areas in their order: the elements that each needs, and those lent
-abbrev pub needed-and-lent : (a l : Areas) → List (ℕ × ℕ)
-needed-and-lent a l =
-    (length (a .tec), length (l .tec))
-    ∷ (length (a .rms), length (l .rms))
-    ∷ (length (a .height), length (l .height))
-    ∷ (length (a .exponents), length (l .exponents))
-    ∷ (length (a .epochs), length (l .epochs))
-    ∷ (length (a .marks), length (l .marks))
+abbrev pub pairs : (need lent : Elements) → List (ℕ × ℕ)
+pairs need lent =
+    (need .tec, lent .tec)
+    ∷ (need .rms, lent .rms)
+    ∷ (need .height, lent .height)
+    ∷ (need .exponents, lent .exponents)
+    ∷ (need .epochs, lent .epochs)
+    ∷ (need .marks, lent .marks)
     ∷ []
+
+abbrev pub needed-and-lent : (a l : Areas) → List (ℕ × ℕ)
+needed-and-lent a l = pairs (lengths a) (lengths l)
 
 -- the first that is too short, counted from i, and the elements it needs
 unfoldable pub first-short : ℕ → List (ℕ × ℕ) → Option (ℕ × ℕ)
@@ -34,16 +49,6 @@ first-short i (x ∷ xs) = pick (decLe (x .0) (x .1)) (first-short (suc i) xs) (
 abbrev pub needs-of : (n B C : ℕ) → Others → Elements
 needs-of n B C o =
     record { tec = n * B * C; rms = cond (o .rms) (n * B * C) 0; height = cond (o .height) (n * B * C) 0; exponents = 3 * (n * B); epochs = n; marks = n }
-
-abbrev pub pairs : (need lent : Elements) → List (ℕ × ℕ)
-pairs need lent =
-    (need .tec, lent .tec)
-    ∷ (need .rms, lent .rms)
-    ∷ (need .height, lent .height)
-    ∷ (need .exponents, lent .exponents)
-    ∷ (need .epochs, lent .epochs)
-    ∷ (need .marks, lent .marks)
-    ∷ []
 
 abbrev pub fit : Room → Option (ℕ × ℕ)
 fit Enough = none

@@ -6,6 +6,7 @@ ghost use Rattle.head.specs.Opened.{blank-texts};
 ghost use Rattle.outcome.specs.Outcome.{at-place, told-number, told-place, told-reason};
 use mapset::Header;
 use mapset::Texts;
+use needs::Elements;
 
 // Why a text is refused: 01's reasons 1 to 10, each with line and column; and 11, with the area and the elements it needs.
 pub enum Reason {
@@ -31,6 +32,12 @@ pub enum Reading {
 pub struct ReadOut {
     pub answer: Reading,
     pub texts: Texts,
+}
+
+// What each area needs; or why the text is refused.
+pub enum Measured {
+    Needs(Elements),
+    Refused(Reason),
 }
 
 pub fn reason_of(number: u64, line: u64, column: u64) -> Reason

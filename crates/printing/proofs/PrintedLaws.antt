@@ -28,7 +28,8 @@ use Rattle.output.specs.Write as W
 use Rattle.output.specs.declared.Written.{Written}
 use Rattle.needs.specs.Needs.{needed-and-lent, first-short}
 use Rattle.outcome.specs.Outcome.{Told, with-room, outcome-of, told-reason, told}
-use Rattle.input.specs.Once.{Reads, told-once, accepts-exactly}
+use Rattle.outcome.specs.Once.{told-once}
+use Rattle.input.specs.Once.{Reads, accepts-exactly}
 use Rattle.outcome.specs.declared.Reason.{Reason}
 use Rattle.outcome.specs.declared.Reading.{Reading}
 use Rattle.outcome.specs.declared.Reading.the-variants.{Accepted, Refused}

@@ -1,15 +1,13 @@
-use mathlib.Core.Path.{refl, ap, _∙_}
-use Rattle.kit.specs.Lists.{front}
+use mathlib.Core.Path.{refl}
 use Rattle.crossing.proofs.ReadLaws.{no-header, no-texts}
 use borrow.Author.Needs.{needs}
 use Rattle.crossing.proofs.put_reading.Statement.{statement}
 use Rattle.crossing.proofs.put_reading.Tie as tie
 use Rattle.crossing.proofs.put_reading.Reads as reads
 use Rattle.crossing.proofs.put_reading.Lts as lts
-use Rattle.crossing.proofs.put_place.Reads as put-place-reads
+use Rattle.crossing.proofs.put_refusal.Reads as put-refusal-reads
 use Rattle.numbers.proofs.put_header.Reads as put-header-reads
 use Rattle.numbers.proofs.put_texts.Reads as put-texts-reads
-use Rattle.outcome.proofs.refusal_of.Reads as refusal-of-reads
 
 enum-known-answer : tie.Need-enum-known-answer
 enum-known-answer c = search needs
@@ -26,11 +24,8 @@ put-texts-requires c κs = search needs
 enum-known-answer-2 : tie.Need-enum-known-answer-2
 enum-known-answer-2 c = search needs
 
-refusal-of-requires : tie.Need-refusal-of-requires
-refusal-of-requires c κs = search needs
-
-put-place-requires : tie.Need-put-place-requires
-put-place-requires c κs = search needs
+put-refusal-requires : tie.Need-put-refusal-requires
+put-refusal-requires c κs = search needs
 
 same-length : tie.Need-same-length
 same-length c = search needs
@@ -46,10 +41,10 @@ same-length-3 c = search needs
 
 returns-2 : tie.Need-returns-2
 returns-2 c =
-    let s = c .before .before .before .before .before .before .before .before .before .before .before in
-    let w = c .before .before .before .before .refusal-of .ensures in
-    let k = c .before .before .before .before .before .before .answer2 .given .0 .0 in
-    rw (c .before .before .before .before .before .before .answer2 .given .1) (w .0, (no-header k (s .args .header .now), (no-texts k (s .args .r .texts) (s .args .texts .now), c .before .before .put-place .ensures ∙ ap (λ l. front l (s .args .place .now)) (w .1))))
+    let s = c .before .before .before .before .before .before .before .before .before .before in
+    let w = c .before .before .put-refusal .ensures in
+    let k = c .before .before .before .before .before .answer2 .given .0 .0 in
+    rw (c .before .before .before .before .before .answer2 .given .1) (w .0, (no-header k (s .args .header .now), (no-texts k (s .args .r .texts) (s .args .texts .now), w .1)))
 
 pub put-reading-spec : {M : Type 1} → statement M
 put-reading-spec =
@@ -59,8 +54,7 @@ put-reading-spec =
     put-header-requires
     put-texts-requires
     enum-known-answer-2
-    refusal-of-requires
-    put-place-requires
+    put-refusal-requires
     same-length
     same-length-2
     returns

@@ -2,7 +2,8 @@ use mathlib.Core.Path.{sym, ap, _∙_}
 use mir.Facts.{toZ-ofZ}
 use Rattle.mapset.specs.Areas.{six}
 use Rattle.needs.specs.Needs.{fit}
-use Rattle.input.proofs.StoreLaws.{limits, few-by, short-by, readable-by, enough-by, stored-by}
+use Rattle.judging.proofs.NeedLaws.{limits, few-by}
+use Rattle.input.proofs.StoreLaws.{short-by, readable-by, enough-by, stored-by}
 use borrow.Author.Needs.{needs}
 use Rattle.input.proofs.store.Statement.{statement}
 use Rattle.input.proofs.store.Tie as tie

@@ -1,0 +1,63 @@
+use mathlib.Core.Path.{_≡_, subst}
+use mathlib.Core.List.{List}
+use Prim.Native.Nat.{ℕ}
+use Rattle.mapset.specs.declared.Texts.{Texts}
+use Rattle.judging.specs.Scanned.{Judges}
+use Rattle.judging.specs.declared.Judged.{Judged}
+use Rattle.judging.proofs.JudgeLaws.{one-to-ten}
+use Rattle.judging.proofs.NeedLaws.{limits, few-by, need-by}
+use borrow.Author.Needs.{needs}
+use Rattle.measuring.proofs.measure.Statement.{statement}
+use Rattle.measuring.proofs.measure.Tie as tie
+use Rattle.measuring.proofs.measure.Reads as reads
+use Rattle.measuring.proofs.measure.Lts as lts
+use Rattle.judging.proofs.judge.Reads as judge-reads
+use Rattle.needs.proofs.needed.Reads as needed-reads
+use Rattle.needs.proofs.size_of.Reads as size-of-reads
+use Rattle.outcome.proofs.reason_of.Reads as reason-of-reads
+
+-- what the first scan says, by its answer
+judged : (t : List ℕ) (x : Texts) (a b : Judged) → Judges t a x → a ≡ b → Judges t b x
+judged t x a b j e = subst (λ z. Judges t z x) e j
+
+judge-requires : tie.Need-judge-requires
+judge-requires c κs = search needs
+
+enum-known-answer : tie.Need-enum-known-answer
+enum-known-answer c = search needs
+
+reason-of-requires : tie.Need-reason-of-requires
+reason-of-requires c κs = one-to-ten _ _ (judged _ _ _ _ (c .before .before .before .judge .ensures) (c .before .answer .given .1))
+
+enum-known-answer-2 : tie.Need-enum-known-answer-2
+enum-known-answer-2 c = search needs
+
+size-of-requires : tie.Need-size-of-requires
+size-of-requires c κs = limits _ _ _ _ _ _ (judged _ _ _ _ (c .before .before .before .judge .ensures) (c .before .answer2 .given .1))
+
+needed-requires : tie.Need-needed-requires
+needed-requires c κs =
+    let z = c .size-of .ensures in
+    few-by _ _ _ _ _ _ (judged _ _ _ _ (c .before .before .before .before .judge .ensures) (c .before .before .answer2 .given .1)) (z .0) (z .1) (z .2)
+
+returns : tie.Need-returns
+returns c = (_, (judged _ _ _ _ (c .before .before .before .before .judge .ensures) (c .before .before .answer .given .1), c .reason-of .ensures))
+
+returns-2 : tie.Need-returns-2
+returns-2 c =
+    let a = judged _ _ _ _ (c .before .before .before .before .before .judge .ensures) (c .before .before .before .answer2 .given .1) in
+    let z = c .before .size-of .ensures in
+    (_, (a .reads, need-by _ _ _ _ _ _ a (z .0) (z .1) (z .2) (c .needed .ensures)))
+
+pub measure-spec : {M : Type 1} → statement M
+measure-spec =
+    tie.close
+    (tie.spec
+    judge-requires
+    enum-known-answer
+    reason-of-requires
+    enum-known-answer-2
+    size-of-requires
+    needed-requires
+    returns
+    returns-2)
