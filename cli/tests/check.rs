@@ -181,9 +181,14 @@ fn hints_for_what_people_meet() {
             "lines end in CR alone here: turn them into LF, as by `tr '\\r' '\\n'`",
         ),
         (
-            b"     1.1\rMAPS\n".to_vec(),
+            b"     1.1\rMAPS\rGNS".to_vec(),
             "2 1:9",
             "lines end in CR alone here: turn them into LF, as by `tr '\\r' '\\n'`",
+        ),
+        (
+            damaged(|lines| lines[4].push_str("\r\r")),
+            "2 5:69",
+            "a line ends in LF or CR LF, and here is a CR too many: delete it",
         ),
         (
             damaged(|lines| lines.insert(2, record("Universität Bern", "COMMENT"))),
@@ -268,6 +273,11 @@ fn what_was_expected() {
         (without(27..=36), "10 27:0", "the block of latitude 0.0, in TEC map 2 (line 23)"),
         (without(23..=36), "10 23:0", "TEC map 2: # OF MAPS IN FILE is 2 (line 6)"),
         (without(15..=36), "10 15:0", "END OF HEADER, maps and END OF FILE"),
+        (
+            damaged(|lines| lines.insert(2, record("NAME", "START OF AUX DATA"))),
+            "10 38:0",
+            "END OF AUX DATA for the block of line 3",
+        ),
         (b" \n\n".to_vec(), "10 3:0", "a text, found blank lines only"),
         // 8: disagreements
         (
@@ -366,7 +376,7 @@ fn what_was_expected() {
         (
             without(19..=19),
             "6 19:1",
-            "3 more of the 3 values of latitude 10.0 (line 18), 16 to a line, found LAT/LON1/LON2/DLON/H",
+            "3 more values of latitude 10.0 (line 18), which has 3, 16 to a line, found LAT/LON1/LON2/DLON/H",
         ),
         // 5: out of place, or a second time
         (
@@ -432,4 +442,34 @@ fn labels_that_are_meant() {
         said,
         "`INTERVAL` stands from column 57 on, and belongs into column 61"
     );
+}
+
+/// A mark lies under all that is wrong: the label of an END record, the fields of a rule over several, a whole epoch.
+#[test]
+fn marks() {
+    let epoch = record(
+        "  2000     1     1     1     0     0",
+        "EPOCH OF CURRENT MAP",
+    );
+    let axis = record("    10.0   5.0 -10.0", "LAT1 / LAT2 / DLAT");
+    let cases = [
+        (damaged(|lines| lines[16] = epoch), 0, 36),
+        (damaged(|lines| lines[12] = axis), 2, 18),
+        (damaged(|lines| drop(lines.remove(9))), 60, 13),
+        (
+            damaged(|lines| lines[0] = lines[0].replace("GNS", "GPS")),
+            40,
+            3,
+        ),
+    ];
+    for (text, blanks, width) in cases {
+        let ran = ionex_given(&text, &["check", "-"]);
+        let mark = format!("      | {}^{}", " ".repeat(blanks), "~".repeat(width - 1));
+        assert_eq!(
+            ran.text().lines().nth(2),
+            Some(mark.as_str()),
+            "{}",
+            ran.text()
+        );
+    }
 }

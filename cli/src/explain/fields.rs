@@ -1,6 +1,6 @@
 //! Refusals 6 and 7: fields that are ill-formed, and values that are not accepted.
 
-use super::missing::{row_name, values_due};
+use super::missing::{more_values, row_name, values_due};
 use super::records::{Field, Form};
 use super::Place;
 use crate::text;
@@ -61,7 +61,8 @@ fn value(place: &Place) -> String {
     let row = row_name(&place.state);
     if !place.label().is_empty() {
         return format!(
-            "{due} more of the {all} values of {row}, 16 to a line, found {}",
+            "{} of {row}, which has {all}, 16 to a line, found {}",
+            more_values(due),
             place.label()
         );
     }

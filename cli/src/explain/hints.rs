@@ -108,22 +108,18 @@ fn version(place: &Place) -> Option<String> {
 fn carriage_return(place: &Place) -> Option<String> {
     let is_return = place.bytes.get(place.column.wrapping_sub(1)) == Some(&b'\r');
     let many = place.bytes.iter().filter(|&&byte| byte == b'\r').count() > 1;
-    match place.number {
-        1 if many => {}
-        2 if is_return => {}
+    let words = match place.number {
+        1 | 2 if many => "lines end in CR alone here: turn them into LF, as by `tr '\\r' '\\n'`",
+        2 if is_return => "a line ends in LF or CR LF, and here is a CR too many: delete it",
         _ => return None,
-    }
-    let words = if place.bytes.ends_with(b"\r") && !many {
-        "a line ends in LF or CR LF; here is a CR too many: delete it, as by `tr -d '\\r'`"
-    } else {
-        "lines end in CR alone here: turn them into LF, as by `tr '\\r' '\\n'`"
     };
     Some(words.to_string())
 }
 
 /// A version record in mid-text: a second file was put behind the first.
 fn two_files(place: &Place) -> Option<String> {
-    let second = place.number == 5 && place.label() == "IONEX VERSION / TYPE";
+    let doubled = place.state.stage == Stage::Header && place.state.given.is_empty();
+    let second = place.number == 5 && place.label() == "IONEX VERSION / TYPE" && !doubled;
     let before = place.line - 1;
     second.then(|| match place.state.stage {
         Stage::After => format!("two files one after the other: the first is lines 1 to {before}, as by `head -n {before}`"),
@@ -185,11 +181,15 @@ fn end_of_file(place: &Place) -> Option<String> {
 
 fn cut(place: &Place) -> Option<String> {
     let last = text::line(place.text, place.line + 1).is_none();
-    let in_mid_line = last && !place.text.ends_with(b"\n");
+    let begun = match place.number {
+        4 => labels::begins(&text::columns(&place.card, 61, 20)),
+        _ => values_due(&place.state) > 0 && place.label().is_empty(),
+    };
+    let in_mid_line = begun && last && !place.text.ends_with(b"\n");
     let in_block = values_due(&place.state) > 0 && !place.label().is_empty();
     let words = match place.number {
         10 if place.text.is_empty() => "nothing was written into this file: fetch it again",
-        10 if place.state.stage != Stage::Start => {
+        10 if matches!(place.state.stage, Stage::Header | Stage::Maps) => {
             "the file was cut off, on its way or while it was written: fetch it again"
         }
         4 | 6 if in_mid_line => {
@@ -223,9 +223,6 @@ fn tab(place: &Place) -> Option<String> {
 }
 
 fn label(place: &Place) -> Option<String> {
-    let first = place.number == 3 && place.column == 61;
-    if place.number == 4 || first {
-        return labels::meant(place);
-    }
-    None
+    let unknown = place.number == 4 || place.number == 3 && place.label().is_empty();
+    unknown.then(|| labels::meant(place)).flatten()
 }

@@ -140,6 +140,12 @@ pub fn meant(place: &Place) -> Option<String> {
     (near.0 <= 3 && !written.is_empty()).then(|| format!("`{}` may be meant", near.1))
 }
 
+/// Whether a label begins so, and goes on.
+pub fn begins(start: &str) -> bool {
+    let mut labels = RECORDS.iter().map(|record| record.label);
+    labels.any(|label| label.starts_with(start) && label != start)
+}
+
 /// How many letters must be changed, put in or taken out to make one text of the other.
 pub fn distance(one: &str, other: &str) -> usize {
     let mut row: Vec<usize> = (0..=other.len()).collect();

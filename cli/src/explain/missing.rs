@@ -3,7 +3,12 @@
 use super::records::NEEDED;
 use super::state::{Open, Stage, State};
 use super::Place;
-use crate::numbers::tenths;
+use crate::numbers::{counted, tenths};
+
+/// `1 more value`, `2 more values`
+pub fn more_values(count: i64) -> String {
+    counted(usize::try_from(count).unwrap_or(0), "more value")
+}
 
 /// The values that the open block still lacks.
 pub fn values_due(state: &State) -> i64 {
@@ -91,14 +96,11 @@ pub fn cut_short(place: &Place) -> String {
     match (state.stage, &state.open) {
         (Stage::Start, _) if place.text.is_empty() => "a text, found an empty file".to_string(),
         (Stage::Start, _) => "a text, found blank lines only".to_string(),
-        (Stage::Header, _) => format!(
-            "END OF HEADER, maps and END OF FILE{}",
-            still_to_come(state)
-        ),
+        (Stage::Header, _) => "END OF HEADER, maps and END OF FILE".to_string(),
         (Stage::Aux, _) => format!("END OF AUX DATA for the block of line {}", state.since),
         (_, Some(open)) if open.due > 0 => format!(
-            "{} more values of {}, in {}",
-            open.due,
+            "{} of {}, in {}",
+            more_values(open.due),
             row_name(state),
             map_name(open)
         ),
@@ -108,12 +110,5 @@ pub fn cut_short(place: &Place) -> String {
         (_, Some(open)) => missing_blocks(state, open),
         (_, None) if state.ended[0] < state.maps => missing_maps(state),
         (_, None) => format!("END OF FILE: all {} TEC maps have ended", state.maps),
-    }
-}
-
-fn still_to_come(state: &State) -> String {
-    match missing_records(state) {
-        labels if labels.is_empty() => String::new(),
-        labels => format!("; of the header also {}", labels.join(", ")),
     }
 }

@@ -128,16 +128,14 @@ fn mark(place: &Place) -> Option<Mark> {
 /// The field that a column lies in, the label, or that one column; for column 0 all that the rule is about.
 fn marked(place: &Place) -> (usize, usize) {
     let of_label = (61, text::columns(&place.card, 61, 20).len().max(1));
+    let all_fields = || place.record.and_then(Record::span).unwrap_or(of_label);
     match (place.number, place.column) {
         (6, column) if missing::values_due(&place.state) > 0 => {
             (column, fields::value_width(place))
         }
-        (_, 0) => place
-            .record
-            .filter(|_| place.number == 7)
-            .and_then(Record::span)
-            .unwrap_or(of_label),
-        (3..=5, 61) => of_label,
+        (7, 0) => all_fields(),
+        (8, 1) if place.label() == "EPOCH OF CURRENT MAP" => all_fields(),
+        (_, 0) | (3..=5, 61) => of_label,
         (3 | 6..=8, column) => match place.record.and_then(|record| record.field_at(column)) {
             Some(field) if field.column == column => (column, field.width),
             _ => (column, 1),
