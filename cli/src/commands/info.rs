@@ -7,7 +7,7 @@ use crate::numbers::{counted, share, tenths, thousandths};
 use crate::output::Output;
 use crate::status::{Status, Stop};
 use crate::{files, refused, time};
-use ionex::{Answer, Axis, Kind, MapSet};
+use ionex::{Answer, Axis, Epoch, Kind, MapSet};
 
 pub const COMMAND: Command = Command {
     name: "info",
@@ -237,28 +237,37 @@ fn rows(maps: &MapSet) -> Vec<(String, String)> {
     rows
 }
 
-fn json(name: &str, maps: &MapSet) -> Object {
-    let header = maps.header();
-    let axis = |axis: &Axis| {
-        Object::new()
-            .raw("first", tenths(axis.first))
-            .raw("last", tenths(axis.last))
-            .raw("step", tenths(axis.step))
-            .raw("nodes", axis.nodes())
-    };
+fn axis_json(axis: &Axis) -> Object {
+    Object::new()
+        .raw("first", tenths(axis.first))
+        .raw("last", tenths(axis.last))
+        .raw("step", tenths(axis.step))
+        .raw("nodes", axis.nodes())
+}
+
+fn systems_json(maps: &MapSet) -> String {
     let system = |(letter, stations, satellites): (char, u32, u32)| {
         Object::new()
             .text("letter", &letter.to_string())
             .raw("stations", stations)
             .raw("satellites", satellites)
     };
-    let epoch = |(map, epoch): (usize, ionex::Epoch)| {
+    array(systems(maps).into_iter().map(system))
+}
+
+fn epochs_json(maps: &MapSet) -> String {
+    let epoch = |(map, epoch): (usize, Epoch)| {
         let kinds = kinds(maps, map).map(|kind| string(&kind.to_string().to_lowercase()));
         Object::new()
             .text("time", &epoch.to_string())
             .raw("maps", array(kinds))
     };
-    let mut object = Object::new()
+    array(maps.epochs().into_iter().enumerate().map(epoch))
+}
+
+fn json(name: &str, maps: &MapSet) -> Object {
+    let header = maps.header();
+    let object = Object::new()
         .text("file", name)
         .raw("version", tenths(header.version))
         .text("code", header.code.as_str())
@@ -270,22 +279,16 @@ fn json(name: &str, maps: &MapSet) -> Object {
         .text("observables", maps.observables())
         .maybe("stations", header.stations)
         .maybe("satellites", header.satellites)
-        .raw("systems", array(systems(maps).into_iter().map(system)))
+        .raw("systems", systems_json(maps))
         .raw("base_radius", tenths(header.radius))
         .raw("dimension", header.dimension)
-        .raw("heights", axis(&header.heights))
-        .raw("latitudes", axis(&header.latitudes))
-        .raw("longitudes", axis(&header.longitudes))
+        .raw("heights", axis_json(&header.heights))
+        .raw("latitudes", axis_json(&header.latitudes))
+        .raw("longitudes", axis_json(&header.longitudes))
         .raw("interval", header.interval)
-        .raw(
-            "epochs",
-            array(maps.epochs().into_iter().enumerate().map(epoch)),
-        );
-    for kind in Kind::ALL {
-        object = object.raw(
-            &kind.to_string().to_lowercase(),
-            Figures::of(maps, kind).json(),
-        );
-    }
-    object
+        .raw("epochs", epochs_json(maps));
+    Kind::ALL.into_iter().fold(object, |object, kind| {
+        let name = kind.to_string().to_lowercase();
+        object.raw(&name, Figures::of(maps, kind).json())
+    })
 }

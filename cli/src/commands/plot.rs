@@ -109,32 +109,39 @@ impl Chosen {
             }
         };
         let header = maps.header();
-        let height = header
-            .heights
-            .at(question.layer as usize)
-            .unwrap_or(header.heights.first);
-        let made = [name, maps.program(), maps.run_by(), maps.date()].map(str::trim);
-        let made: Vec<&str> = made.into_iter().filter(|part| !part.is_empty()).collect();
-        let layer = match maps.layers() {
-            1 => String::new(),
-            _ => format!(", layer {}", question.layer),
-        };
         Ok(Field {
             latitudes: &header.latitudes,
             longitudes: &header.longitudes,
             values,
-            unit: if question.kind == Kind::Height {
-                "km"
-            } else {
-                "TECU"
+            unit: match question.kind {
+                Kind::Tec | Kind::Rms => "TECU",
+                Kind::Height => "km",
             },
             title: format!("{}, {} UT", title(question.kind), time::words(epoch)),
             notes: vec![
-                format!("{note}{layer}, {} km", tenths(height)),
-                made.join(", "),
+                format!("{note}{}", layer(maps, question.layer)),
+                origin(name, maps),
             ],
         })
     }
+}
+
+/// The layer by its height, and by its number where there are several.
+fn layer(maps: &MapSet, layer: u64) -> String {
+    let axis = &maps.header().heights;
+    let height = axis.at(layer as usize).unwrap_or(axis.first);
+    let number = match maps.layers() {
+        1 => String::new(),
+        _ => format!(", layer {layer}"),
+    };
+    format!("{number}, {} km", tenths(height))
+}
+
+/// The file, and who made it.
+fn origin(name: &str, maps: &MapSet) -> String {
+    let parts = [name, maps.program(), maps.run_by(), maps.date()].map(str::trim);
+    let parts: Vec<&str> = parts.into_iter().filter(|part| !part.is_empty()).collect();
+    parts.join(", ")
 }
 
 fn title(kind: Kind) -> &'static str {

@@ -39,40 +39,48 @@ fn put(out: &mut String, shape: &Shape) {
             width,
             height,
             fill,
-        } => {
-            let fill = match fill {
-                Fill::Plain(colour) => hex(*colour),
-                Fill::Striped => "url(#bare)".to_string(),
-            };
-            writeln!(
-                out,
-                "<rect x=\"{x}\" y=\"{y}\" width=\"{width}\" height=\"{height}\" fill=\"{fill}\" \
-                 shape-rendering=\"crispEdges\"/>"
-            )
-        }
+        } => writeln!(
+            out,
+            "<rect x=\"{x}\" y=\"{y}\" width=\"{width}\" height=\"{height}\" fill=\"{}\" \
+             shape-rendering=\"crispEdges\"/>",
+            paint(*fill)
+        ),
         Shape::Words {
             x,
             y,
             words,
             size,
             anchor,
-        } => {
-            let size = match size {
-                Size::Title => "24\" font-weight=\"bold",
-                Size::Body => "17",
-            };
-            let anchor = match anchor {
-                Anchor::Start => "start",
-                Anchor::Middle => "middle",
-                Anchor::End => "end",
-            };
-            writeln!(
-                out,
-                "<text x=\"{x}\" y=\"{y}\" font-size=\"{size}\" text-anchor=\"{anchor}\">{}</text>",
-                escaped(words)
-            )
-        }
+        } => writeln!(
+            out,
+            "<text x=\"{x}\" y=\"{y}\" {} {}>{}</text>",
+            font(*size),
+            side(*anchor),
+            escaped(words)
+        ),
     };
+}
+
+fn paint(fill: Fill) -> String {
+    match fill {
+        Fill::Plain(colour) => hex(colour),
+        Fill::Striped => "url(#bare)".to_string(),
+    }
+}
+
+fn font(size: Size) -> &'static str {
+    match size {
+        Size::Title => "font-size=\"24\" font-weight=\"bold\"",
+        Size::Body => "font-size=\"17\"",
+    }
+}
+
+fn side(anchor: Anchor) -> &'static str {
+    match anchor {
+        Anchor::Start => "text-anchor=\"start\"",
+        Anchor::Middle => "text-anchor=\"middle\"",
+        Anchor::End => "text-anchor=\"end\"",
+    }
 }
 
 fn hex([red, green, blue]: [u8; 3]) -> String {
