@@ -65,6 +65,7 @@ enum ionex_answer {
     IONEX_UNKNOWN_CHOICE = 23, /* kind or method is none of those listed */
     IONEX_UNSERVED = 24, /* methods 2 and 3: the grid does not go round the Earth, DLON is above 5.0 degrees, or two
                           * neighbouring epochs are more than 7,200 s apart */
+    IONEX_UNSERVED_CARRIER = 25, /* the carrier is not from 1.0e9 to 2.0e9 Hz */
 
     /* Writing, and 31 also asking. */
     IONEX_SHORT_OUTPUT = 30, /* the output is too short; count[0] is the bytes needed */
@@ -75,7 +76,7 @@ enum ionex_answer {
      * and then nothing is written. */
     IONEX_SHORT_HEADER = 101, /* fewer than IONEX_HEADER numbers of header */
     IONEX_SHORT_TEXTS = 102,  /* fewer than IONEX_TEXTS bytes of texts */
-    IONEX_SHORT_RESULT = 103  /* no room for place, needs, count, value or moved */
+    IONEX_SHORT_RESULT = 103  /* no room for place, needs, count, value, record or moved */
 };
 
 /*
@@ -261,6 +262,45 @@ uint64_t ionex_ask(const int64_t *header, size_t header_len, /* IONEX_HEADER num
                    uint64_t kind, uint64_t method, uint64_t layer,
                    int32_t lat, int32_t lon, uint64_t second,
                    int32_t *value, size_t value_len); /* 1 number, else 103 */
+
+/* Places in the record of a delay, IONEX_RECORD numbers. */
+enum ionex_delay_record {
+    IONEX_CARRIER = 0, /* hertz, as it was given */
+    IONEX_TECU = 1,    /* TECU */
+    IONEX_METRES = 2,  /* the group delay */
+    IONEX_RECORD = 3   /* how many numbers there are */
+};
+
+/*
+ * Gives the group delay in metres of so many thousandths of a TECU, as ionex_ask answers for TEC and RMS, at a carrier in
+ * hertz (L1 is 1575420000). In IEEE 754 double precision, each step rounded once: carrier times carrier; the thousandths
+ * divided by 1000; that times 4.03e17; that divided by the product. What is given is always finite.
+ *
+ *   0    carrier, TECU and delay stand in front of record.
+ *   25   the carrier does not compare as at least 1.0e9 and at most 2.0e9 (not-a-number never does); record is as found.
+ *
+ * A height has no delay: do not hand one in. ionex_delay asks for the value itself, and so cannot mistake one.
+ */
+uint64_t ionex_tecu_delay(int32_t thousandths, double carrier,
+                          double *record, size_t record_len); /* IONEX_RECORD numbers, else 103 */
+
+/*
+ * Asks what ionex_ask asks, and gives the delay of the answer at a carrier, as ionex_tecu_delay does. Kind is TEC or RMS.
+ *
+ *   0                            carrier, TECU and delay stand in front of record.
+ *   23, 31, 24, 20, 21, 22, 25   refused, told in this order; record is as found. IONEX_KIND_HEIGHT is 23 here.
+ */
+uint64_t ionex_delay(const int64_t *header, size_t header_len, /* IONEX_HEADER numbers, else 101 */
+                     const uint8_t *texts, size_t texts_len,   /* IONEX_TEXTS bytes, else 102 */
+                     const int32_t *tec, size_t tec_len,
+                     const int32_t *rms, size_t rms_len,
+                     const int32_t *height, size_t height_len,
+                     const int32_t *exponents, size_t exponents_len,
+                     const uint64_t *epochs, size_t epochs_len,
+                     const uint8_t *marks, size_t marks_len,
+                     uint64_t kind, uint64_t method, uint64_t layer,
+                     int32_t lat, int32_t lon, uint64_t second, double carrier,
+                     double *record, size_t record_len); /* IONEX_RECORD numbers, else 103 */
 
 /*
  * Moves an epoch, in seconds from 1900-01-01 00:00:00, by a number of seconds, backwards where it is negative.

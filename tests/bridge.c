@@ -2,15 +2,25 @@
  * after another from standard input and answers each on standard output. src/bridge.rs is the other end.
  *
  * A call is a struct call, then its areas. What goes back is the function's answer, then the areas that were lent, as
- * the call left them. -D READ, NEEDS, WRITE, ASK or MOVED: the archive has this function. */
+ * the call left them. -D READ, NEEDS, WRITE, ASK, TECU_DELAY, DELAY or MOVED: the archive has this
+ * function. */
 #include "ionex.h"
 #include <stdio.h>
 #include <stdlib.h>
+#include <string.h>
 
-enum { AREAS = 10, NUMBERS = 6 };
+enum { AREAS = 10, NUMBERS = 7 };
 
 /* src/bridge.rs has the same numbers. */
-enum function { FUNCTION_READ, FUNCTION_WRITE, FUNCTION_ASK, FUNCTION_MOVED, FUNCTION_NEEDS };
+enum function {
+    FUNCTION_READ,
+    FUNCTION_WRITE,
+    FUNCTION_ASK,
+    FUNCTION_MOVED,
+    FUNCTION_NEEDS,
+    FUNCTION_TECU_DELAY,
+    FUNCTION_DELAY
+};
 
 struct area {
     uint64_t length; /* in elements, as the library is told */
@@ -28,6 +38,14 @@ struct call {
 #define N(k) call->number[k]
 #define AREA(k) at[k], call->area[k].length
 #define EIGHT AREA(0), AREA(1), AREA(2), AREA(3), AREA(4), AREA(5), AREA(6), AREA(7)
+
+/* A number of a call that is a double's bits. */
+static inline double real(uint64_t bits)
+{
+    double number;
+    memcpy(&number, &bits, sizeof number);
+    return number;
+}
 
 static uint64_t answer(const struct call *call, void *const *at)
 {
@@ -51,6 +69,14 @@ static uint64_t answer(const struct call *call, void *const *at)
 #ifdef NEEDS
     case FUNCTION_NEEDS:
         return ionex_needs(AREA(0), AREA(1), AREA(2));
+#endif
+#ifdef TECU_DELAY
+    case FUNCTION_TECU_DELAY:
+        return ionex_tecu_delay((int32_t)N(0), real(N(1)), AREA(0));
+#endif
+#ifdef DELAY
+    case FUNCTION_DELAY:
+        return ionex_delay(EIGHT, N(0), N(1), N(2), (int32_t)N(3), (int32_t)N(4), N(5), real(N(6)), AREA(8));
 #endif
     default:
         fprintf(stderr, "bridge: no function %d\n", (int)call->function);

@@ -5,7 +5,15 @@ use std::env;
 use std::path::{Path, PathBuf};
 use std::process::Command;
 
-const FUNCTIONS: [&str; 5] = ["READ", "NEEDS", "ASK", "MOVED", "WRITE"];
+const FUNCTIONS: [&str; 7] = [
+    "READ",
+    "NEEDS",
+    "ASK",
+    "TECU_DELAY",
+    "DELAY",
+    "MOVED",
+    "WRITE",
+];
 
 fn main() {
     println!("cargo:rerun-if-env-changed=IONEX_LIB");

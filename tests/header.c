@@ -95,6 +95,15 @@ int main(int argc, char **argv)
     must(ask(IONEX_KIND_TEC) == IONEX_NO_MAP_SET, "asking looks at the texts");
     texts[IONEX_DATE] = ' ';
 
+    double record[3] = {-1, -1, -1};
+    must(ionex_tecu_delay(1000, 0, AREA(record)) == 25 && record[2] == -1, "no carrier");
+    must(ionex_tecu_delay(1000, 1e9, AREA(record)) == IONEX_DONE && record[0] == 1e9, "a delay");
+    must(record[1] == 1 && record[2] == 0.403, "TECU and metres");
+    must(ionex_delay(SET, IONEX_KIND_TEC, IONEX_BETWEEN, 0, -1000, 0, epochs[0], 1e9, AREA(record)) == IONEX_DONE &&
+         record[1] == 0.01, "the delay of a question");
+    must(ionex_delay(SET, IONEX_KIND_HEIGHT, IONEX_BETWEEN, 0, -1000, 0, epochs[0], 1e9, AREA(record)) ==
+         IONEX_UNKNOWN_CHOICE && record[1] == 0.01, "a height is no delay");
+
     uint64_t moved[1] = {9};
     must(ionex_moved(IONEX_UNIX_ZERO, 315964800, AREA(moved)) == IONEX_DONE && moved[0] == IONEX_GPS_ZERO, "GPS zero");
     must(ionex_moved(epochs[0], 1, AREA(moved)) == IONEX_DONE && moved[0] == epochs[1], "an epoch moved");

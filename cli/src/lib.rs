@@ -12,6 +12,7 @@ mod output;
 pub mod plot;
 mod progress;
 mod question;
+mod questions;
 mod refused;
 mod status;
 mod text;

@@ -1,6 +1,7 @@
 //! A question: which kind of map, by which method, in which layer; and its refusals in words.
 
 use crate::args::Args;
+use crate::json::Object;
 use crate::numbers::tenths;
 use crate::status::Stop;
 use crate::time;
@@ -39,7 +40,20 @@ impl Question {
         maps.ask(self.kind, self.method, self.layer, place, time)
     }
 
-    pub fn kind_name(&self) -> &'static str {
+    /// What was asked, for machines.
+    pub fn json(&self, place: Place, time: Epoch) -> Object {
+        let place = place.to_string();
+        let (lat, lon) = place.split_once(',').unwrap_or((&place, "0"));
+        Object::new()
+            .raw("lat", lat)
+            .raw("lon", lon)
+            .text("time", &time.to_string())
+            .text("kind", self.kind_name())
+            .text("method", self.method_name())
+            .raw("layer", self.layer)
+    }
+
+    fn kind_name(&self) -> &'static str {
         name_of(&KINDS, self.kind)
     }
 

@@ -3,7 +3,7 @@
 use crate::explain::{explain, show};
 use crate::json::{array, string, Object};
 use crate::output::Style;
-use crate::status::Stop;
+use crate::status::{Status, Stop};
 use ionex::{MapSet, Refusal};
 
 /// For people, without the last line end.
@@ -43,4 +43,16 @@ fn place(refusal: &Refusal) -> (u64, u64, u64) {
 pub fn read(name: &str, text: &[u8]) -> Result<MapSet, Stop> {
     MapSet::read(text)
         .map_err(|refusal| Stop::Refused(words(name, text, &refusal, Style::of_errors())))
+}
+
+/// What is printed of a refused question: behind what was asked for machines, else for people.
+pub fn question(asked: Option<Object>, number: u64, reason: &str) -> (Status, String) {
+    let words = match asked {
+        Some(asked) => asked
+            .raw("refused", number)
+            .text("reason", reason)
+            .to_string(),
+        None => format!("refused {number}: {reason}"),
+    };
+    (Status::Refused, words)
 }

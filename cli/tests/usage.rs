@@ -3,17 +3,17 @@
 mod common;
 
 use common::{command, ionex, Folder};
+use ionex_cli::commands::{Command, COMMANDS};
 
 #[test]
 fn help_of_everything() {
     let help = ionex(&["--help"]);
-    let commands = ["check", "info", "canon", "ask", "plot"];
-    for name in commands {
+    for Command { name, .. } in COMMANDS {
         assert!(help.done().contains(&format!("\n  {name:<8} ")), "{name}");
         let of_command = ionex(&[name, "--help"]);
         assert!(of_command
             .done()
-            .starts_with(&format!("Usage: ionex {name} FILE")));
+            .starts_with(&format!("Usage: ionex {name} ")));
         assert!(of_command.text().contains("Exit status: 0 "));
         assert_eq!(ionex(&[name, "-h"]).done(), of_command.text());
         assert_eq!(ionex(&["help", name]).done(), of_command.text());
@@ -71,6 +71,18 @@ fn not_understood() {
         (
             &["ask", "x", "--layer", "-1"],
             "ask: --layer -1: expected a whole number from 0 on; see ionex ask --help",
+        ),
+        (
+            &["delay", "x", "--at", "1,2", "--time", "2010-12-04"],
+            "delay: no --carrier is given: L1, L2, L5 or hertz; see ionex delay --help",
+        ),
+        (
+            &["delay", "x", "--carrier", "L3"],
+            "delay: --carrier \"L3\": expected L1, L2, L5 or hertz, as 1575420000; see ionex delay --help",
+        ),
+        (
+            &["delay", "x", "--carrier", "L1", "--kind", "height"],
+            "delay: --kind height: expected one of tec, rms; see ionex delay --help",
         ),
         (&["plot", "x"], "plot: no -o OUT.svg or OUT.png is given; see ionex plot --help"),
         (

@@ -132,3 +132,38 @@ pub fn ask(given: Given, asked: Asked, value: &mut [i32]) -> u64 {
 pub fn moved(epoch: u64, by: i64, moved: &mut [u64]) -> u64 {
     unsafe { ionex_moved(epoch, by, moved.as_mut_ptr(), moved.len()) }
 }
+
+#[rustfmt::skip]
+extern "C" {
+    fn ionex_tecu_delay(x: i32, carrier: f64, record: *mut f64, record_len: usize) -> u64;
+
+    fn ionex_delay(
+        header: *const i64, header_len: usize, texts: *const u8, texts_len: usize,
+        tec: *const i32, tec_len: usize, rms: *const i32, rms_len: usize, height: *const i32, height_len: usize,
+        exponents: *const i32, exponents_len: usize, epochs: *const u64, epochs_len: usize,
+        marks: *const u8, marks_len: usize,
+        kind: u64, method: u64, layer: u64, lat: i32, lon: i32, second: u64, carrier: f64,
+        record: *mut f64, record_len: usize,
+    ) -> u64;
+}
+
+/// `ionex_tecu_delay`.
+pub fn tecu_delay(x: i32, carrier: f64, record: &mut [f64]) -> u64 {
+    unsafe { ionex_tecu_delay(x, carrier, record.as_mut_ptr(), record.len()) }
+}
+
+/// `ionex_delay`.
+#[rustfmt::skip]
+pub fn delay(given: Given, asked: Asked, carrier: f64, record: &mut [f64]) -> u64 {
+    let Given { header, texts, tec, rms, height, exponents, epochs, marks } = given;
+    let Asked { kind, method, layer, lat, lon, second } = asked;
+    unsafe {
+        ionex_delay(
+            header.as_ptr(), header.len(), texts.as_ptr(), texts.len(),
+            tec.as_ptr(), tec.len(), rms.as_ptr(), rms.len(), height.as_ptr(), height.len(),
+            exponents.as_ptr(), exponents.len(), epochs.as_ptr(), epochs.len(), marks.as_ptr(), marks.len(),
+            kind, method, layer, lat, lon, second, carrier,
+            record.as_mut_ptr(), record.len(),
+        )
+    }
+}

@@ -21,6 +21,7 @@
 #![deny(unsafe_code)]
 #![warn(missing_debug_implementations)]
 
+mod delay;
 mod epoch;
 #[doc(hidden)]
 #[allow(unsafe_code, missing_debug_implementations)]
@@ -32,6 +33,7 @@ mod refusal;
 mod value;
 mod words;
 
+pub use delay::{Carrier, Delay, Metres, Tecu};
 pub use epoch::{Date, Epoch};
 pub use header::{Axis, Code, Header, HEADER, TEXTS};
 pub use mapset::{Areas, MapSet, NO_VALUE};

@@ -53,7 +53,7 @@ impl Areas {
         }
     }
 
-    fn given(&self) -> ffi::Given<'_> {
+    pub(crate) fn given(&self) -> ffi::Given<'_> {
         ffi::Given {
             header: &self.header,
             texts: &self.texts,
@@ -195,18 +195,29 @@ impl MapSet {
         place: Place,
         time: Epoch,
     ) -> Result<Answer, Refusal> {
-        let asked = ffi::Asked {
+        let asked = MapSet::asked(kind, method, layer, place, time);
+        let mut value = [0];
+        match ffi::ask(self.areas.given(), asked, &mut value) {
+            0 => Ok(kind.answer(value[0])),
+            number => Err(Refusal::plain(number)),
+        }
+    }
+
+    /// A question in the archive's numbers.
+    pub(crate) fn asked(
+        kind: Kind,
+        method: Method,
+        layer: u64,
+        place: Place,
+        time: Epoch,
+    ) -> ffi::Asked {
+        ffi::Asked {
             kind: kind as u64,
             method: method as u64,
             layer,
             lat: place.lat,
             lon: place.lon,
             second: time.seconds(),
-        };
-        let mut value = [0];
-        match ffi::ask(self.areas.given(), asked, &mut value) {
-            0 => Ok(kind.answer(value[0])),
-            number => Err(Refusal::plain(number)),
         }
     }
 

@@ -9,6 +9,7 @@
 
 pub mod ask;
 pub mod calendar;
+pub mod delay;
 pub mod fields;
 pub mod fraction;
 pub mod header;
@@ -22,6 +23,7 @@ pub mod write;
 
 pub use ask::{ask, Answer, Question};
 pub use calendar::moved;
+pub use delay::{ask_delay, delay, Delay};
 pub use header::{Axis, Count, Header, System, Texts};
 pub use maps::{Areas, View};
 pub use read::{needs, read, Reading};

@@ -1,7 +1,7 @@
 //! The C boundary (include/ionex.h) in safe Rust: what a call is given, and what it gives back in lent areas.
 
 use crate::set::{Buffers, MapSet};
-use second::{Answer, Axis, Count, Header, Question, Reading, Refusal, System, Texts};
+use second::{Answer, Axis, Count, Delay, Header, Question, Reading, Refusal, System, Texts};
 
 /// How many numbers a header has, and how many bytes its texts.
 pub const HEADER: usize = 44;
@@ -46,6 +46,8 @@ pub trait Boundary {
     fn needs(&self, text: &[u8], needs: &mut [u64], place: &mut [u64]) -> u64;
     fn write(&self, given: &Given, out: &mut [u8], count: &mut [u64]) -> u64;
     fn ask(&self, given: &Given, asked: &Asked, value: &mut [i32]) -> u64;
+    fn tecu_delay(&self, x: i32, carrier: f64, record: &mut [f64]) -> u64;
+    fn delay(&self, given: &Given, asked: &Asked, carrier: f64, record: &mut [f64]) -> u64;
     fn moved(&self, epoch: u64, by: i64, moved: &mut [u64]) -> u64;
 }
 
@@ -200,6 +202,14 @@ impl Boundary for Plain {
         number(ask(given, asked, value))
     }
 
+    fn tecu_delay(&self, x: i32, carrier: f64, record: &mut [f64]) -> u64 {
+        number(tecu_delay(x, carrier, record))
+    }
+
+    fn delay(&self, given: &Given, asked: &Asked, carrier: f64, record: &mut [f64]) -> u64 {
+        number(delay(given, asked, carrier, record))
+    }
+
     fn moved(&self, epoch: u64, by: i64, moved: &mut [u64]) -> u64 {
         number(move_epoch(epoch, by, moved))
     }
@@ -259,22 +269,57 @@ fn write(given: &Given, out: &mut [u8], count: &mut [u64]) -> Result<(), u64> {
     }
 }
 
-fn ask(given: &Given, asked: &Asked, value: &mut [i32]) -> Result<(), u64> {
-    own_areas(given.header.len(), given.texts.len(), value.len(), 1)?;
-    let question = Question {
+fn question(asked: &Asked) -> Question {
+    Question {
         kind: i64::try_from(asked.kind).unwrap_or(-1),
         method: i64::try_from(asked.method).unwrap_or(-1),
         layer: i64::try_from(asked.layer).unwrap_or(-1),
         latitude: i64::from(asked.lat),
         longitude: i64::from(asked.lon),
         second: asked.second,
-    };
+    }
+}
+
+fn ask(given: &Given, asked: &Asked, value: &mut [i32]) -> Result<(), u64> {
+    own_areas(given.header.len(), given.texts.len(), value.len(), 1)?;
+    let question = question(asked);
     // Kind and method come before the header: a header of nothing serves to ask for 23.
     let header = header_of(&given.header).unwrap_or_default();
     let texts = texts_of(&given.texts);
     match second::ask(&header, &texts, &given.areas.view(), &question) {
         Ok(Answer::ThousandthsOfTecu(found) | Answer::ThousandthsOfKilometre(found)) => {
             value[0] = i32::try_from(found).expect("an answer of 32 bits");
+            Ok(())
+        }
+        Err(refusal) => Err(u64::from(refusal.number())),
+    }
+}
+
+/// How many numbers the record of a delay has.
+pub const RECORD: usize = 3;
+
+fn tecu_delay(x: i32, carrier: f64, record: &mut [f64]) -> Result<(), u64> {
+    own_areas(HEADER, TEXTS, record.len(), RECORD)?;
+    put_delay(second::delay(x, carrier), record)
+}
+
+fn delay(given: &Given, asked: &Asked, carrier: f64, record: &mut [f64]) -> Result<(), u64> {
+    own_areas(given.header.len(), given.texts.len(), record.len(), RECORD)?;
+    let header = header_of(&given.header).unwrap_or_default();
+    let texts = texts_of(&given.texts);
+    let view = given.areas.view();
+    let found = second::ask_delay(&header, &texts, &view, &question(asked), carrier);
+    put_delay(found, record)
+}
+
+fn put_delay(found: Result<Delay, Refusal>, record: &mut [f64]) -> Result<(), u64> {
+    match found {
+        Ok(Delay {
+            carrier,
+            tecu,
+            metres,
+        }) => {
+            record[..RECORD].copy_from_slice(&[carrier, tecu, metres]);
             Ok(())
         }
         Err(refusal) => Err(u64::from(refusal.number())),

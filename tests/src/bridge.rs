@@ -14,7 +14,9 @@ const WRITE: u64 = 1;
 const ASK: u64 = 2;
 const MOVED: u64 = 3;
 const NEEDS: u64 = 4;
-const NUMBERS: usize = 6;
+const TECU_DELAY: u64 = 5;
+const DELAY: u64 = 6;
+const NUMBERS: usize = 7;
 const AREAS: usize = 10;
 
 /// How many bytes at least stand behind each area that crosses, and their value; a call must leave them.
@@ -70,17 +72,30 @@ impl Boundary for Archive {
         if !cfg!(feature = "ask") {
             return Plain.ask(given, asked, value);
         }
-        let Asked {
-            kind,
-            method,
-            layer,
-            lat,
-            lon,
-            second,
-        } = *asked;
-        let mut call = Call::new(ASK, &[kind, method, layer, lat as u64, lon as u64, second]);
+        let mut call = Call::new(ASK, &numbers_of(asked));
         call.give_set(given);
         call.lend(value);
+        call.answer()
+    }
+
+    fn tecu_delay(&self, x: i32, carrier: f64, record: &mut [f64]) -> u64 {
+        if !cfg!(feature = "tecu_delay") {
+            return Plain.tecu_delay(x, carrier, record);
+        }
+        let mut call = Call::new(TECU_DELAY, &[x as u64, carrier.to_bits()]);
+        call.lend(record);
+        call.answer()
+    }
+
+    fn delay(&self, given: &Given, asked: &Asked, carrier: f64, record: &mut [f64]) -> u64 {
+        if !cfg!(feature = "delay") {
+            return Plain.delay(given, asked, carrier, record);
+        }
+        let mut numbers = numbers_of(asked).to_vec();
+        numbers.push(carrier.to_bits());
+        let mut call = Call::new(DELAY, &numbers);
+        call.give_set(given);
+        call.lend(record);
         call.answer()
     }
 
@@ -92,6 +107,18 @@ impl Boundary for Archive {
         call.lend(moved);
         call.answer()
     }
+}
+
+fn numbers_of(asked: &Asked) -> [u64; 6] {
+    let Asked {
+        kind,
+        method,
+        layer,
+        lat,
+        lon,
+        second,
+    } = *asked;
+    [kind, method, layer, lat as u64, lon as u64, second]
 }
 
 // ---- a call as bytes ----
@@ -118,7 +145,7 @@ macro_rules! numbers {
     )*};
 }
 
-numbers!(u8 i32 i64 u64);
+numbers!(u8 i32 i64 u64 f64);
 
 /// A call in the making: the `struct call` of bridge.c, and the areas behind it.
 struct Call<'a> {

@@ -39,6 +39,19 @@ extern "C" {
         value: *mut i32, value_len: usize,
     ) -> u64;
 
+    #[cfg(feature = "tecu_delay")]
+    fn ionex_tecu_delay(x: i32, carrier: f64, record: *mut f64, record_len: usize) -> u64;
+
+    #[cfg(feature = "delay")]
+    fn ionex_delay(
+        header: *const i64, header_len: usize, texts: *const u8, texts_len: usize,
+        tec: *const i32, tec_len: usize, rms: *const i32, rms_len: usize, height: *const i32, height_len: usize,
+        exponents: *const i32, exponents_len: usize, epochs: *const u64, epochs_len: usize,
+        marks: *const u8, marks_len: usize,
+        kind: u64, method: u64, layer: u64, lat: i32, lon: i32, second: u64, carrier: f64,
+        record: *mut f64, record_len: usize,
+    ) -> u64;
+
     #[cfg(feature = "moved")]
     fn ionex_moved(epoch: u64, by: i64, moved: *mut u64, moved_len: usize) -> u64;
 }
@@ -101,6 +114,26 @@ impl Boundary for Archive {
         }
     }
 
+    #[cfg(feature = "tecu_delay")]
+    fn tecu_delay(&self, x: i32, carrier: f64, record: &mut [f64]) -> u64 {
+        unsafe { ionex_tecu_delay(x, carrier, record.as_mut_ptr(), record.len()) }
+    }
+
+    #[cfg(feature = "delay")]
+    fn delay(&self, given: &Given, asked: &Asked, carrier: f64, record: &mut [f64]) -> u64 {
+        let Given { header, texts, areas: a } = given;
+        unsafe {
+            ionex_delay(
+                header.as_ptr(), header.len(), texts.as_ptr(), texts.len(),
+                a.tec.as_ptr(), a.tec.len(), a.rms.as_ptr(), a.rms.len(), a.height.as_ptr(), a.height.len(),
+                a.exponents.as_ptr(), a.exponents.len(), a.epochs.as_ptr(), a.epochs.len(),
+                a.marks.as_ptr(), a.marks.len(),
+                asked.kind, asked.method, asked.layer, asked.lat, asked.lon, asked.second, carrier,
+                record.as_mut_ptr(), record.len(),
+            )
+        }
+    }
+
     #[cfg(feature = "moved")]
     fn moved(&self, epoch: u64, by: i64, moved: &mut [u64]) -> u64 {
         unsafe { ionex_moved(epoch, by, moved.as_mut_ptr(), moved.len()) }
@@ -126,6 +159,16 @@ impl Boundary for Archive {
     #[cfg(not(feature = "ask"))]
     fn ask(&self, given: &Given, asked: &Asked, value: &mut [i32]) -> u64 {
         crate::boundary::Plain.ask(given, asked, value)
+    }
+
+    #[cfg(not(feature = "tecu_delay"))]
+    fn tecu_delay(&self, x: i32, carrier: f64, record: &mut [f64]) -> u64 {
+        crate::boundary::Plain.tecu_delay(x, carrier, record)
+    }
+
+    #[cfg(not(feature = "delay"))]
+    fn delay(&self, given: &Given, asked: &Asked, carrier: f64, record: &mut [f64]) -> u64 {
+        crate::boundary::Plain.delay(given, asked, carrier, record)
     }
 
     #[cfg(not(feature = "moved"))]

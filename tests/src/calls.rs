@@ -1,12 +1,15 @@
 //! Seeded calls at the C boundary: own areas of every length, rubbish behind what is needed, and numbers that no field
 //! can hold. Everything lent is compared byte for byte afterwards.
 
-use crate::boundary::{self, Asked, Boundary, Given, Lent, Plain, FLAGS, HEADER, NEEDS, TEXTS};
+use crate::boundary::{
+    self, Asked, Boundary, Given, Lent, Plain, FLAGS, HEADER, NEEDS, RECORD, TEXTS,
+};
 use crate::check::{leave_file, Tally, OFTEN, SHOWN};
 use crate::jobs::{self, Job};
 use crate::rng::Rng;
 use crate::run;
 use crate::set::MapSet;
+use second::Question;
 use std::collections::BTreeMap;
 
 /// What a call is given, and after it what it left.
@@ -31,6 +34,18 @@ pub enum Call {
         asked: Asked,
         value: Vec<i32>,
     },
+    /// The carrier and the record are held as bits.
+    TecuDelay {
+        x: i32,
+        carrier: u64,
+        record: Vec<u64>,
+    },
+    Delay {
+        given: Given,
+        asked: Asked,
+        carrier: u64,
+        record: Vec<u64>,
+    },
     Move {
         epoch: u64,
         by: i64,
@@ -45,6 +60,8 @@ impl Call {
             Call::Needs { .. } => "needs",
             Call::Write { .. } => "write",
             Call::Ask { .. } => "ask",
+            Call::TecuDelay { .. } => "tecu_delay",
+            Call::Delay { .. } => "delay",
             Call::Move { .. } => "moved",
         }
     }
@@ -60,8 +77,29 @@ fn perform(boundary: &dyn Boundary, call: &mut Call) -> u64 {
             asked,
             value,
         } => boundary.ask(given, asked, value),
+        Call::TecuDelay { x, carrier, record } => over_bits(record, |record| {
+            boundary.tecu_delay(*x, f64::from_bits(*carrier), record)
+        }),
+        Call::Delay {
+            given,
+            asked,
+            carrier,
+            record,
+        } => over_bits(record, |record| {
+            boundary.delay(given, asked, f64::from_bits(*carrier), record)
+        }),
         Call::Move { epoch, by, moved } => boundary.moved(*epoch, *by, moved),
     }
+}
+
+/// A call that is lent the numbers that these bits are.
+fn over_bits(bits: &mut [u64], call: impl FnOnce(&mut [f64]) -> u64) -> u64 {
+    let mut numbers: Vec<f64> = bits.iter().map(|&word| f64::from_bits(word)).collect();
+    let answer = call(&mut numbers);
+    for (word, number) in bits.iter_mut().zip(numbers) {
+        *word = number.to_bits();
+    }
+    answer
 }
 
 // ---- the calls of a seed ----
@@ -109,17 +147,27 @@ fn call(rng: &mut Rng, job: Job) -> Call {
             out,
             count: words(rng, 1),
         },
-        Job::Ask { set, question, .. } => {
-            let mut asked = boundary::asked(&question);
-            if rng.once_in(8) {
-                widen_asked(rng, &mut asked);
-            }
-            Call::Ask {
-                given: given(rng, &set),
-                asked,
-                value: words(rng, 1).iter().map(|&w| w as i32).collect(),
-            }
-        }
+        Job::Ask { set, question, .. } => Call::Ask {
+            given: given(rng, &set),
+            asked: asked(rng, &question),
+            value: words(rng, 1).iter().map(|&w| w as i32).collect(),
+        },
+        Job::TecuDelay { x, carrier } => Call::TecuDelay {
+            x,
+            carrier: carrier.to_bits(),
+            record: words(rng, RECORD),
+        },
+        Job::Delay {
+            set,
+            question,
+            carrier,
+            ..
+        } => Call::Delay {
+            given: given(rng, &set),
+            asked: asked(rng, &question),
+            carrier: carrier.to_bits(),
+            record: words(rng, RECORD),
+        },
         Job::Move { epoch, by } => Call::Move {
             epoch,
             by,
@@ -164,6 +212,14 @@ fn other_flags(rng: &mut Rng, header: &mut [i64]) {
             header[place] = rng.pick(&[2, -1, 256, 1 << 32, i64::MIN, i64::MAX]);
         }
     }
+}
+
+fn asked(rng: &mut Rng, question: &Question) -> Asked {
+    let mut asked = boundary::asked(question);
+    if rng.once_in(8) {
+        widen_asked(rng, &mut asked);
+    }
+    asked
 }
 
 fn widen_asked(rng: &mut Rng, asked: &mut Asked) {
@@ -215,6 +271,10 @@ fn difference(a: (u64, &Call), b: (u64, &Call)) -> Option<String> {
         ],
         (Call::Ask { value: left, .. }, Call::Ask { value: right, .. }) => {
             vec![part("value", left, right)]
+        }
+        (Call::TecuDelay { record: left, .. }, Call::TecuDelay { record: right, .. })
+        | (Call::Delay { record: left, .. }, Call::Delay { record: right, .. }) => {
+            vec![part("record", left, right)]
         }
         (Call::Move { moved: left, .. }, Call::Move { moved: right, .. }) => {
             vec![part("moved", left, right)]
@@ -288,6 +348,8 @@ fn expected_often() -> Vec<(&'static str, u64)> {
     add("needs", &[0, 6, 8, 103]);
     add("write", &[0, 30, 31, 101, 102, 103]);
     add("ask", &[0, 20, 21, 22, 23, 24, 31, 101, 102, 103]);
+    add("tecu_delay", &[0, 25, 103]);
+    add("delay", &[0, 20, 21, 22, 23, 24, 25, 31, 101, 102, 103]);
     add("moved", &[0, 7, 103]);
     rows
 }
@@ -320,6 +382,11 @@ pub enum Fault {
     CountTail,
     ValueWhenRefused,
     ValueTail,
+    RecordWhenRefused,
+    RecordTail,
+    /// A record of two numbers served.
+    RecordShort,
+    DelayOrder,
     MovedWhenRefused,
     MovedTail,
     MovedShort,
@@ -332,7 +399,7 @@ pub enum Fault {
     AskedNarrow,
 }
 
-pub const FAULTS: [Fault; 27] = [
+pub const FAULTS: [Fault; 31] = [
     Fault::PlaceWhenDone,
     Fault::HeaderWhenRefused,
     Fault::TextsWhenRefused,
@@ -353,6 +420,10 @@ pub const FAULTS: [Fault; 27] = [
     Fault::CountTail,
     Fault::ValueWhenRefused,
     Fault::ValueTail,
+    Fault::RecordWhenRefused,
+    Fault::RecordTail,
+    Fault::RecordShort,
+    Fault::DelayOrder,
     Fault::MovedWhenRefused,
     Fault::MovedTail,
     Fault::MovedShort,
@@ -470,6 +541,22 @@ impl Boundary for Faulty {
         answer
     }
 
+    fn tecu_delay(&self, x: i32, carrier: f64, record: &mut [f64]) -> u64 {
+        if self.0 == Fault::RecordShort && record.len() == RECORD - 1 {
+            return 0;
+        }
+        let answer = Plain.tecu_delay(x, carrier, record);
+        self.record(answer, record)
+    }
+
+    fn delay(&self, given: &Given, asked: &Asked, carrier: f64, record: &mut [f64]) -> u64 {
+        if self.0 == Fault::DelayOrder && record.len() < RECORD {
+            return 103;
+        }
+        let answer = Plain.delay(given, asked, carrier, record);
+        self.record(answer, record)
+    }
+
     fn moved(&self, epoch: u64, by: i64, moved: &mut [u64]) -> u64 {
         let answer = Plain.moved(epoch, by, moved);
         match (self.0, answer) {
@@ -477,6 +564,21 @@ impl Boundary for Faulty {
             (Fault::MovedTail, _) => flip(moved, 1),
             (Fault::MovedShort, 103) => return 7,
             _ => {}
+        }
+        answer
+    }
+}
+
+impl Faulty {
+    /// The record of a delay, with what is wrong with it.
+    fn record(&self, answer: u64, record: &mut [f64]) -> u64 {
+        let touched = match (self.0, answer) {
+            (Fault::RecordWhenRefused, 20..=31) => record.get_mut(0),
+            (Fault::RecordTail, 0) => record.get_mut(RECORD),
+            _ => None,
+        };
+        if let Some(number) = touched {
+            *number = f64::from_bits(number.to_bits() ^ 1);
         }
         answer
     }

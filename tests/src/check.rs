@@ -1,11 +1,12 @@
 //! The self-check of one library and the comparison of two.
 
+use crate::delays::{self, Bits};
 use crate::jobs::{self, Job, Known, Truth};
 use crate::library::Library;
 use crate::oracle;
 use crate::run::{self, Outcome};
 use crate::set::{Buffers, MapSet};
-use second::{Reading, Refusal};
+use second::{Answer, Question, Reading, Refusal};
 use std::collections::BTreeMap;
 use std::fs;
 use std::path::PathBuf;
@@ -33,6 +34,10 @@ pub struct Counts {
     pub measuring: u64,
     pub writing: [u64; 32],
     pub asking: [u64; 32],
+    /// Of a question, and of a TEC answer that is there already.
+    pub delayed: [u64; 2],
+    pub delaying: [u64; 32],
+    pub carriers: u64,
     pub moving: u64,
 }
 
@@ -58,6 +63,10 @@ impl Counts {
                 self.in_strip += u64::from(set.in_strip(question.longitude));
             }
             (Job::Ask { .. }, Some(number)) => self.asking[number] += 1,
+            (Job::Delay { .. }, None) => self.delayed[0] += 1,
+            (Job::Delay { .. }, Some(number)) => self.delaying[number] += 1,
+            (Job::TecuDelay { .. }, None) => self.delayed[1] += 1,
+            (Job::TecuDelay { .. }, Some(_)) => self.carriers += 1,
             (Job::Move { .. }, None) => self.moved += 1,
             (Job::Move { .. }, Some(_)) => self.moving += 1,
         }
@@ -85,6 +94,12 @@ impl Counts {
         for number in [20, 21, 22, 23, 24, 31] {
             rows.push((format!("asking refused {number}"), self.asking[number]));
         }
+        rows.push(("delays of questions".to_string(), self.delayed[0]));
+        for number in [20, 21, 22, 23, 24, 25, 31] {
+            rows.push((format!("delay refused {number}"), self.delaying[number]));
+        }
+        rows.push(("delays of TEC".to_string(), self.delayed[1]));
+        rows.push(("delay of TEC refused 25".to_string(), self.carriers));
         rows.push(("moved".to_string(), self.moved));
         rows.push(("moving refused 7".to_string(), self.moving));
         rows
@@ -207,6 +222,18 @@ fn judge(library: &dyn Library, job: &Job, outcome: &Outcome) -> Option<String> 
             Err(Refusal::Bare { number: 31 }) if *known == Known::Open => None,
             _ => oracle::wrong(set, question, answer),
         },
+        (Job::TecuDelay { x, carrier }, Outcome::Delay(answer)) => {
+            delays::wrong(*x, *carrier, answer)
+        }
+        (
+            Job::Delay {
+                set,
+                question,
+                carrier,
+                ..
+            },
+            Outcome::Delay(answer),
+        ) => judge_delay(library, set, question, *carrier, answer),
         (Job::Move { epoch, by }, Outcome::Move(answer)) => judge_moving(*epoch, *by, answer),
         _ => Some("a panic".to_string()),
     }
@@ -444,6 +471,29 @@ fn judge_writing(
             .or_else(|| must(after[*length..] == out[*length..], "bytes past the text"))
             .or_else(|| round_trip(library, &set.cut())),
         Err(refusal) => Some(format!("{refusal} is no refusal of writing")),
+    }
+}
+
+/// As the question is answered, and the answer then a delay; a height is none.
+fn judge_delay(
+    library: &dyn Library,
+    set: &MapSet,
+    question: &Question,
+    carrier: f64,
+    answer: &Result<Bits, Refusal>,
+) -> Option<String> {
+    let refused = |number: u8| {
+        let found = answer.err().map(|refusal| refusal.number());
+        must(
+            found == Some(number),
+            &format!("{answer:?} is not {number}"),
+        )
+    };
+    match library.ask(set, question) {
+        _ if question.kind == 2 => refused(23),
+        Ok(Answer::ThousandthsOfTecu(x)) => delays::wrong(x as i32, carrier, answer),
+        Ok(Answer::ThousandthsOfKilometre(_)) => Some("a height".to_string()),
+        Err(refusal) => refused(refusal.number()),
     }
 }
 

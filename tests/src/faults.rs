@@ -1,6 +1,7 @@
 //! Planted faults: a library that answers as the second program does but for one
 //! thing. Each must be found by the comparison.
 
+use crate::delays::Bits;
 use crate::jobs;
 use crate::library::{Library, Second};
 use crate::oracle;
@@ -84,6 +85,18 @@ pub enum Fault {
     /// 24 told after 20, or only for the gap around the second asked for.
     TurnsLate,
     GapAround,
+    // Delays: divided by 1000 after the product, by the carrier twice, by the carrier alone.
+    ThousandLast,
+    CarrierTwice,
+    NotSquared,
+    /// The record in thousandths.
+    RecordThousandths,
+    /// The limits themselves refused.
+    LimitsRefused,
+    /// A height map's value taken as TEC.
+    HeightDelay,
+    /// 25 before the refusals of the question.
+    CarrierFirst,
     // Moving.
     MovedValue,
     MovedRefusal,
@@ -138,6 +151,13 @@ pub fn all() -> Vec<Fault> {
         RoundedPerMap,
         TurnsLate,
         GapAround,
+        ThousandLast,
+        CarrierTwice,
+        NotSquared,
+        RecordThousandths,
+        LimitsRefused,
+        HeightDelay,
+        CarrierFirst,
         MovedValue,
         MovedRefusal,
     ];
@@ -298,6 +318,39 @@ impl Library for Faulty {
                 Second.ask(&with_column_before(set), question)
             }
             _ => answer,
+        }
+    }
+
+    fn tecu_delay(&self, x: i32, carrier: f64) -> Result<Bits, Refusal> {
+        let [_, tecu, metres] = Second.tecu_delay(x, carrier)?.map(f64::from_bits);
+        let x = f64::from(x);
+        let record = match self.0 {
+            Fault::ThousandLast => [carrier, tecu, x * 4.03e17 / 1000.0 / (carrier * carrier)],
+            Fault::CarrierTwice => [carrier, tecu, tecu * 4.03e17 / carrier / carrier],
+            Fault::NotSquared => [carrier, tecu, tecu * 4.03e17 / carrier],
+            Fault::RecordThousandths => [carrier, x, metres],
+            Fault::LimitsRefused if [1.0e9, 2.0e9].contains(&carrier) => {
+                return Err(Refusal::Bare { number: 25 })
+            }
+            _ => [carrier, tecu, metres],
+        };
+        Ok(record.map(f64::to_bits))
+    }
+
+    fn delay(&self, set: &MapSet, question: &Question, carrier: f64) -> Result<Bits, Refusal> {
+        let answer = match (self.0, Second.delay(set, question, carrier)) {
+            (Fault::HeightDelay, _) if question.kind == 2 => Second.ask(set, question),
+            (Fault::CarrierFirst, Err(refusal)) => {
+                Second.tecu_delay(0, carrier)?;
+                return Err(refusal);
+            }
+            (_, Err(refusal)) => return Err(refusal),
+            (_, Ok(_)) => Second.ask(set, question),
+        };
+        match answer? {
+            Answer::ThousandthsOfTecu(x) | Answer::ThousandthsOfKilometre(x) => {
+                self.tecu_delay(x as i32, carrier)
+            }
         }
     }
 

@@ -1,6 +1,7 @@
 //! The jobs of a seed: what is handed to a library, and what is known of it.
 
 use crate::damage;
+use crate::delays;
 use crate::gen;
 use crate::rng::Rng;
 use crate::set::{Buffers, MapSet};
@@ -49,6 +50,17 @@ pub enum Job {
         question: Question,
         known: Known,
     },
+    /// Of so many thousandths of a TECU.
+    TecuDelay {
+        x: i32,
+        carrier: f64,
+    },
+    Delay {
+        set: Box<MapSet>,
+        question: Question,
+        carrier: f64,
+        known: Known,
+    },
     Move {
         epoch: u64,
         by: i64,
@@ -62,6 +74,8 @@ impl Job {
             Job::Needs { .. } => "needs",
             Job::Write { .. } => "write",
             Job::Ask { .. } => "ask",
+            Job::TecuDelay { .. } => "delay of TEC",
+            Job::Delay { .. } => "delay",
             Job::Move { .. } => "move",
         }
     }
@@ -92,6 +106,15 @@ pub fn jobs(seed: u64) -> Vec<Job> {
         jobs.push(move_job(rng));
     }
     jobs.extend(needs_jobs(&jobs, &set));
+    for _ in 0..2 {
+        jobs.push(Job::TecuDelay {
+            x: delays::thousandths(rng),
+            carrier: delays::carrier(rng),
+        });
+    }
+    for damaged in [false, false, false, true] {
+        jobs.push(delay_job(rng, &set, damaged));
+    }
     jobs
 }
 
@@ -220,6 +243,23 @@ fn ask_job(rng: &mut Rng, set: &MapSet, damaged: bool) -> Job {
         set: Box::new(set),
         question,
         known,
+    }
+}
+
+fn delay_job(rng: &mut Rng, set: &MapSet, damaged: bool) -> Job {
+    let carrier = delays::carrier(rng);
+    match ask_job(rng, set, damaged) {
+        Job::Ask {
+            set,
+            question,
+            known,
+        } => Job::Delay {
+            set,
+            question,
+            carrier,
+            known,
+        },
+        other => other,
     }
 }
 

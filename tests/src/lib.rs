@@ -12,6 +12,7 @@ pub mod c;
 pub mod calls;
 pub mod check;
 pub mod damage;
+pub mod delays;
 pub mod faults;
 pub mod gen;
 pub mod jobs;

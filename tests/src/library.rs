@@ -2,6 +2,7 @@
 
 use crate::archive::{Archive, FUNCTIONS};
 use crate::boundary::{self, Boundary, Lent, HEADER, NEEDS, TEXTS};
+use crate::delays::{self, Bits};
 use crate::set::{Buffers, MapSet};
 use second::{Answer, Question, Reading, Refusal};
 
@@ -19,6 +20,11 @@ pub trait Library {
     fn write(&self, set: &MapSet, out: &mut [u8]) -> Result<usize, Refusal>;
 
     fn ask(&self, set: &MapSet, question: &Question) -> Result<Answer, Refusal>;
+
+    /// A delay of so many thousandths of a TECU.
+    fn tecu_delay(&self, x: i32, carrier: f64) -> Result<Bits, Refusal>;
+
+    fn delay(&self, set: &MapSet, question: &Question, carrier: f64) -> Result<Bits, Refusal>;
 
     fn moved(&self, epoch: u64, by: i64) -> Result<u64, Refusal>;
 }
@@ -45,6 +51,15 @@ impl Library for Second {
 
     fn ask(&self, set: &MapSet, question: &Question) -> Result<Answer, Refusal> {
         second::ask(&set.header, &set.texts, &set.areas.view(), question)
+    }
+
+    fn tecu_delay(&self, x: i32, carrier: f64) -> Result<Bits, Refusal> {
+        second::delay(x, carrier).map(delays::bits)
+    }
+
+    fn delay(&self, set: &MapSet, question: &Question, carrier: f64) -> Result<Bits, Refusal> {
+        let view = set.areas.view();
+        second::ask_delay(&set.header, &set.texts, &view, question, carrier).map(delays::bits)
     }
 
     fn moved(&self, epoch: u64, by: i64) -> Result<u64, Refusal> {
@@ -110,6 +125,23 @@ impl<B: Boundary> Library for Behind<B> {
         match self.0.ask(&boundary::given(set), &asked, &mut value) {
             0 if question.kind == 2 => Ok(Answer::ThousandthsOfKilometre(value[0].into())),
             0 => Ok(Answer::ThousandthsOfTecu(value[0].into())),
+            answer => Err(bare(answer)),
+        }
+    }
+
+    fn tecu_delay(&self, x: i32, carrier: f64) -> Result<Bits, Refusal> {
+        let mut record = [0.0; 3];
+        match self.0.tecu_delay(x, carrier, &mut record) {
+            0 => Ok(record.map(f64::to_bits)),
+            answer => Err(bare(answer)),
+        }
+    }
+
+    fn delay(&self, set: &MapSet, question: &Question, carrier: f64) -> Result<Bits, Refusal> {
+        let mut record = [0.0; 3];
+        let (given, asked) = (boundary::given(set), boundary::asked(question));
+        match self.0.delay(&given, &asked, carrier, &mut record) {
+            0 => Ok(record.map(f64::to_bits)),
             answer => Err(bare(answer)),
         }
     }

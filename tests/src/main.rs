@@ -2,6 +2,7 @@
 //! compare libraries COUNT SEED    the second program and the library, byte for byte
 //! compare boundary COUNT SEED     both at the C boundary: own areas of every length, numbers too wide
 //! compare faults COUNT SEED       every planted fault must be found
+//! compare delays SEED             delays of a week's log and of any carriers, by both, bit for bit
 //! compare places COUNT SEED       where the damaged texts are refused, for reading
 //! compare program FILE            an executable on every example, against the second program
 //!
@@ -13,7 +14,7 @@
 use compare::archive::{Archive, FUNCTIONS};
 use compare::check::{self, Tally};
 use compare::library::{self, Second};
-use compare::{calls, faults, program};
+use compare::{calls, delays, faults, program};
 use std::path::Path;
 use std::process::ExitCode;
 
@@ -22,6 +23,10 @@ fn main() -> ExitCode {
     let words: Vec<&str> = arguments.iter().map(String::as_str).collect();
     let tally = match words[..] {
         ["program", file] => program::examples(Path::new(file)),
+        ["delays", seed] => match seed.parse() {
+            Ok(seed) if linked() => delays::log(&Archive, seed),
+            _ => return usage(),
+        },
         [mode, count, seed] => {
             let (Ok(count), Ok(seed)) = (count.parse(), seed.parse()) else {
                 return usage();
@@ -47,8 +52,9 @@ fn main() -> ExitCode {
 
 fn usage() -> ExitCode {
     eprintln!("usage: compare self-check|libraries|boundary|faults|places COUNT SEED");
+    eprintln!("       compare delays SEED");
     eprintln!("       compare program FILE");
-    eprintln!("libraries and boundary need a function that is linked");
+    eprintln!("libraries, boundary and delays need a function that is linked");
     ExitCode::from(2)
 }
 

@@ -1,5 +1,6 @@
 //! A job given to a library, and everything that comes back.
 
+use crate::delays::Bits;
 use crate::jobs::Job;
 use crate::library::Library;
 use crate::set::Buffers;
@@ -21,6 +22,7 @@ pub enum Outcome {
         out: Vec<u8>,
     },
     Ask(Result<Answer, Refusal>),
+    Delay(Result<Bits, Refusal>),
     Move(Result<u64, Refusal>),
     Panic,
 }
@@ -36,6 +38,7 @@ impl Outcome {
             Outcome::Needs(answer) => answer.err(),
             Outcome::Write { answer, .. } => answer.err(),
             Outcome::Ask(answer) => answer.err(),
+            Outcome::Delay(answer) => answer.err(),
             Outcome::Move(answer) => answer.err(),
             _ => None,
         }
@@ -60,6 +63,13 @@ fn attempt(library: &dyn Library, job: &Job) -> Outcome {
             Outcome::Write { answer, out }
         }
         Job::Ask { set, question, .. } => Outcome::Ask(library.ask(set, question)),
+        Job::TecuDelay { x, carrier } => Outcome::Delay(library.tecu_delay(*x, *carrier)),
+        Job::Delay {
+            set,
+            question,
+            carrier,
+            ..
+        } => Outcome::Delay(library.delay(set, question, *carrier)),
         Job::Move { epoch, by } => Outcome::Move(library.moved(*epoch, *by)),
     }
 }
@@ -90,6 +100,7 @@ pub fn difference(a: &Outcome, b: &Outcome) -> Option<String> {
             .or_else(|| (left != right).then(|| place("output", left, right))),
         (Outcome::Needs(first), Outcome::Needs(second)) => unequal("needs", first, second),
         (Outcome::Ask(first), Outcome::Ask(second)) => unequal("value asked", first, second),
+        (Outcome::Delay(first), Outcome::Delay(second)) => unequal("delay", first, second),
         (Outcome::Move(first), Outcome::Move(second)) => unequal("moved epoch", first, second),
         _ => Some(format!("one of the two failed: {a:?} {b:?}")),
     }

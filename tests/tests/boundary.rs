@@ -178,6 +178,35 @@ fn own_areas_too_short_for_writing_and_asking() {
 }
 
 #[test]
+fn own_areas_too_short_for_delays() {
+    let set = set();
+    for ([header, texts, result], answer) in SHORT {
+        let mut given = set.clone();
+        given.header.truncate(header);
+        given.texts.truncate(texts);
+        // A record needs three numbers; two are too few.
+        let mut record = vec![-7.5; if result == 0 { 2 } else { 3 }];
+        for carrier in [1.5e9, 0.0] {
+            let found = Archive.delay(&given, &question(&set), carrier, &mut record);
+            assert_eq!(found, answer);
+            assert!(record.iter().all(|&number| number == -7.5));
+        }
+    }
+    for length in 0..3 {
+        let mut record = vec![-7.5; length];
+        for carrier in [1.5e9, 0.0] {
+            assert_eq!(Archive.tecu_delay(1000, carrier, &mut record), 103);
+            assert_eq!(record, vec![-7.5; length]);
+        }
+    }
+    let mut record = [-7.5; 5];
+    assert_eq!(Archive.tecu_delay(1000, 0.0, &mut record), 25);
+    assert_eq!(record, [-7.5; 5]);
+    assert_eq!(Archive.tecu_delay(1000, 1.0e9, &mut record), 0);
+    assert_eq!(record, [1.0e9, 1.0, 0.403, -7.5, -7.5]);
+}
+
+#[test]
 fn own_area_too_short_for_moving() {
     for (epoch, by) in [(0, 0), (0, -1), (u64::MAX, 0)] {
         assert_eq!(Archive.moved(epoch, by, &mut []), 103);

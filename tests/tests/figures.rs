@@ -1,6 +1,7 @@
 //! The figures of the scope paper that are not proved, and what it calls easy to get wrong, by the second program and
 //! by the library where it is linked.
 
+use compare::delays::L1;
 use compare::library::{self, Library, Second};
 use compare::set::{Buffers, MapSet};
 use second::{Answer, Axis, Question, Reading, Refusal};
@@ -403,6 +404,66 @@ fn maps_that_do_not_turn() {
             }
             assert_eq!(ask(&set, 0, 1), tecu(10_000));
         }
+    });
+}
+
+/// Document 02's thirteenth request: one TECU at L1 is about 0.162 m, and at 1 GHz 0.403 m.
+#[test]
+fn delays_in_metres() {
+    each(|library| {
+        let delay = |x, carrier| {
+            let record = library.tecu_delay(x, carrier);
+            record.map(|bits| bits.map(f64::from_bits))
+        };
+        let [carrier, tecu, metres] = delay(1000, L1).expect("a delay");
+        assert_eq!((carrier, tecu), (1_575_420_000.0, 1.0));
+        assert_eq!(format!("{metres:.4}"), "0.1624");
+        assert_eq!(delay(1000, 1.0e9), Ok([1.0e9, 1.0, 0.403]));
+        assert_eq!(delay(-1000, 2.0e9), Ok([2.0e9, -1.0, -0.100_75]));
+        let zero = library.tecu_delay(0, L1);
+        assert_eq!(zero, Ok([L1.to_bits(), 0, 0]));
+        let beside = |value: f64, by| f64::from_bits(value.to_bits().wrapping_add_signed(by));
+        for carrier in [
+            beside(1.0e9, -1),
+            beside(2.0e9, 1),
+            -L1,
+            -0.0,
+            f64::INFINITY,
+            f64::NEG_INFINITY,
+            f64::NAN,
+            -f64::NAN,
+        ] {
+            let refused = Err(Refusal::Bare { number: 25 });
+            assert_eq!(delay(1000, carrier), refused, "{carrier}");
+        }
+    });
+}
+
+/// The delay of a question's answer: 25 TECU between the corners. A height is 23, and 25 comes last.
+#[test]
+fn delays_of_questions() {
+    let text = one_map([[100, 200], [300, 9999]]);
+    each(|library| {
+        let set = read(library, &text).expect("accepted");
+        let ask = |latitude, kind, second, carrier| {
+            let question = Question {
+                kind,
+                ..question(latitude, 0, second, 1)
+            };
+            let record = library.delay(&set, &question, carrier);
+            record.map(|bits| bits.map(f64::from_bits))
+        };
+        let no = |number| Err(Refusal::Bare { number });
+        // Halfway between 10 and 30 TECU.
+        let [carrier, tecu, metres] = ask(500, 0, 0, L1).expect("a delay");
+        assert_eq!((carrier, tecu), (L1, 20.0));
+        assert_eq!(format!("{metres:.3}"), "3.247");
+        assert_eq!(ask(500, 0, 0, 1.0), no(25));
+        assert_eq!(ask(500, 2, 0, 1.0), no(23));
+        assert_eq!(ask(500, 3, 0, 1.0), no(23));
+        assert_eq!(ask(500, 1, 0, 1.0), no(22));
+        assert_eq!(ask(-1, 1, 0, 1.0), no(21));
+        assert_eq!(ask(-1, 1, 1, 1.0), no(20));
     });
 }
 

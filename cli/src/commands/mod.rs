@@ -3,6 +3,7 @@
 pub mod ask;
 pub mod canon;
 pub mod check;
+pub mod delay;
 pub mod info;
 pub mod plot;
 
@@ -20,14 +21,18 @@ pub struct Command {
 }
 
 /// Every command, in the order of the help. A new one is a row here and a module of its own.
-pub const COMMANDS: [&Command; 5] = [
+pub const COMMANDS: &[&Command] = &[
     &check::COMMAND,
     &info::COMMAND,
     &canon::COMMAND,
     &ask::COMMAND,
+    &delay::COMMAND,
     &plot::COMMAND,
 ];
 
 pub fn find(name: &str) -> Option<&'static Command> {
-    COMMANDS.into_iter().find(|command| command.name == name)
+    COMMANDS
+        .iter()
+        .copied()
+        .find(|command| command.name == name)
 }

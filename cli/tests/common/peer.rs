@@ -75,6 +75,14 @@ impl Peer {
             value.abs() % 1000
         ))
     }
+
+    /// Carrier, TECU and metres, or the number of the refusal.
+    pub fn delay(&self, question: &Question, hertz: f64) -> Result<[f64; 3], u8> {
+        let view = self.view();
+        let delay = second::ask_delay(&self.header, &self.texts, &view, question, hertz)
+            .map_err(|refusal| refusal.number())?;
+        Ok([delay.carrier, delay.tecu, delay.metres])
+    }
 }
 
 /// Numbers that look like chance, the same in every run.

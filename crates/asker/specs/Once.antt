@@ -97,6 +97,9 @@ back-why W.OutOfTime = refl
 back-why W.OutOfPlace = refl
 back-why W.NoValue = refl
 
+pub number-once : (v w : Why) → number v ≡ number w → v ≡ w
+number-once v w e = sym (back-why v) ∙ ap why-of e ∙ back-why w
+
 back-told : (r : Asked) → back (told r) ≡ r
 back-told (A.Tecu v) = refl
 back-told (A.Km v) = refl

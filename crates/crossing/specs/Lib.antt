@@ -4,4 +4,5 @@ pub mod ReadExported
 pub mod NeedsExported
 pub mod WriteExported
 pub mod AskExported
+pub mod DelayExported
 pub mod MoveExported

@@ -7,16 +7,22 @@ ghost use Rattle.kit.specs.Lists.{front};
 ghost use Rattle.outcome.specs.Outcome.{told-number as read-number, told-place, told as told-read, told-reason};
 ghost use Rattle.output.specs.Write.{done, told as told-written};
 ghost use Rattle.asker.specs.Ask.{told as told-asked, number, tecu};
+ghost use Rattle.delay.specs.Delay.{told as told-delay};
+ghost use Rattle.askdelay.specs.AskDelay.{told as told-asked-delay};
 ghost use Rattle.calendar.specs.Calendar.{toldWhen};
 ghost use Rattle.crossing.specs.Own.{too-short};
 ghost use Rattle.crossing.specs.ReadExported.{told-header, told-texts, Small};
 ghost use Rattle.crossing.specs.NeedsExported.{listed, number as needs-number, told-needs, place as needs-place};
 ghost use Rattle.crossing.specs.WriteExported.{told-number as write-number, told-count};
 ghost use Rattle.crossing.specs.AskExported.{told-number as ask-number, told-value};
+ghost use Rattle.crossing.specs.DelayExported.{told-number as delay-number, told-record};
 ghost use Rattle.crossing.specs.MoveExported.{told-number as move-number, told-moved};
+use askdelay::AskedDelay;
 use asker::Asked;
 use asker::Why;
 use calendar::When;
+use delay::Delay;
+use delay::Delayed;
 use needs::Elements;
 use outcome::Measured;
 use outcome::ReadOut;
@@ -177,6 +183,42 @@ pub fn put_answer(answer: Asked, out: &mut [i32]) -> u64
             0
         }
         Asked::Refused(why) => number_of(why),
+    }
+}
+
+// ---- Delays
+
+fn put_record(out: &mut [f64], d: Delay)
+    requires { ⌜ 3 ≤ length (now out) ⌝ }
+    ensures { λ _. ⌜ now (out .exit) ≡ front (d .carrier ∷ d .tecu ∷ d .metres ∷ []) (now (out .entry)) ⌝ }
+{
+    out[0] = d.carrier;
+    out[1] = d.tecu;
+    out[2] = d.metres;
+}
+
+// A delay crosses: its number, and the record if there is one.
+pub fn put_delay(delayed: Delayed, out: &mut [f64]) -> u64
+    requires { ⌜ 3 ≤ length (now out) ⌝ }
+    ensures { λ r. ⌜ (r ≡ delay-number (told-delay delayed)) × (now (out .exit) ≡ front (told-record (told-delay delayed)) (now (out .entry))) ⌝ }
+{
+    match delayed {
+        Delayed::Given(d) => {
+            put_record(out, d);
+            0
+        }
+        Delayed::Refused => 25,
+    }
+}
+
+// The delay of a question crosses.
+pub fn put_asked_delay(answer: AskedDelay, out: &mut [f64]) -> u64
+    requires { ⌜ 3 ≤ length (now out) ⌝ }
+    ensures { λ r. ⌜ (r ≡ delay-number (told-asked-delay answer)) × (now (out .exit) ≡ front (told-record (told-asked-delay answer)) (now (out .entry))) ⌝ }
+{
+    match answer {
+        AskedDelay::Answered(d) => put_delay(d, out),
+        AskedDelay::Refused(why) => number_of(why),
     }
 }
 

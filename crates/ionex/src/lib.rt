@@ -1,5 +1,6 @@
-// The public functions: reading, writing and asking; and an epoch moved, for other languages. Each answers on every input, and asks nothing of its caller.
+// The public functions: reading, writing, asking, and delays; and an epoch moved, for other languages. Each answers on every input, and asks nothing of its caller.
 pub mod asking;
+pub mod delays;
 mod moving;
 pub mod reader;
 pub mod writing;

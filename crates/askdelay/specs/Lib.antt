@@ -1,0 +1,3 @@
+pub mod AskDelay
+pub mod AskDelayLaws
+pub mod Once
