@@ -128,7 +128,10 @@ fn words(rng: &mut Rng, need: usize) -> Vec<u64> {
 
 fn call(rng: &mut Rng, job: Job) -> Call {
     match job {
-        Job::Read { text, lent, .. } => Call::Read {
+        Job::Read { text, lent, .. }
+        | Job::Twins {
+            twin: text, lent, ..
+        } => Call::Read {
             text,
             lent: Lent {
                 areas: lent,

@@ -4,6 +4,7 @@ use crate::delays::{self, Bits};
 use crate::jobs::{self, Job, Known, Truth};
 use crate::library::Library;
 use crate::oracle;
+use crate::remarks;
 use crate::run::{self, Outcome};
 use crate::set::{Buffers, MapSet};
 use second::{Answer, Question, Reading, Refusal};
@@ -21,6 +22,8 @@ pub const SHOWN: u64 = 20;
 #[derive(Default)]
 pub struct Counts {
     pub accepted: u64,
+    /// Remarks rewritten, in texts that are accepted and in others.
+    pub rewritten: [u64; 2],
     pub measured: u64,
     pub written: u64,
     /// By method.
@@ -54,6 +57,9 @@ impl Counts {
                     }
                 }
             }
+            (Job::Twins { text, twin, .. }, number) => {
+                self.rewritten[usize::from(number.is_some())] += u64::from(text != twin)
+            }
             (Job::Needs { .. }, None) => self.measured += 1,
             (Job::Needs { .. }, Some(_)) => self.measuring += 1,
             (Job::Write { .. }, None) => self.written += 1,
@@ -80,6 +86,9 @@ impl Counts {
         for number in 5..=9 {
             let name = format!("refused {number} inside the maps");
             rows.push((name, self.deep[number]));
+        }
+        for (name, number) in ["accepted", "refused"].iter().zip(self.rewritten) {
+            rows.push((format!("remarks rewritten, {name}"), number));
         }
         rows.push(("measured".to_string(), self.measured));
         rows.push(("measuring refused".to_string(), self.measuring));
@@ -183,6 +192,10 @@ fn over_seeds(count: u64, seed: u64, try_job: impl Fn(&Job) -> (Outcome, Option<
 /// Leaves what a failed job was given.
 fn leave(seed: u64, k: usize, job: &Job) {
     match job {
+        Job::Twins { text, twin, .. } => {
+            leave_file(&format!("{seed}-{k}.inx"), text);
+            leave_file(&format!("{seed}-{k}-twin.inx"), twin);
+        }
         Job::Read { text, .. } | Job::Needs { text, .. } => {
             leave_file(&format!("{seed}-{k}.inx"), text)
         }
@@ -205,6 +218,7 @@ fn judge(library: &dyn Library, job: &Job, outcome: &Outcome) -> Option<String> 
         (Job::Read { text, lent, truth }, Outcome::Read { answer, areas }) => {
             judge_reading(library, text, lent, truth, answer, areas)
         }
+        (Job::Twins { .. }, Outcome::Twins { .. }) => remarks::differs(outcome),
         (Job::Needs { text, truth }, Outcome::Needs(answer)) => {
             judge_needs(library, text, truth, answer)
         }

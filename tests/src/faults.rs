@@ -5,6 +5,7 @@ use crate::delays::Bits;
 use crate::jobs;
 use crate::library::{Library, Second};
 use crate::oracle;
+use crate::remarks::Leak;
 use crate::run;
 use crate::set::{Buffers, MapSet};
 use second::maps::Grid;
@@ -50,6 +51,8 @@ pub enum Fault {
     ExponentReset,
     /// A point with no digit after it taken as 0.
     PointAlone,
+    /// A byte of a remark let through; only texts that differ in their remarks show it.
+    Leak(Leak),
     // Needs: one of them, or the place of a refusal.
     Need(usize),
     NeedOfNone,
@@ -202,6 +205,11 @@ impl Library for Faulty {
     }
 
     fn read(&self, text: &[u8], areas: &mut Buffers) -> Reading {
+        if let Fault::Leak(leak) = self.0 {
+            let mut answer = Second.read(text, areas);
+            leak.into_reading(text, &mut answer, areas);
+            return answer;
+        }
         let before = areas.clone();
         match Second.read(text, areas) {
             Reading::Accepted { header, texts } => {
@@ -221,6 +229,7 @@ impl Library for Faulty {
             // RMS maps taken to be there in every text.
             (Fault::NeedOfNone, Ok(needs)) => needs[1] = needs[0],
             (Fault::NeedsLine, Err(Refusal::Place { line, .. })) => *line += 1,
+            (Fault::Leak(leak), Ok(needs)) => leak.into_needs(text, needs),
             (Fault::NeedsAccepted, Err(_)) => return Ok([1; 6]),
             _ => {}
         }

@@ -3,6 +3,7 @@
 use crate::damage;
 use crate::delays;
 use crate::gen;
+use crate::remarks;
 use crate::rng::Rng;
 use crate::set::{Buffers, MapSet};
 use second::Question;
@@ -33,6 +34,12 @@ pub enum Job {
         /// The areas as they are lent.
         lent: Buffers,
         truth: Truth,
+    },
+    /// Two texts that differ in their remarks only.
+    Twins {
+        text: Vec<u8>,
+        twin: Vec<u8>,
+        lent: Buffers,
     },
     /// A text, and what it needs where that is known.
     Needs {
@@ -71,6 +78,7 @@ impl Job {
     pub fn name(&self) -> &'static str {
         match self {
             Job::Read { .. } => "read",
+            Job::Twins { .. } => "twins",
             Job::Needs { .. } => "needs",
             Job::Write { .. } => "write",
             Job::Ask { .. } => "ask",
@@ -115,6 +123,7 @@ pub fn jobs(seed: u64) -> Vec<Job> {
     for damaged in [false, false, false, true] {
         jobs.push(delay_job(rng, &set, damaged));
     }
+    jobs.extend(twins_jobs(rng, &jobs));
     jobs
 }
 
@@ -130,6 +139,21 @@ fn needs_jobs(jobs: &[Job], set: &MapSet) -> Vec<Job> {
         .zip(truths)
         .map(|(text, truth)| Job::Needs { text, truth })
         .collect()
+}
+
+/// The first reading, of a good text, and two of damaged ones, with a twin of each text.
+fn twins_jobs(rng: &mut Rng, jobs: &[Job]) -> Vec<Job> {
+    let mut twins = Vec::new();
+    for job in [&jobs[0], &jobs[2], &jobs[3]] {
+        if let Job::Read { text, lent, .. } = job {
+            twins.push(Job::Twins {
+                text: text.clone(),
+                twin: remarks::rewritten(rng, text),
+                lent: lent.clone(),
+            });
+        }
+    }
+    twins
 }
 
 /// Guard elements behind each need, and rubbish areas for kinds with no map.

@@ -19,6 +19,7 @@ pub mod jobs;
 pub mod library;
 pub mod oracle;
 pub mod program;
+pub mod remarks;
 pub mod rng;
 pub mod run;
 pub mod set;

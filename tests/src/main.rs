@@ -14,7 +14,7 @@
 use compare::archive::{Archive, FUNCTIONS};
 use compare::check::{self, Tally};
 use compare::library::{self, Second};
-use compare::{calls, delays, faults, program};
+use compare::{calls, delays, faults, program, remarks};
 use std::path::Path;
 use std::process::ExitCode;
 
@@ -94,6 +94,14 @@ fn planted_faults(count: u64, seed: u64) -> Tally {
             format!("seed {seed} job {job}: {short}")
         });
         tell(&mut tally, &format!("{fault:?}"), told);
+    }
+    for leak in remarks::LEAKS {
+        let found = remarks::find(leak, count, seed);
+        let told = found.map(|(seed, difference)| {
+            let short: String = difference.chars().take(60).collect();
+            format!("seed {seed}: {short}")
+        });
+        tell(&mut tally, &format!("{leak:?} by its remarks"), told);
     }
     for fault in calls::FAULTS {
         let found = calls::find(&Archive, fault, count, seed);

@@ -15,6 +15,12 @@ pub enum Outcome {
         /// All six areas afterwards, with their guard elements.
         areas: Buffers,
     },
+    /// The readings of two texts, and what they need.
+    Twins {
+        text: Box<Outcome>,
+        twin: Box<Outcome>,
+        needs: [Result<[usize; 6], Refusal>; 2],
+    },
     Needs(Result<[usize; 6], Refusal>),
     Write {
         answer: Result<usize, Refusal>,
@@ -35,6 +41,7 @@ impl Outcome {
                 answer: Reading::Refused(refusal),
                 ..
             } => Some(*refusal),
+            Outcome::Twins { text, .. } => text.refusal(),
             Outcome::Needs(answer) => answer.err(),
             Outcome::Write { answer, .. } => answer.err(),
             Outcome::Ask(answer) => answer.err(),
@@ -51,11 +58,12 @@ pub fn run(library: &dyn Library, job: &Job) -> Outcome {
 
 fn attempt(library: &dyn Library, job: &Job) -> Outcome {
     match job {
-        Job::Read { text, lent, .. } => {
-            let mut areas = lent.clone();
-            let answer = library.read(text, &mut areas);
-            Outcome::Read { answer, areas }
-        }
+        Job::Read { text, lent, .. } => read(library, text, lent),
+        Job::Twins { text, twin, lent } => Outcome::Twins {
+            text: Box::new(read(library, text, lent)),
+            twin: Box::new(read(library, twin, lent)),
+            needs: [library.needs(text), library.needs(twin)],
+        },
         Job::Needs { text, .. } => Outcome::Needs(library.needs(text)),
         Job::Write { set, out, .. } => {
             let mut out = out.clone();
@@ -72,6 +80,12 @@ fn attempt(library: &dyn Library, job: &Job) -> Outcome {
         } => Outcome::Delay(library.delay(set, question, *carrier)),
         Job::Move { epoch, by } => Outcome::Move(library.moved(*epoch, *by)),
     }
+}
+
+fn read(library: &dyn Library, text: &[u8], lent: &Buffers) -> Outcome {
+    let mut areas = lent.clone();
+    let answer = library.read(text, &mut areas);
+    Outcome::Read { answer, areas }
 }
 
 /// The first thing in which two outcomes differ.
@@ -98,6 +112,16 @@ pub fn difference(a: &Outcome, b: &Outcome) -> Option<String> {
             },
         ) => unequal("answer of writing", first, second)
             .or_else(|| (left != right).then(|| place("output", left, right))),
+        (
+            Outcome::Twins { text, twin, needs },
+            Outcome::Twins {
+                text: other_text,
+                twin: other_twin,
+                needs: other_needs,
+            },
+        ) => difference(text, other_text)
+            .or_else(|| difference(twin, other_twin))
+            .or_else(|| unequal("needs", needs, other_needs)),
         (Outcome::Needs(first), Outcome::Needs(second)) => unequal("needs", first, second),
         (Outcome::Ask(first), Outcome::Ask(second)) => unequal("value asked", first, second),
         (Outcome::Delay(first), Outcome::Delay(second)) => unequal("delay", first, second),
