@@ -50,8 +50,8 @@ static const char *words(enum ionex_answer answer)
     case IONEX_SHORT_HEADER: return "fewer numbers than a header has";
     case IONEX_SHORT_TEXTS: return "fewer bytes than the texts have";
     case IONEX_SHORT_RESULT: return "no room for the result";
+    default: return "a refusal of another call";
     }
-    return "a refusal that ionex.h does not name";
 }
 
 /* Tells a refusal, with the place of a text where there is one. */

@@ -1,5 +1,5 @@
 /*
- * ionex.h: reads, writes and interpolates IONEX 1.1 ionosphere maps.
+ * ionex.h: reads, writes, interpolates and joins IONEX 1.1 ionosphere maps.
  *
  * Link with target/staticlib/libionex.a (x86-64), which `rt staticlib ionex` makes. There is nothing to set up and
  * nothing to free: the library keeps nothing between calls and touches only the areas it is lent.
@@ -52,7 +52,7 @@ enum ionex_answer {
     IONEX_MISSING = 9,       /* at an END record: a header record, block or map has not come */
     IONEX_CUT_SHORT = 10,    /* the text ends before END OF FILE; the line is one past the last */
 
-    /* Reading: the text is good, but an area is too short. place[0] is the area (1 TEC, 2 RMS, 3 height,
+    /* Reading and joining: all is good, but an area is too short. place[0] is the area (1 TEC, 2 RMS, 3 height,
      * 4 exponents, 5 epochs, 6 marks), place[1] the elements it needs. */
     IONEX_SHORT_AREA = 11,
 
@@ -67,10 +67,15 @@ enum ionex_answer {
                           * neighbouring epochs are more than 7,200 s apart */
     IONEX_UNSERVED_CARRIER = 25, /* the carrier is not from 1.0e9 to 2.0e9 Hz */
 
-    /* Writing, and 31 also asking. */
+    /* Writing, and 31 also asking and joining. */
     IONEX_SHORT_OUTPUT = 30, /* the output is too short; count[0] is the bytes needed */
-    IONEX_NO_MAP_SET = 31,   /* what was given is not a valid map set. Writing looks at all of it; asking at header,
-                              * texts, lengths of the areas, epochs and marks only */
+    IONEX_NO_MAP_SET = 31,   /* what was given is not a valid map set. Writing and joining look at all of it; asking at
+                              * header, texts, lengths of the areas, epochs and marks only */
+
+    /* Joining. */
+    IONEX_UNLIKE = 40,        /* the grids (heights among them), the dimensions or the base radii differ */
+    IONEX_APART = 41,         /* the earlier set's last epoch is not the later set's first */
+    IONEX_TOO_MANY = 42,      /* more than 300 maps, or more than 2,000,000 values of a kind */
 
     /* A small area of the call's own is too short. Told first, in this order, before anything else is looked at,
      * and then nothing is written. */
@@ -301,6 +306,48 @@ uint64_t ionex_delay(const int64_t *header, size_t header_len, /* IONEX_HEADER n
                      uint64_t kind, uint64_t method, uint64_t layer,
                      int32_t lat, int32_t lon, uint64_t second, double carrier,
                      double *record, size_t record_len); /* IONEX_RECORD numbers, else 103 */
+
+/*
+ * Joins two map sets of which the earlier one's last epoch is the later one's first. The shared map comes once, from the
+ * later set, with its RMS and height maps. The header is the later set's, with the earlier first epoch and n of both;
+ * INTERVAL is kept where both are equal and else 0. The texts are the later set's.
+ *
+ *   0            the joined set stands in front of the six areas, of header and of texts; place is as found. It is a
+ *                valid map set: it can be asked, written, and joined again.
+ *   31           one of the two is not a valid map set, judged as writing judges it.
+ *   40, 41, 42   told in this order, after 31.
+ *   11           told last; place says which area, and what it needs. It never needs more than a reading may.
+ *
+ * After a refusal header, texts and all six areas are as they were found, byte for byte. A kind that only the earlier
+ * set's last map had is not in the joined set; where one set has no map of a kind that the other has, its maps hold
+ * IONEX_ABSENT everywhere and exponent -1. Three sets come to the same in both groupings, or both are refused, though
+ * the numbers may differ; the areas between must be long enough.
+ */
+uint64_t ionex_join(const int64_t *early_header, size_t early_header_len, /* IONEX_HEADER numbers, else 101 */
+                    const uint8_t *early_texts, size_t early_texts_len,   /* IONEX_TEXTS bytes, else 102 */
+                    const int32_t *early_tec, size_t early_tec_len,
+                    const int32_t *early_rms, size_t early_rms_len,
+                    const int32_t *early_height, size_t early_height_len,
+                    const int32_t *early_exponents, size_t early_exponents_len,
+                    const uint64_t *early_epochs, size_t early_epochs_len,
+                    const uint8_t *early_marks, size_t early_marks_len,
+                    const int64_t *late_header, size_t late_header_len, /* IONEX_HEADER numbers, else 101 */
+                    const uint8_t *late_texts, size_t late_texts_len,   /* IONEX_TEXTS bytes, else 102 */
+                    const int32_t *late_tec, size_t late_tec_len,
+                    const int32_t *late_rms, size_t late_rms_len,
+                    const int32_t *late_height, size_t late_height_len,
+                    const int32_t *late_exponents, size_t late_exponents_len,
+                    const uint64_t *late_epochs, size_t late_epochs_len,
+                    const uint8_t *late_marks, size_t late_marks_len,
+                    int32_t *tec, size_t tec_len,
+                    int32_t *rms, size_t rms_len,
+                    int32_t *height, size_t height_len,
+                    int32_t *exponents, size_t exponents_len,
+                    uint64_t *epochs, size_t epochs_len,
+                    uint8_t *marks, size_t marks_len,
+                    int64_t *header, size_t header_len, /* IONEX_HEADER numbers, else 101 */
+                    uint8_t *texts, size_t texts_len,   /* IONEX_TEXTS bytes, else 102 */
+                    uint64_t *place, size_t place_len); /* 2 numbers, else 103 */
 
 /*
  * Moves an epoch, in seconds from 1900-01-01 00:00:00, by a number of seconds, backwards where it is negative.

@@ -2,14 +2,14 @@
  * after another from standard input and answers each on standard output. src/bridge.rs is the other end.
  *
  * A call is a struct call, then its areas. What goes back is the function's answer, then the areas that were lent, as
- * the call left them. -D READ, NEEDS, WRITE, ASK, TECU_DELAY, DELAY or MOVED: the archive has this
+ * the call left them. -D READ, NEEDS, WRITE, ASK, TECU_DELAY, DELAY, JOIN or MOVED: the archive has this
  * function. */
 #include "ionex.h"
 #include <stdio.h>
 #include <stdlib.h>
 #include <string.h>
 
-enum { AREAS = 10, NUMBERS = 7 };
+enum { AREAS = 25, NUMBERS = 7 };
 
 /* src/bridge.rs has the same numbers. */
 enum function {
@@ -19,7 +19,8 @@ enum function {
     FUNCTION_MOVED,
     FUNCTION_NEEDS,
     FUNCTION_TECU_DELAY,
-    FUNCTION_DELAY
+    FUNCTION_DELAY,
+    FUNCTION_JOIN
 };
 
 struct area {
@@ -38,6 +39,8 @@ struct call {
 #define N(k) call->number[k]
 #define AREA(k) at[k], call->area[k].length
 #define EIGHT AREA(0), AREA(1), AREA(2), AREA(3), AREA(4), AREA(5), AREA(6), AREA(7)
+#define NEXT_EIGHT AREA(8), AREA(9), AREA(10), AREA(11), AREA(12), AREA(13), AREA(14), AREA(15)
+#define LAST_NINE AREA(16), AREA(17), AREA(18), AREA(19), AREA(20), AREA(21), AREA(22), AREA(23), AREA(24)
 
 /* A number of a call that is a double's bits. */
 static inline double real(uint64_t bits)
@@ -77,6 +80,10 @@ static uint64_t answer(const struct call *call, void *const *at)
 #ifdef DELAY
     case FUNCTION_DELAY:
         return ionex_delay(EIGHT, N(0), N(1), N(2), (int32_t)N(3), (int32_t)N(4), N(5), real(N(6)), AREA(8));
+#endif
+#ifdef JOIN
+    case FUNCTION_JOIN:
+        return ionex_join(EIGHT, NEXT_EIGHT, LAST_NINE);
 #endif
     default:
         fprintf(stderr, "bridge: no function %d\n", (int)call->function);

@@ -5,13 +5,14 @@ use std::env;
 use std::path::{Path, PathBuf};
 use std::process::Command;
 
-const FUNCTIONS: [&str; 7] = [
+const FUNCTIONS: [&str; 8] = [
     "READ",
     "NEEDS",
     "ASK",
     "TECU_DELAY",
     "DELAY",
     "MOVED",
+    "JOIN",
     "WRITE",
 ];
 

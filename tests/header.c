@@ -95,14 +95,34 @@ int main(int argc, char **argv)
     must(ask(IONEX_KIND_TEC) == IONEX_NO_MAP_SET, "asking looks at the texts");
     texts[IONEX_DATE] = ' ';
 
-    double record[3] = {-1, -1, -1};
-    must(ionex_tecu_delay(1000, 0, AREA(record)) == 25 && record[2] == -1, "no carrier");
-    must(ionex_tecu_delay(1000, 1e9, AREA(record)) == IONEX_DONE && record[0] == 1e9, "a delay");
-    must(record[1] == 1 && record[2] == 0.403, "TECU and metres");
+    double record[IONEX_RECORD] = {-1, -1, -1};
+    must(ionex_tecu_delay(1000, 0, AREA(record)) == IONEX_UNSERVED_CARRIER && record[0] == -1, "no carrier");
+    must(ionex_tecu_delay(1000, 1e9, AREA(record)) == IONEX_DONE && record[IONEX_CARRIER] == 1e9, "a delay");
+    must(record[IONEX_TECU] == 1 && record[IONEX_METRES] == 0.403, "TECU and metres");
     must(ionex_delay(SET, IONEX_KIND_TEC, IONEX_BETWEEN, 0, -1000, 0, epochs[0], 1e9, AREA(record)) == IONEX_DONE &&
-         record[1] == 0.01, "the delay of a question");
+         record[IONEX_TECU] == 0.01, "the delay of a question");
     must(ionex_delay(SET, IONEX_KIND_HEIGHT, IONEX_BETWEEN, 0, -1000, 0, epochs[0], 1e9, AREA(record)) ==
-         IONEX_UNKNOWN_CHOICE && record[1] == 0.01, "a height is no delay");
+         IONEX_UNKNOWN_CHOICE && record[IONEX_TECU] == 0.01, "a height is no delay");
+
+    /* A set of one map after itself is that map. */
+    int64_t one[IONEX_HEADER], joined[IONEX_HEADER];
+    int32_t of_one[6] = {-1, -1, -1, -1, -1, -1}, values[4];
+    uint8_t words[IONEX_TEXTS], mark[1], none[1] = {0};
+    uint64_t second[1];
+    memcpy(one, header, sizeof one);
+    one[IONEX_MAPS] = 1;
+    one[IONEX_LAST_EPOCH] = one[IONEX_FIRST_EPOCH];
+    must(ionex_join(AREA(one), AREA(texts), AREA(tec), rms, 0, height, 0, AREA(of_one), AREA(epochs), AREA(none),
+                    AREA(one), AREA(texts), AREA(tec), rms, 0, height, 0, AREA(of_one), AREA(epochs), AREA(none),
+                    values, 3, values, 0, values, 0, of_one, 0, second, 0, mark, 0, AREA(joined), AREA(words),
+                    AREA(place)) == IONEX_SHORT_AREA && place[0] == 1 && place[1] == 4, "a short area for joining");
+    int32_t thirds[6];
+    must(ionex_join(AREA(one), AREA(texts), AREA(tec), rms, 0, height, 0, AREA(of_one), AREA(epochs), AREA(none),
+                    AREA(one), AREA(texts), AREA(tec), rms, 0, height, 0, AREA(of_one), AREA(epochs), AREA(none),
+                    AREA(values), rms, 0, height, 0, AREA(thirds), AREA(second), AREA(mark), AREA(joined),
+                    AREA(words), AREA(place)) == IONEX_DONE, "joining");
+    must(memcmp(joined, one, sizeof one) == 0 && memcmp(words, texts, sizeof words) == 0, "the joined header");
+    must(memcmp(values, tec, sizeof values) == 0 && second[0] == epochs[0] && mark[0] == 0, "the joined map");
 
     uint64_t moved[1] = {9};
     must(ionex_moved(IONEX_UNIX_ZERO, 315964800, AREA(moved)) == IONEX_DONE && moved[0] == IONEX_GPS_ZERO, "GPS zero");

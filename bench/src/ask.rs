@@ -204,7 +204,7 @@ fn node(
     Some(i64::from(value) * 10i64.pow((exponent + 3) as u32))
 }
 
-fn is_valid(header: &Header) -> bool {
+pub fn is_valid(header: &Header) -> bool {
     let count = |count: Option<i64>| count.is_none_or(|n| header::COUNT.contains(&n));
     let printable = |text: &[u8]| text.iter().all(|b| (32..=126).contains(b));
     header.version == 11
@@ -234,7 +234,7 @@ fn is_valid(header: &Header) -> bool {
 }
 
 /// Lengths, marks and epochs.
-fn areas_fit(header: &Header, view: &View) -> bool {
+pub fn areas_fit(header: &Header, view: &View) -> bool {
     let maps = header.maps as usize;
     let values = maps * header.blocks() * header.longitudes.count();
     let (Some(marks), Some(epochs)) = (view.marks.get(..maps), view.epochs.get(..maps)) else {

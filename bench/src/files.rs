@@ -18,13 +18,18 @@ pub const NEEDS: [usize; 6] = [
 
 /// The text of a file with TEC maps and, if asked for, RMS maps.
 pub fn global(with_rms: bool) -> String {
-    let mut text = header();
+    of_day(1, with_rms)
+}
+
+/// The file of a day of January 2024.
+pub fn of_day(day: usize, with_rms: bool) -> String {
+    let mut text = header(day);
     for map in 0..MAPS {
-        add_map(&mut text, "TEC", map, tec);
+        add_map(&mut text, "TEC", day, map, tec);
     }
     if with_rms {
         for map in 0..MAPS {
-            add_map(&mut text, "RMS", map, rms);
+            add_map(&mut text, "RMS", day, map, rms);
         }
     }
     record(&mut text, "", "END OF FILE");
@@ -35,8 +40,13 @@ fn record(text: &mut String, body: &str, label: &str) {
     writeln!(text, "{body:<60}{label}").expect("a string takes all");
 }
 
-fn header() -> String {
+fn date(day: usize, hour: usize) -> String {
+    format!("  2024     1{day:>6}{hour:>6}     0     0")
+}
+
+fn header(day: usize) -> String {
     let mut text = String::new();
+    let ends = [date(day, 0), date(day + 1, 0)];
     let records = [
         (
             "     1.1            IONOSPHERE MAPS     GNSS",
@@ -47,8 +57,8 @@ fn header() -> String {
             "PGM / RUN BY / DATE",
         ),
         ("Global ionosphere maps, every hour", "DESCRIPTION"),
-        ("  2024     1     1     0     0     0", "EPOCH OF FIRST MAP"),
-        ("  2024     1     2     0     0     0", "EPOCH OF LAST MAP"),
+        (&ends[0], "EPOCH OF FIRST MAP"),
+        (&ends[1], "EPOCH OF LAST MAP"),
         ("  3600", "INTERVAL"),
         ("    25", "# OF MAPS IN FILE"),
         ("  COSZ", "MAPPING FUNCTION"),
@@ -70,11 +80,16 @@ fn header() -> String {
     text
 }
 
-fn add_map(text: &mut String, kind: &str, map: usize, value: fn(usize, usize, usize) -> i32) {
+fn add_map(
+    text: &mut String,
+    kind: &str,
+    day: usize,
+    map: usize,
+    value: fn(usize, usize, usize) -> i32,
+) {
     let number = format!("{:>6}", map + 1);
     record(text, &number, &format!("START OF {kind} MAP"));
-    let (day, hour) = (1 + map / 24, map % 24);
-    let epoch = format!("  2024     1{day:>6}{hour:>6}     0     0");
+    let epoch = date(day + map / 24, map % 24);
     record(text, &epoch, "EPOCH OF CURRENT MAP");
     for row in 0..ROWS {
         let latitude = 87.5 - 2.5 * row as f64;

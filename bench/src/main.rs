@@ -1,4 +1,5 @@
-//! Times the library beside plain Rust that makes the same checks: reading two global files, asking, and writing.
+//! Times the library beside plain Rust that makes the same checks: reading two global files, asking, writing,
+//! and joining.
 //! The last line is `ratio X`: the library's time over the plain reader's for the file of TEC maps.
 
 #![forbid(unsafe_code)]
@@ -7,6 +8,7 @@ use bench::ask::{ask, Question, View};
 use bench::calendar::seconds;
 use bench::files;
 use bench::header::Header;
+use bench::join::{join, Set};
 use bench::plain::{read, Areas};
 use compare::archive::{Archive, FUNCTIONS};
 use compare::boundary::{Asked, Boundary, Given, Lent, HEADER, TEXTS};
@@ -36,6 +38,7 @@ fn main() {
     report_moving();
     report_writing("25 TEC maps", &tec);
     report_writing("25 TEC and 25 RMS maps", &both);
+    report_joining(&both, &files::of_day(2, true));
     println!("ratio {ratio:.2}");
 }
 
@@ -133,14 +136,7 @@ fn questions(first_epoch: u64, method: u64) -> Vec<Question> {
 /// The library's time for one question, in nanoseconds.
 fn report_asking(text: &str, method: u64) -> f64 {
     let (given, header) = map_set(text);
-    let view = View {
-        tec: &given.areas.tec,
-        rms: &given.areas.rms,
-        height: &given.areas.height,
-        exponents: &given.areas.exponents,
-        epochs: &given.areas.epochs,
-        marks: &given.areas.marks,
-    };
+    let view = view(&given);
     let questions = questions(header.first_epoch, method);
     let mut best = [Duration::MAX; 2];
     for _ in 0..ASKING_ROUNDS {
@@ -205,6 +201,60 @@ fn report_moving() {
     }
     let each = micros(best) * 1000.0 / ends.len() as f64;
     println!("one epoch moved: library {each:.0} ns");
+}
+
+fn view(given: &Given) -> View<'_> {
+    View {
+        tec: &given.areas.tec,
+        rms: &given.areas.rms,
+        height: &given.areas.height,
+        exponents: &given.areas.exponents,
+        epochs: &given.areas.epochs,
+        marks: &given.areas.marks,
+    }
+}
+
+/// Two days joined, and the plain way to do it: both sets judged, and the result copied.
+fn report_joining(first: &str, second: &str) {
+    let (a, a_header) = map_set(first);
+    let (b, b_header) = map_set(second);
+    let room = files::NEEDS.map(|need| 2 * need);
+    let mut ours = Lent {
+        areas: Buffers::filled(room, 1),
+        ..lent()
+    };
+    let mut plain = Buffers::filled(room, 1);
+    let earlier = Set {
+        header: &a_header,
+        view: view(&a),
+    };
+    let later = Set {
+        header: &b_header,
+        view: view(&b),
+    };
+    let mut best = [Duration::MAX; 2];
+    for _ in 0..ROUNDS {
+        clear(&mut ours.areas);
+        let answer = timed(&mut best[0], || {
+            Archive.join(black_box(&a), black_box(&b), &mut ours)
+        });
+        assert_eq!(answer, 0, "the library does not join the days");
+        clear(&mut plain);
+        let found = timed(&mut best[1], || {
+            join(
+                black_box(&earlier),
+                black_box(&later),
+                &mut plain_areas(&mut plain),
+            )
+        });
+        assert!(found.is_ok_and(|header| header.maps == 49));
+    }
+    assert!(ours.areas == plain, "the two disagree");
+    let [library, plain] = best.map(micros);
+    let ratio = library / plain;
+    println!(
+        "joining two days of 25 TEC and 25 RMS maps: library {library:.0} us, plain {plain:.0} us, ratio {ratio:.2}"
+    );
 }
 
 fn report_writing(name: &str, text: &str) {

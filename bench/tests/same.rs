@@ -1,8 +1,9 @@
-//! The plain reader and asker make the same checks as the second program: they agree on every generated text,
+//! The plain reader, asker and joiner make the same checks as the second program: they agree on every generated text,
 //! damaged text, map set and question, and a refused text leaves the areas as they were.
 
 use bench::ask::{ask, Question, View};
 use bench::header::{Axis, Header};
+use bench::join::{join, Set};
 use bench::plain::{read, Areas, Refusal};
 use compare::boundary;
 use compare::jobs::{jobs, Job};
@@ -143,20 +144,6 @@ fn same_answer(set: &MapSet, question: &second::Question) -> bool {
 }
 
 #[test]
-fn readings() {
-    let mut count = 0;
-    for seed in 1..=SEEDS {
-        for job in jobs(seed) {
-            if let Job::Read { text, lent, .. } = &job {
-                same_reading(text, lent);
-                count += 1;
-            }
-        }
-    }
-    assert!(count >= 20_000);
-}
-
-#[test]
 fn examples() {
     for name in program::names() {
         let text = fs::read(program::folder().join(format!("{name}.inx"))).expect("an example");
@@ -166,17 +153,74 @@ fn examples() {
     }
 }
 
+fn set<'a>(header: &'a Header, areas: &'a Buffers) -> Set<'a> {
+    let view = View {
+        tec: &areas.tec,
+        rms: &areas.rms,
+        height: &areas.height,
+        exponents: &areas.exponents,
+        epochs: &areas.epochs,
+        marks: &areas.marks,
+    };
+    Set { header, view }
+}
+
+/// Whether both sets can be handed to the plain joiner; then it must do as the second program.
+fn same_join(earlier: &MapSet, later: &MapSet, lent: &Buffers) -> bool {
+    let headers = [earlier, later].map(|set| plain_header(&set.header, &set.texts));
+    let [Some(first), Some(second)] = headers else {
+        return false;
+    };
+    let mut left = lent.clone();
+    let expected = second::join(&earlier.given(), &later.given(), &mut left.lent());
+    let mut right = lent.clone();
+    let mut areas = Areas {
+        tec: &mut right.tec,
+        rms: &mut right.rms,
+        height: &mut right.height,
+        exponents: &mut right.exponents,
+        epochs: &mut right.epochs,
+        marks: &mut right.marks,
+    };
+    let found = join(
+        &set(&first, &earlier.areas),
+        &set(&second, &later.areas),
+        &mut areas,
+    );
+    let expected = match expected {
+        Ok((header, texts)) => Ok(plain_header(&header, &texts).expect("a header")),
+        Err(second::Refusal::Area { area, need }) => Err(bench::join::Refusal::Area { area, need }),
+        Err(refusal) => Err(bench::join::Refusal::Number(refusal.number())),
+    };
+    assert_eq!(found, expected);
+    assert!(left == right, "the areas differ");
+    true
+}
+
+/// Every reading, question and joining of the seeds.
 #[test]
-fn questions() {
-    let mut count = 0;
+fn jobs_of_the_seeds() {
+    let [mut readings, mut questions, mut joinings] = [0; 3];
     for seed in 1..=SEEDS {
         for job in jobs(seed) {
-            if let Job::Ask { set, question, .. } = &job {
-                count += u64::from(same_answer(set, question));
+            match &job {
+                Job::Read { text, lent, .. } => {
+                    same_reading(text, lent);
+                    readings += 1;
+                }
+                Job::Ask { set, question, .. } => {
+                    questions += u64::from(same_answer(set, question));
+                }
+                Job::Join {
+                    earlier,
+                    later,
+                    lent,
+                } => joinings += u64::from(same_join(earlier, later, lent)),
+                _ => {}
             }
         }
     }
-    assert!(count >= 15_000);
+    assert!(readings >= 20_000 && questions >= 15_000 && joinings >= 5_000);
 }
 
 #[test]

@@ -54,6 +54,9 @@ fn not_understood() {
         (&["canon"], "canon: no FILE is given; see ionex canon --help"),
         (&["canon", "x", "-o"], "canon: -o needs a value; see ionex canon --help"),
         (&["canon", "x", "-o", "a", "-o", "b"], "canon: -o is given twice; see ionex canon --help"),
+        (&["join"], "join: no FILE is given; see ionex join --help"),
+        (&["join", "x"], "join: one FILE is given, but two or more are joined; see ionex join --help"),
+        (&["join", "-", "x", "-"], "join: standard input can be read once only; see ionex join --help"),
         (&["ask", "x", "--at", "1,2"], "ask: --at needs --time; see ionex ask --help"),
         (&["ask", "x", "--time", "2010-12-04"], "ask: --time needs --at; see ionex ask --help"),
         (

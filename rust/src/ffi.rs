@@ -167,3 +167,43 @@ pub fn delay(given: Given, asked: Asked, carrier: f64, record: &mut [f64]) -> u6
         )
     }
 }
+
+#[rustfmt::skip]
+extern "C" {
+    fn ionex_join(
+        early_header: *const i64, early_header_len: usize, early_texts: *const u8, early_texts_len: usize,
+        early_tec: *const i32, early_tec_len: usize, early_rms: *const i32, early_rms_len: usize,
+        early_height: *const i32, early_height_len: usize, early_exponents: *const i32, early_exponents_len: usize,
+        early_epochs: *const u64, early_epochs_len: usize, early_marks: *const u8, early_marks_len: usize,
+        late_header: *const i64, late_header_len: usize, late_texts: *const u8, late_texts_len: usize,
+        late_tec: *const i32, late_tec_len: usize, late_rms: *const i32, late_rms_len: usize,
+        late_height: *const i32, late_height_len: usize, late_exponents: *const i32, late_exponents_len: usize,
+        late_epochs: *const u64, late_epochs_len: usize, late_marks: *const u8, late_marks_len: usize,
+        tec: *mut i32, tec_len: usize, rms: *mut i32, rms_len: usize, height: *mut i32, height_len: usize,
+        exponents: *mut i32, exponents_len: usize, epochs: *mut u64, epochs_len: usize,
+        marks: *mut u8, marks_len: usize,
+        header: *mut i64, header_len: usize, texts: *mut u8, texts_len: usize, place: *mut u64, place_len: usize,
+    ) -> u64;
+}
+
+/// `ionex_join`.
+#[rustfmt::skip]
+pub fn join(early: Given, late: Given, lent: Lent, place: &mut [u64]) -> u64 {
+    let Lent { tec, rms, height, exponents, epochs, marks, header, texts } = lent;
+    unsafe {
+        ionex_join(
+            early.header.as_ptr(), early.header.len(), early.texts.as_ptr(), early.texts.len(),
+            early.tec.as_ptr(), early.tec.len(), early.rms.as_ptr(), early.rms.len(),
+            early.height.as_ptr(), early.height.len(), early.exponents.as_ptr(), early.exponents.len(),
+            early.epochs.as_ptr(), early.epochs.len(), early.marks.as_ptr(), early.marks.len(),
+            late.header.as_ptr(), late.header.len(), late.texts.as_ptr(), late.texts.len(),
+            late.tec.as_ptr(), late.tec.len(), late.rms.as_ptr(), late.rms.len(),
+            late.height.as_ptr(), late.height.len(), late.exponents.as_ptr(), late.exponents.len(),
+            late.epochs.as_ptr(), late.epochs.len(), late.marks.as_ptr(), late.marks.len(),
+            tec.as_mut_ptr(), tec.len(), rms.as_mut_ptr(), rms.len(), height.as_mut_ptr(), height.len(),
+            exponents.as_mut_ptr(), exponents.len(), epochs.as_mut_ptr(), epochs.len(),
+            marks.as_mut_ptr(), marks.len(),
+            header.as_mut_ptr(), header.len(), texts.as_mut_ptr(), texts.len(), place.as_mut_ptr(), place.len(),
+        )
+    }
+}

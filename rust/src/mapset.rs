@@ -125,10 +125,7 @@ impl MapSet {
         if number != 0 {
             return Err(Refusal::of_reading(number, place));
         }
-        let mut set = MapSet::from_areas(areas);
-        let lengths = set.lengths();
-        set.areas.cut_to(lengths);
-        Ok(set)
+        Ok(MapSet::of_accepted(areas))
     }
 
     /// The elements that each area needs for a text, in the order of [`Areas`]; refused exactly where [`MapSet::read`] refuses
@@ -219,6 +216,39 @@ impl MapSet {
             lon: place.lon,
             second: time.seconds(),
         }
+    }
+
+    /// This set and a later one, which begins where this one ends: the map that they share is the later set's, and so are
+    /// header and texts but for the first epoch, the number of maps, and INTERVAL, which is 0 where the two differ. A kind
+    /// that one set lacks is absent from its maps.
+    ///
+    /// Refusals in this order: 31 as [`MapSet::write`], 40 where grid, dimension, heights or base radius differ, 41 where the
+    /// epochs do not meet, 42 where there would be more than 300 maps or 2,000,000 values of a kind. Three sets give the same
+    /// in both groupings, or are refused in both.
+    ///
+    /// ```
+    /// use ionex::MapSet;
+    ///
+    /// let text = std::fs::read_to_string("../tests/examples/accepted-canonical.inx")?;
+    /// // From 0 to 2 o'clock, and from 2 to 4.
+    /// let early = MapSet::read(text.as_bytes())?;
+    /// let shifted = text.replace("     2     0     0", "     4     0     0").replace("     0     0     0", "     2     0     0");
+    /// let late = MapSet::read(shifted.as_bytes())?;
+    /// let both = early.join(&late)?;
+    /// assert_eq!(both.maps(), 3);
+    /// assert_eq!(both.header().last.to_string(), "2000-01-01T04:00:00");
+    /// assert_eq!(late.join(&early).unwrap_err().number(), 41);
+    /// # Ok::<(), Box<dyn std::error::Error>>(())
+    /// ```
+    pub fn join(&self, later: &MapSet) -> Result<MapSet, Refusal> {
+        let mut areas = Areas::of_lengths(self.room_with(later));
+        let mut place = [0; 2];
+        let (early, late) = (self.areas.given(), later.areas.given());
+        let number = ffi::join(early, late, areas.lent(), &mut place);
+        if number != 0 {
+            return Err(Refusal::of_reading(number, place));
+        }
+        Ok(MapSet::of_accepted(areas))
     }
 
     /// The header's numbers by name.
@@ -424,6 +454,25 @@ impl MapSet {
             self.maps(),
             self.maps(),
         ]
+    }
+
+    /// Lengths that are enough for this set joined with a later one, if they can be joined.
+    fn room_with(&self, later: &MapSet) -> [usize; 6] {
+        let (early, late) = (self.lengths(), later.lengths());
+        let maps = self.maps().saturating_add(later.maps()).min(300);
+        let sum = |area: usize| early[area].saturating_add(late[area]).min(2_000_000);
+        let values = sum(0);
+        let of = |area: usize| if sum(area) > 0 { values } else { 0 };
+        let exponents = early[3].saturating_add(late[3]).min(6_000_000);
+        [values, of(1), of(2), exponents, maps, maps]
+    }
+
+    /// A map set that the archive has put in front of longer areas.
+    fn of_accepted(areas: Areas) -> MapSet {
+        let mut set = MapSet::from_areas(areas);
+        let lengths = set.lengths();
+        set.areas.cut_to(lengths);
+        set
     }
 
     /// Bytes enough for the canonical text of a valid set: 81 for each record, 5 and a part of a line end for each value.

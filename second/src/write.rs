@@ -42,7 +42,7 @@ pub fn canonical(header: &Header, texts: &Texts, areas: &View) -> Vec<u8> {
 }
 
 /// The grid, when some accepted text has this map set as its meaning.
-fn map_set(header: &Header, texts: &Texts, areas: &View) -> Option<Grid> {
+pub fn map_set(header: &Header, texts: &Texts, areas: &View) -> Option<Grid> {
     let grid = maps::frame(header, texts, areas)?;
     for kind in KINDS {
         let some = areas.marks[..grid.maps]

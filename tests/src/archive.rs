@@ -7,12 +7,13 @@ pub use crate::bridge::Archive;
 pub use crate::c::Archive;
 
 /// Each function of the boundary, and whether it comes from the archive.
-pub const FUNCTIONS: [(&str, bool); 7] = [
+pub const FUNCTIONS: [(&str, bool); 8] = [
     ("ionex_read", cfg!(feature = "read")),
     ("ionex_needs", cfg!(feature = "needs")),
     ("ionex_ask", cfg!(feature = "ask")),
     ("ionex_tecu_delay", cfg!(feature = "tecu_delay")),
     ("ionex_delay", cfg!(feature = "delay")),
     ("ionex_moved", cfg!(feature = "moved")),
+    ("ionex_join", cfg!(feature = "join")),
     ("ionex_write", cfg!(feature = "write")),
 ];

@@ -48,6 +48,8 @@ pub trait Boundary {
     fn ask(&self, given: &Given, asked: &Asked, value: &mut [i32]) -> u64;
     fn tecu_delay(&self, x: i32, carrier: f64, record: &mut [f64]) -> u64;
     fn delay(&self, given: &Given, asked: &Asked, carrier: f64, record: &mut [f64]) -> u64;
+    /// What is lent is as for a reading.
+    fn join(&self, earlier: &Given, later: &Given, lent: &mut Lent) -> u64;
     fn moved(&self, epoch: u64, by: i64, moved: &mut [u64]) -> u64;
 }
 
@@ -210,6 +212,10 @@ impl Boundary for Plain {
         number(delay(given, asked, carrier, record))
     }
 
+    fn join(&self, earlier: &Given, later: &Given, lent: &mut Lent) -> u64 {
+        number(join(earlier, later, lent))
+    }
+
     fn moved(&self, epoch: u64, by: i64, moved: &mut [u64]) -> u64 {
         number(move_epoch(epoch, by, moved))
     }
@@ -219,11 +225,52 @@ fn read(text: &[u8], lent: &mut Lent) -> Result<(), u64> {
     own_areas(lent.header.len(), lent.texts.len(), lent.place.len(), 2)?;
     match second::read(text, &mut lent.areas.lent()) {
         Reading::Accepted { header, texts } => {
-            lent.header[..HEADER].copy_from_slice(&numbers_of(&header));
-            lent.texts[..TEXTS].copy_from_slice(&bytes_of(&texts));
+            lent.put(&header, &texts);
             Ok(())
         }
         Reading::Refused(refusal) => refused(refusal, &mut lent.place),
+    }
+}
+
+impl Lent {
+    /// A header and its texts, in front of what was lent for them.
+    fn put(&mut self, header: &Header, texts: &Texts) {
+        self.header[..HEADER].copy_from_slice(&numbers_of(header));
+        self.texts[..TEXTS].copy_from_slice(&bytes_of(texts));
+    }
+}
+
+/// The shortest of the three headers counts, and of the three texts.
+fn join(earlier: &Given, later: &Given, lent: &mut Lent) -> Result<(), u64> {
+    let shortest = |lengths: [usize; 3]| lengths.into_iter().min().unwrap_or(0);
+    own_areas(
+        shortest([earlier.header.len(), later.header.len(), lent.header.len()]),
+        shortest([earlier.texts.len(), later.texts.len(), lent.texts.len()]),
+        lent.place.len(),
+        2,
+    )?;
+    let headers = [header_of(&earlier.header), header_of(&later.header)];
+    let [Some(ours), Some(theirs)] = headers else {
+        return Err(31);
+    };
+    let texts = [texts_of(&earlier.texts), texts_of(&later.texts)];
+    let first = second::Given {
+        header: &ours,
+        texts: &texts[0],
+        areas: earlier.areas.view(),
+    };
+    let next = second::Given {
+        header: &theirs,
+        texts: &texts[1],
+        areas: later.areas.view(),
+    };
+    match second::join(&first, &next, &mut lent.areas.lent()) {
+        Ok((header, texts)) => {
+            lent.put(&header, &texts);
+            Ok(())
+        }
+        Err(Refusal::Bare { number }) => Err(u64::from(number)),
+        Err(refusal) => refused(refusal, &mut lent.place),
     }
 }
 

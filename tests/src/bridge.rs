@@ -16,8 +16,9 @@ const MOVED: u64 = 3;
 const NEEDS: u64 = 4;
 const TECU_DELAY: u64 = 5;
 const DELAY: u64 = 6;
+const JOIN: u64 = 7;
 const NUMBERS: usize = 7;
-const AREAS: usize = 10;
+const AREAS: usize = 25;
 
 /// How many bytes at least stand behind each area that crosses, and their value; a call must leave them.
 const GUARD: usize = 8;
@@ -33,16 +34,7 @@ impl Boundary for Archive {
         }
         let mut call = Call::new(READ, &[]);
         call.give(text);
-        let areas = &mut lent.areas;
-        call.lend(&mut areas.tec);
-        call.lend(&mut areas.rms);
-        call.lend(&mut areas.height);
-        call.lend(&mut areas.exponents);
-        call.lend(&mut areas.epochs);
-        call.lend(&mut areas.marks);
-        call.lend(&mut lent.header);
-        call.lend(&mut lent.texts);
-        call.lend(&mut lent.place);
+        call.lend_set(lent);
         call.answer()
     }
 
@@ -96,6 +88,17 @@ impl Boundary for Archive {
         let mut call = Call::new(DELAY, &numbers);
         call.give_set(given);
         call.lend(record);
+        call.answer()
+    }
+
+    fn join(&self, earlier: &Given, later: &Given, lent: &mut Lent) -> u64 {
+        if !cfg!(feature = "join") {
+            return Plain.join(earlier, later, lent);
+        }
+        let mut call = Call::new(JOIN, &[]);
+        call.give_set(earlier);
+        call.give_set(later);
+        call.lend_set(lent);
         call.answer()
     }
 
@@ -208,6 +211,18 @@ impl<'a> Call<'a> {
             assert!(kept, "a call wrote behind an area");
             T::fill(area, numbers);
         }));
+    }
+
+    fn lend_set(&mut self, lent: &'a mut Lent) {
+        self.lend(&mut lent.areas.tec);
+        self.lend(&mut lent.areas.rms);
+        self.lend(&mut lent.areas.height);
+        self.lend(&mut lent.areas.exponents);
+        self.lend(&mut lent.areas.epochs);
+        self.lend(&mut lent.areas.marks);
+        self.lend(&mut lent.header);
+        self.lend(&mut lent.texts);
+        self.lend(&mut lent.place);
     }
 
     fn message(&self) -> Vec<u8> {

@@ -52,6 +52,22 @@ extern "C" {
         record: *mut f64, record_len: usize,
     ) -> u64;
 
+    #[cfg(feature = "join")]
+    fn ionex_join(
+        aheader: *const i64, aheader_len: usize, atexts: *const u8, atexts_len: usize,
+        atec: *const i32, atec_len: usize, arms: *const i32, arms_len: usize, aheight: *const i32, aheight_len: usize,
+        aexponents: *const i32, aexponents_len: usize, aepochs: *const u64, aepochs_len: usize,
+        amarks: *const u8, amarks_len: usize,
+        bheader: *const i64, bheader_len: usize, btexts: *const u8, btexts_len: usize,
+        btec: *const i32, btec_len: usize, brms: *const i32, brms_len: usize, bheight: *const i32, bheight_len: usize,
+        bexponents: *const i32, bexponents_len: usize, bepochs: *const u64, bepochs_len: usize,
+        bmarks: *const u8, bmarks_len: usize,
+        tec: *mut i32, tec_len: usize, rms: *mut i32, rms_len: usize, height: *mut i32, height_len: usize,
+        exponents: *mut i32, exponents_len: usize, epochs: *mut u64, epochs_len: usize,
+        marks: *mut u8, marks_len: usize,
+        header: *mut i64, header_len: usize, texts: *mut u8, texts_len: usize, place: *mut u64, place_len: usize,
+    ) -> u64;
+
     #[cfg(feature = "moved")]
     fn ionex_moved(epoch: u64, by: i64, moved: *mut u64, moved_len: usize) -> u64;
 }
@@ -134,6 +150,28 @@ impl Boundary for Archive {
         }
     }
 
+    #[cfg(feature = "join")]
+    fn join(&self, earlier: &Given, later: &Given, lent: &mut Lent) -> u64 {
+        let (a, b) = (&earlier.areas, &later.areas);
+        let Lent { areas: c, header, texts, place } = lent;
+        unsafe {
+            ionex_join(
+                earlier.header.as_ptr(), earlier.header.len(), earlier.texts.as_ptr(), earlier.texts.len(),
+                a.tec.as_ptr(), a.tec.len(), a.rms.as_ptr(), a.rms.len(), a.height.as_ptr(), a.height.len(),
+                a.exponents.as_ptr(), a.exponents.len(), a.epochs.as_ptr(), a.epochs.len(),
+                a.marks.as_ptr(), a.marks.len(),
+                later.header.as_ptr(), later.header.len(), later.texts.as_ptr(), later.texts.len(),
+                b.tec.as_ptr(), b.tec.len(), b.rms.as_ptr(), b.rms.len(), b.height.as_ptr(), b.height.len(),
+                b.exponents.as_ptr(), b.exponents.len(), b.epochs.as_ptr(), b.epochs.len(),
+                b.marks.as_ptr(), b.marks.len(),
+                c.tec.as_mut_ptr(), c.tec.len(), c.rms.as_mut_ptr(), c.rms.len(),
+                c.height.as_mut_ptr(), c.height.len(), c.exponents.as_mut_ptr(), c.exponents.len(),
+                c.epochs.as_mut_ptr(), c.epochs.len(), c.marks.as_mut_ptr(), c.marks.len(),
+                header.as_mut_ptr(), header.len(), texts.as_mut_ptr(), texts.len(), place.as_mut_ptr(), place.len(),
+            )
+        }
+    }
+
     #[cfg(feature = "moved")]
     fn moved(&self, epoch: u64, by: i64, moved: &mut [u64]) -> u64 {
         unsafe { ionex_moved(epoch, by, moved.as_mut_ptr(), moved.len()) }
@@ -169,6 +207,11 @@ impl Boundary for Archive {
     #[cfg(not(feature = "delay"))]
     fn delay(&self, given: &Given, asked: &Asked, carrier: f64, record: &mut [f64]) -> u64 {
         crate::boundary::Plain.delay(given, asked, carrier, record)
+    }
+
+    #[cfg(not(feature = "join"))]
+    fn join(&self, earlier: &Given, later: &Given, lent: &mut Lent) -> u64 {
+        crate::boundary::Plain.join(earlier, later, lent)
     }
 
     #[cfg(not(feature = "moved"))]

@@ -8,12 +8,13 @@ use crate::check::{leave_file, Tally, OFTEN, SHOWN};
 use crate::jobs::{self, Job};
 use crate::rng::Rng;
 use crate::run;
-use crate::set::MapSet;
+use crate::set::{Buffers, MapSet};
 use second::Question;
 use std::collections::BTreeMap;
 
 /// What a call is given, and after it what it left.
 #[derive(Clone, Debug, PartialEq, Eq)]
+#[allow(clippy::large_enum_variant)]
 pub enum Call {
     Read {
         text: Vec<u8>,
@@ -46,6 +47,11 @@ pub enum Call {
         carrier: u64,
         record: Vec<u64>,
     },
+    Join {
+        earlier: Given,
+        later: Given,
+        lent: Lent,
+    },
     Move {
         epoch: u64,
         by: i64,
@@ -62,6 +68,7 @@ impl Call {
             Call::Ask { .. } => "ask",
             Call::TecuDelay { .. } => "tecu_delay",
             Call::Delay { .. } => "delay",
+            Call::Join { .. } => "join",
             Call::Move { .. } => "moved",
         }
     }
@@ -88,6 +95,11 @@ fn perform(boundary: &dyn Boundary, call: &mut Call) -> u64 {
         } => over_bits(record, |record| {
             boundary.delay(given, asked, f64::from_bits(*carrier), record)
         }),
+        Call::Join {
+            earlier,
+            later,
+            lent,
+        } => boundary.join(earlier, later, lent),
         Call::Move { epoch, by, moved } => boundary.moved(*epoch, *by, moved),
     }
 }
@@ -133,12 +145,7 @@ fn call(rng: &mut Rng, job: Job) -> Call {
             twin: text, lent, ..
         } => Call::Read {
             text,
-            lent: Lent {
-                areas: lent,
-                header: words(rng, HEADER).iter().map(|&w| w as i64).collect(),
-                texts: words(rng, TEXTS).iter().map(|&w| w as u8).collect(),
-                place: words(rng, 2),
-            },
+            lent: lent_with(rng, lent),
         },
         Job::Needs { text, .. } => Call::Needs {
             text,
@@ -171,11 +178,36 @@ fn call(rng: &mut Rng, job: Job) -> Call {
             carrier: carrier.to_bits(),
             record: words(rng, RECORD),
         },
+        Job::Join {
+            earlier,
+            later,
+            lent,
+        } => Call::Join {
+            earlier: given(rng, &earlier),
+            later: given(rng, &later),
+            lent: lent_with(rng, lent),
+        },
+        // The first two of a chain, with no room at all.
+        Job::Chain { sets, .. } => Call::Join {
+            earlier: given(rng, &sets[0]),
+            later: given(rng, &sets[1]),
+            lent: lent_with(rng, Buffers::default()),
+        },
         Job::Move { epoch, by } => Call::Move {
             epoch,
             by,
             moved: words(rng, 1),
         },
+    }
+}
+
+/// What is lent to a reading or a joining.
+fn lent_with(rng: &mut Rng, areas: Buffers) -> Lent {
+    Lent {
+        areas,
+        header: words(rng, HEADER).iter().map(|&w| w as i64).collect(),
+        texts: words(rng, TEXTS).iter().map(|&w| w as u8).collect(),
+        place: words(rng, 2),
     }
 }
 
@@ -244,7 +276,8 @@ fn difference(a: (u64, &Call), b: (u64, &Call)) -> Option<String> {
         return Some(format!("answers {} and {}", a.0, b.0));
     }
     let parts = match (a.1, b.1) {
-        (Call::Read { lent: left, .. }, Call::Read { lent: right, .. }) => vec![
+        (Call::Read { lent: left, .. }, Call::Read { lent: right, .. })
+        | (Call::Join { lent: left, .. }, Call::Join { lent: right, .. }) => vec![
             run::areas(&left.areas, &right.areas),
             part("header", &left.header, &right.header),
             part("texts", &left.texts, &right.texts),
@@ -353,6 +386,7 @@ fn expected_often() -> Vec<(&'static str, u64)> {
     add("ask", &[0, 20, 21, 22, 23, 24, 31, 101, 102, 103]);
     add("tecu_delay", &[0, 25, 103]);
     add("delay", &[0, 20, 21, 22, 23, 24, 25, 31, 101, 102, 103]);
+    add("join", &[0, 11, 31, 40, 41, 101, 102, 103]);
     add("moved", &[0, 7, 103]);
     rows
 }
@@ -390,6 +424,14 @@ pub enum Fault {
     /// A record of two numbers served.
     RecordShort,
     DelayOrder,
+    JoinPlaceWhenDone,
+    /// Place, header or texts written where the sets cannot be joined.
+    JoinPlaceWhenRefused,
+    JoinHeaderWhenRefused,
+    JoinTextsTail,
+    JoinOrder,
+    /// Only the first set's header and texts looked at for 101 and 102.
+    JoinOthersShort,
     MovedWhenRefused,
     MovedTail,
     MovedShort,
@@ -402,7 +444,7 @@ pub enum Fault {
     AskedNarrow,
 }
 
-pub const FAULTS: [Fault; 31] = [
+pub const FAULTS: [Fault; 37] = [
     Fault::PlaceWhenDone,
     Fault::HeaderWhenRefused,
     Fault::TextsWhenRefused,
@@ -427,6 +469,12 @@ pub const FAULTS: [Fault; 31] = [
     Fault::RecordTail,
     Fault::RecordShort,
     Fault::DelayOrder,
+    Fault::JoinPlaceWhenDone,
+    Fault::JoinPlaceWhenRefused,
+    Fault::JoinHeaderWhenRefused,
+    Fault::JoinTextsTail,
+    Fault::JoinOrder,
+    Fault::JoinOthersShort,
     Fault::MovedWhenRefused,
     Fault::MovedTail,
     Fault::MovedShort,
@@ -558,6 +606,31 @@ impl Boundary for Faulty {
         }
         let answer = Plain.delay(given, asked, carrier, record);
         self.record(answer, record)
+    }
+
+    fn join(&self, earlier: &Given, later: &Given, lent: &mut Lent) -> u64 {
+        if self.0 == Fault::JoinOrder && lent.place.len() < 2 {
+            return 103;
+        }
+        let answer = Plain.join(earlier, later, lent);
+        match (self.0, answer) {
+            (Fault::JoinOthersShort, 101 | 102)
+                if earlier.header.len() >= HEADER && earlier.texts.len() >= TEXTS =>
+            {
+                return 31
+            }
+            (Fault::JoinPlaceWhenDone, 0) | (Fault::JoinPlaceWhenRefused, 31..=42) => {
+                flip(&mut lent.place, 0)
+            }
+            (Fault::JoinHeaderWhenRefused, 11..=42) => lent.header[0] ^= 1,
+            (Fault::JoinTextsTail, 0) => {
+                if let Some(byte) = lent.texts.get_mut(TEXTS) {
+                    *byte ^= 1;
+                }
+            }
+            _ => {}
+        }
+        answer
     }
 
     fn moved(&self, epoch: u64, by: i64, moved: &mut [u64]) -> u64 {

@@ -2,6 +2,7 @@
 
 use crate::delays::{self, Bits};
 use crate::jobs::{self, Job, Known, Truth};
+use crate::joins;
 use crate::library::Library;
 use crate::oracle;
 use crate::remarks;
@@ -41,6 +42,10 @@ pub struct Counts {
     pub delayed: [u64; 2],
     pub delaying: [u64; 32],
     pub carriers: u64,
+    pub joined: u64,
+    pub joining: BTreeMap<usize, u64>,
+    /// Chains that are joined, and others.
+    pub chains: [u64; 2],
     pub moving: u64,
 }
 
@@ -73,6 +78,9 @@ impl Counts {
             (Job::Delay { .. }, Some(number)) => self.delaying[number] += 1,
             (Job::TecuDelay { .. }, None) => self.delayed[1] += 1,
             (Job::TecuDelay { .. }, Some(_)) => self.carriers += 1,
+            (Job::Join { .. }, None) => self.joined += 1,
+            (Job::Join { .. }, Some(number)) => *self.joining.entry(number).or_default() += 1,
+            (Job::Chain { .. }, number) => self.chains[usize::from(number.is_some())] += 1,
             (Job::Move { .. }, None) => self.moved += 1,
             (Job::Move { .. }, Some(_)) => self.moving += 1,
         }
@@ -109,6 +117,14 @@ impl Counts {
         }
         rows.push(("delays of TEC".to_string(), self.delayed[1]));
         rows.push(("delay of TEC refused 25".to_string(), self.carriers));
+        rows.push(("joined".to_string(), self.joined));
+        for number in [11, 31, 40, 41, 42] {
+            let often = self.joining.get(&number).copied().unwrap_or(0);
+            rows.push((format!("joining refused {number}"), often));
+        }
+        for (name, number) in ["joined", "refused"].iter().zip(self.chains) {
+            rows.push((format!("chains {name}"), number));
+        }
         rows.push(("moved".to_string(), self.moved));
         rows.push(("moving refused 7".to_string(), self.moving));
         rows
@@ -248,6 +264,15 @@ fn judge(library: &dyn Library, job: &Job, outcome: &Outcome) -> Option<String> 
             },
             Outcome::Delay(answer),
         ) => judge_delay(library, set, question, *carrier, answer),
+        (
+            Job::Join {
+                earlier,
+                later,
+                lent,
+            },
+            Outcome::Read { answer, areas },
+        ) => joins::wrong(library, [earlier, later], lent, answer, areas),
+        (Job::Chain { .. }, Outcome::Chain(answers)) => joins::disagree(answers),
         (Job::Move { epoch, by }, Outcome::Move(answer)) => judge_moving(*epoch, *by, answer),
         _ => Some("a panic".to_string()),
     }
@@ -434,7 +459,7 @@ fn cut_at(library: &dyn Library, text: &[u8], lent: &Buffers, refusal: &Refusal)
 }
 
 /// The canonical text read again gives the set again, and is a fixed point.
-fn round_trip(library: &dyn Library, set: &MapSet) -> Option<String> {
+pub fn round_trip(library: &dyn Library, set: &MapSet) -> Option<String> {
     let expected = second::write::canonical(&set.header, &set.texts, &set.areas.view());
     let mut text = vec![0; expected.len() + 10];
     match library.write(set, &mut text) {

@@ -100,6 +100,22 @@ pub enum Fault {
     HeightDelay,
     /// 25 before the refusals of the question.
     CarrierFirst,
+    // Joining: the shared map from the earlier set, its RMS map lost.
+    SharedEarlier,
+    SharedRmsLost,
+    /// The later set's INTERVAL kept, or an INTERVAL of 0 taken as the other set's.
+    IntervalKept,
+    IntervalOther,
+    TextsEarlier,
+    LastEpochEarlier,
+    /// The exponents of all kinds one behind the other.
+    ExponentsTogether,
+    /// 42 before 41, or 41 before 40.
+    LimitFirst,
+    MeetFirst,
+    JoinNeed,
+    JoinTouched(usize),
+    JoinGuard(usize),
     // Moving.
     MovedValue,
     MovedRefusal,
@@ -161,6 +177,16 @@ pub fn all() -> Vec<Fault> {
         LimitsRefused,
         HeightDelay,
         CarrierFirst,
+        SharedEarlier,
+        SharedRmsLost,
+        IntervalKept,
+        IntervalOther,
+        TextsEarlier,
+        LastEpochEarlier,
+        ExponentsTogether,
+        LimitFirst,
+        MeetFirst,
+        JoinNeed,
         MovedValue,
         MovedRefusal,
     ];
@@ -173,6 +199,7 @@ pub fn all() -> Vec<Fault> {
     faults.extend((0..5).map(Text));
     for k in 0..6 {
         faults.extend([Area(k), Guard(k), Touched(k), Need(k)]);
+        faults.extend([JoinTouched(k), JoinGuard(k)]);
     }
     faults
 }
@@ -363,6 +390,21 @@ impl Library for Faulty {
         }
     }
 
+    fn join(&self, earlier: &MapSet, later: &MapSet, areas: &mut Buffers) -> Reading {
+        let mut answer = match self.0 {
+            Fault::SharedEarlier => Second.join(earlier, &with_shared(earlier, later), areas),
+            Fault::SharedRmsLost => Second.join(earlier, &without_rms(later), areas),
+            _ => Second.join(earlier, later, areas),
+        };
+        match &mut answer {
+            Reading::Accepted { header, texts } => {
+                self.joined(earlier, later, areas, header, texts)
+            }
+            Reading::Refused(refusal) => self.not_joined(earlier, later, areas, refusal),
+        }
+        answer
+    }
+
     fn moved(&self, epoch: u64, by: i64) -> Result<u64, Refusal> {
         let answer = Second.moved(epoch, by);
         match (self.0, answer) {
@@ -374,6 +416,64 @@ impl Library for Faulty {
 }
 
 impl Faulty {
+    /// What is wrong with a set that is joined.
+    fn joined(
+        &self,
+        earlier: &MapSet,
+        later: &MapSet,
+        areas: &mut Buffers,
+        header: &mut Header,
+        texts: &mut Texts,
+    ) {
+        match self.0 {
+            Fault::IntervalKept => header.interval = later.header.interval,
+            Fault::IntervalOther => {
+                header.interval = match (earlier.header.interval, later.header.interval) {
+                    (0, other) | (other, 0) => other,
+                    _ => header.interval,
+                }
+            }
+            Fault::TextsEarlier => *texts = earlier.texts,
+            Fault::LastEpochEarlier => header.last_epoch = earlier.header.last_epoch,
+            Fault::ExponentsTogether => {
+                let blocks = earlier.grid().blocks();
+                let kept = 3 * (earlier.grid().maps - 1) * blocks;
+                let all = 3 * later.grid().maps * blocks;
+                areas.exponents[..kept].copy_from_slice(&earlier.areas.exponents[..kept]);
+                areas.exponents[kept..kept + all].copy_from_slice(&later.areas.exponents[..all]);
+            }
+            Fault::JoinGuard(k) => {
+                let need = Grid::of(header).needs(&areas.marks)[k];
+                if need < areas.lengths()[k] {
+                    flip(areas, k, need);
+                }
+            }
+            _ => {}
+        }
+    }
+
+    /// What is wrong with a refusal to join.
+    fn not_joined(
+        &self,
+        earlier: &MapSet,
+        later: &MapSet,
+        areas: &mut Buffers,
+        refusal: &mut Refusal,
+    ) {
+        let apart = earlier.header.last_epoch != later.header.first_epoch;
+        match (self.0, refusal) {
+            (Fault::LimitFirst, Refusal::Bare { number })
+                if *number == 41 && earlier.header.maps + later.header.maps > 301 =>
+            {
+                *number = 42
+            }
+            (Fault::MeetFirst, Refusal::Bare { number }) if *number == 40 && apart => *number = 41,
+            (Fault::JoinNeed, Refusal::Area { need, .. }) => *need += 1,
+            (Fault::JoinTouched(k), _) if areas.lengths()[k] > 0 => flip(areas, k, 0),
+            _ => {}
+        }
+    }
+
     fn accepted(
         &self,
         text: &[u8],
@@ -586,6 +686,34 @@ fn with_column_before(set: &MapSet) -> MapSet {
     for values in [&mut areas.tec, &mut areas.rms, &mut areas.height] {
         for row in values.chunks_exact_mut(columns) {
             row[0] = row[columns - 2];
+        }
+    }
+    changed
+}
+
+/// The later of two sets with the values of the earlier one's last map in its first.
+fn with_shared(earlier: &MapSet, later: &MapSet) -> MapSet {
+    let mut changed = later.clone();
+    let size = earlier.grid().values();
+    let last = (earlier.grid().maps - 1) * size;
+    let shared = earlier.areas.tec.get(last..last + size);
+    if let (Some(place), Some(shared)) = (changed.areas.tec.get_mut(..size), shared) {
+        place.copy_from_slice(shared);
+    }
+    changed
+}
+
+/// The set with its first RMS map absent.
+fn without_rms(set: &MapSet) -> MapSet {
+    let mut changed = set.clone();
+    let (size, blocks) = (set.grid().values(), set.grid().blocks());
+    let rms = set.grid().maps * blocks;
+    let areas = &mut changed.areas;
+    if areas.marks.first().is_some_and(|mark| mark & 1 != 0) && areas.rms.len() >= size {
+        areas.marks[0] &= 2;
+        areas.rms[..size].fill(9999);
+        if let Some(exponents) = areas.exponents.get_mut(rms..rms + blocks) {
+            exponents.fill(-1);
         }
     }
     changed

@@ -11,10 +11,56 @@ use second::{Axis, Count, Header, System, Texts};
 
 /// A valid map set whose areas have exactly the lengths needed.
 pub fn map_set(rng: &mut Rng) -> MapSet {
-    let header = header(rng);
-    let texts = texts(rng);
-    let areas = areas(rng, &header);
-    with_epochs(rng, header, texts, areas)
+    let (columns, sizes) = columns_and_sizes(rng);
+    with_columns(rng, columns, sizes)
+}
+
+/// A valid map set of so many maps of one node each.
+pub fn one_node(rng: &mut Rng, maps: i64) -> MapSet {
+    let column = longitudes(rng, 1);
+    with_columns(rng, column, [maps, 1, 1, 1])
+}
+
+fn with_columns(rng: &mut Rng, columns: Axis, sizes: [i64; 4]) -> MapSet {
+    let mut header = header(rng, columns, sizes);
+    let longest = longest_gap(rng, &header);
+    header.interval = interval(rng, longest);
+    let gaps = gaps(rng, &header, longest);
+    let last_start = calendar::END - 1 - gaps.iter().sum::<u64>();
+    let start = match rng.below(6) {
+        0 => 0,
+        1 => last_start,
+        2 => 3_155_760_000,
+        3 => rng.range(0, (last_start / 86_400) as i64) as u64 * 86_400,
+        _ => rng.range(0, last_start as i64) as u64,
+    };
+    with_epochs(rng, header, start, &gaps)
+}
+
+/// A valid map set of so many maps on another's grid that begins where that ends; of one map where the calendar does.
+pub fn later(rng: &mut Rng, set: &MapSet, maps: i64) -> MapSet {
+    let mut header = Header {
+        code: rng.range(0, 8),
+        maps,
+        cutoff: edged(rng, 0, 900),
+        stations: Count::default(),
+        satellites: Count::default(),
+        systems: [System::default(); 7],
+        ..set.header
+    };
+    starred(rng, &mut header);
+    let longest = longest_gap(rng, &header);
+    header.interval = match rng.below(4) {
+        0 | 1 => set.header.interval,
+        _ => interval(rng, longest),
+    };
+    let start = set.header.last_epoch;
+    let mut gaps = gaps(rng, &header, longest);
+    if start + gaps.iter().sum::<u64>() >= calendar::END {
+        header.maps = 1;
+        gaps.clear();
+    }
+    with_epochs(rng, header, start, &gaps)
 }
 
 /// How many maps, layers, rows and columns: small mostly, a limit at times.
@@ -97,8 +143,8 @@ fn columns_and_sizes(rng: &mut Rng) -> (Axis, [i64; 4]) {
     (longitudes(rng, sizes[3]), sizes)
 }
 
-fn header(rng: &mut Rng) -> Header {
-    let (longitudes, [maps, layers, rows, _]) = columns_and_sizes(rng);
+fn header(rng: &mut Rng, longitudes: Axis, sizes: [i64; 4]) -> Header {
+    let [maps, layers, rows, _] = sizes;
     let mut header = Header {
         version: 11,
         file_type: b'I',
@@ -122,6 +168,12 @@ fn header(rng: &mut Rng) -> Header {
     }
     header.latitudes = latitudes(rng, rows);
     header.longitudes = longitudes;
+    starred(rng, &mut header);
+    header
+}
+
+/// Records that may stand or not.
+fn starred(rng: &mut Rng, header: &mut Header) {
     if rng.once_in(2) {
         header.stations = a_count(rng);
     }
@@ -138,7 +190,6 @@ fn header(rng: &mut Rng) -> Header {
             };
         }
     }
-    header
 }
 
 /// From `low` to `high`, the ends often.
@@ -304,14 +355,18 @@ fn areas(rng: &mut Rng, header: &Header) -> Buffers {
 }
 
 fn marks(rng: &mut Rng, maps: usize) -> Vec<u8> {
-    let style = rng.below(7);
+    let style = rng.below(9);
     (0..maps)
-        .map(|_| match style {
+        .map(|map| match style {
             0 => 0,
             1 => 1,
             2 => 2,
             3 => 3,
             4 => rng.below(2) as u8,
+            // Only in the last map, or in the first.
+            5 if map + 1 < maps => 0,
+            6 if map > 0 => 0,
+            5 | 6 => rng.range(1, 3) as u8,
             _ => rng.below(4) as u8,
         })
         .collect()
@@ -329,39 +384,43 @@ fn value(rng: &mut Rng, full: bool) -> i32 {
     }
 }
 
-/// Epochs by INTERVAL or free, at the ends of the calendar at times.
-fn with_epochs(rng: &mut Rng, mut header: Header, texts: Texts, mut areas: Buffers) -> MapSet {
-    // Columns that go round get gaps at which maps turn with the Sun, or just not.
-    let longest = match header.longitudes.goes_round() {
+/// Columns that go round get gaps at which maps turn with the Sun, or just not.
+fn longest_gap(rng: &mut Rng, header: &Header) -> i64 {
+    match header.longitudes.goes_round() {
         true => rng.pick(&[7200, 7200, 7200, 7201, 21_600]),
         false => 21_600,
-    };
-    header.interval = match rng.below(4) {
+    }
+}
+
+fn interval(rng: &mut Rng, longest: i64) -> i64 {
+    match rng.below(4) {
         0 | 1 => 0,
         2 => rng.pick(&[1, 900, 3600, 7200, longest]),
         _ => rng.range(1, longest),
-    };
-    let gaps: Vec<u64> = (1..header.maps)
+    }
+}
+
+/// From each map to the next, by INTERVAL or free.
+fn gaps(rng: &mut Rng, header: &Header, longest: i64) -> Vec<u64> {
+    (1..header.maps)
         .map(|_| match header.interval {
             0 => edged(rng, 1, longest) as u64,
             gap => gap as u64,
         })
-        .collect();
-    let span: u64 = gaps.iter().sum();
-    let last_start = calendar::END - 1 - span;
-    let mut epoch = match rng.below(6) {
-        0 => 0,
-        1 => last_start,
-        2 => 3_155_760_000,
-        3 => rng.range(0, (last_start / 86_400) as i64) as u64 * 86_400,
-        _ => rng.range(0, last_start as i64) as u64,
-    };
+        .collect()
+}
+
+/// The map set of a header, with epochs from `start` on.
+fn with_epochs(rng: &mut Rng, mut header: Header, start: u64, gaps: &[u64]) -> MapSet {
+    let texts = texts(rng);
+    let mut areas = areas(rng, &header);
+    let mut epoch = start;
     areas.epochs.push(epoch);
     for gap in gaps {
         epoch += gap;
         areas.epochs.push(epoch);
     }
-    header.first_epoch = areas.epochs[0];
+    header.first_epoch = start;
     header.last_epoch = epoch;
     MapSet {
         header,

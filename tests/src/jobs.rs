@@ -3,6 +3,7 @@
 use crate::damage;
 use crate::delays;
 use crate::gen;
+use crate::joins;
 use crate::remarks;
 use crate::rng::Rng;
 use crate::set::{Buffers, MapSet};
@@ -68,6 +69,16 @@ pub enum Job {
         carrier: f64,
         known: Known,
     },
+    Join {
+        earlier: Box<MapSet>,
+        later: Box<MapSet>,
+        lent: Buffers,
+    },
+    /// Sets to be joined from the left, and in another grouping that a seed says.
+    Chain {
+        sets: Vec<MapSet>,
+        seed: u64,
+    },
     Move {
         epoch: u64,
         by: i64,
@@ -84,6 +95,8 @@ impl Job {
             Job::Ask { .. } => "ask",
             Job::TecuDelay { .. } => "delay of TEC",
             Job::Delay { .. } => "delay",
+            Job::Join { .. } => "join",
+            Job::Chain { .. } => "chain",
             Job::Move { .. } => "move",
         }
     }
@@ -124,6 +137,13 @@ pub fn jobs(seed: u64) -> Vec<Job> {
         jobs.push(delay_job(rng, &set, damaged));
     }
     jobs.extend(twins_jobs(rng, &jobs));
+    for _ in 0..2 {
+        jobs.push(join_job(rng));
+    }
+    jobs.push(Job::Chain {
+        sets: joins::chain(rng),
+        seed: rng.word(),
+    });
     jobs
 }
 
@@ -212,7 +232,7 @@ fn damaged_read_job(rng: &mut Rng, text: &[u8], set: &MapSet) -> Job {
 }
 
 /// The set with more behind the needs, which is to be ignored.
-fn with_tails(rng: &mut Rng, set: &MapSet) -> MapSet {
+pub fn with_tails(rng: &mut Rng, set: &MapSet) -> MapSet {
     let lengths = roomy(rng, set.needs());
     let back = Buffers::filled(lengths, rng.word());
     MapSet {
@@ -284,6 +304,26 @@ fn delay_job(rng: &mut Rng, set: &MapSet, damaged: bool) -> Job {
             known,
         },
         other => other,
+    }
+}
+
+fn join_job(rng: &mut Rng) -> Job {
+    let (earlier, later) = joins::pair(rng);
+    let counts = [&earlier, &later].map(|set| set.header.maps.clamp(1, 300) as usize);
+    let maps = counts[0] + counts[1] - 1;
+    // Of each map as much as its set has in the largest area; a set that is none may have nothing.
+    let of_map = |area: usize| earlier.areas.lengths()[area].div_ceil(counts[0]);
+    let values = maps * (0..3).map(of_map).max().unwrap_or(0);
+    let needs = [values, values, values, maps * of_map(3), maps, maps];
+    let mut lengths = roomy(rng, needs);
+    if rng.once_in(4) {
+        let area = rng.below(6);
+        lengths[area] = rng.pick(&[0, needs[area] / 2, needs[area].saturating_sub(1)]);
+    }
+    Job::Join {
+        earlier: Box::new(earlier),
+        later: Box::new(later),
+        lent: Buffers::filled(lengths, rng.word()),
     }
 }
 

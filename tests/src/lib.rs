@@ -16,6 +16,7 @@ pub mod delays;
 pub mod faults;
 pub mod gen;
 pub mod jobs;
+pub mod joins;
 pub mod library;
 pub mod oracle;
 pub mod program;

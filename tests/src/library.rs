@@ -26,6 +26,9 @@ pub trait Library {
 
     fn delay(&self, set: &MapSet, question: &Question, carrier: f64) -> Result<Bits, Refusal>;
 
+    /// Joins two sets into the areas; the answer is a header and its texts, as a reading's is.
+    fn join(&self, earlier: &MapSet, later: &MapSet, areas: &mut Buffers) -> Reading;
+
     fn moved(&self, epoch: u64, by: i64) -> Result<u64, Refusal>;
 }
 
@@ -62,6 +65,13 @@ impl Library for Second {
         second::ask_delay(&set.header, &set.texts, &view, question, carrier).map(delays::bits)
     }
 
+    fn join(&self, earlier: &MapSet, later: &MapSet, areas: &mut Buffers) -> Reading {
+        match second::join(&earlier.given(), &later.given(), &mut areas.lent()) {
+            Ok((header, texts)) => Reading::Accepted { header, texts },
+            Err(refusal) => Reading::Refused(refusal),
+        }
+    }
+
     fn moved(&self, epoch: u64, by: i64) -> Result<u64, Refusal> {
         second::moved(epoch, by)
     }
@@ -76,26 +86,7 @@ impl<B: Boundary> Library for Behind<B> {
     }
 
     fn read(&self, text: &[u8], areas: &mut Buffers) -> Reading {
-        let mut lent = Lent {
-            areas: std::mem::take(areas),
-            header: vec![-1; HEADER],
-            texts: vec![0; TEXTS],
-            place: vec![0; 2],
-        };
-        let answer = self.0.read(text, &mut lent);
-        *areas = lent.areas;
-        match answer {
-            0 => {
-                let header = boundary::header_of(&lent.header).expect("a header");
-                let again = boundary::numbers_of(&header);
-                assert_eq!(lent.header, again, "flags are 0 or 1");
-                Reading::Accepted {
-                    header,
-                    texts: boundary::texts_of(&lent.texts),
-                }
-            }
-            _ => Reading::Refused(refusal(answer, &lent.place)),
-        }
+        filled(areas, |lent| self.0.read(text, lent))
     }
 
     fn needs(&self, text: &[u8]) -> Result<[usize; 6], Refusal> {
@@ -146,12 +137,42 @@ impl<B: Boundary> Library for Behind<B> {
         }
     }
 
+    fn join(&self, earlier: &MapSet, later: &MapSet, areas: &mut Buffers) -> Reading {
+        let (earlier, later) = (boundary::given(earlier), boundary::given(later));
+        filled(areas, |lent| self.0.join(&earlier, &later, lent))
+    }
+
     fn moved(&self, epoch: u64, by: i64) -> Result<u64, Refusal> {
         let mut moved = [0];
         match self.0.moved(epoch, by, &mut moved) {
             0 => Ok(moved[0]),
             answer => Err(bare(answer)),
         }
+    }
+}
+
+/// A call that fills areas and answers with a header and its texts, or with a refusal.
+fn filled(areas: &mut Buffers, call: impl FnOnce(&mut Lent) -> u64) -> Reading {
+    let mut lent = Lent {
+        areas: std::mem::take(areas),
+        header: vec![-1; HEADER],
+        texts: vec![0; TEXTS],
+        place: vec![0; 2],
+    };
+    let answer = call(&mut lent);
+    *areas = lent.areas;
+    match answer {
+        0 => {
+            let header = boundary::header_of(&lent.header).expect("a header");
+            let again = boundary::numbers_of(&header);
+            assert_eq!(lent.header, again, "flags are 0 or 1");
+            Reading::Accepted {
+                header,
+                texts: boundary::texts_of(&lent.texts),
+            }
+        }
+        1..=11 => Reading::Refused(refusal(answer, &lent.place)),
+        _ => Reading::Refused(bare(answer)),
     }
 }
 

@@ -2,14 +2,16 @@
 
 use crate::delays::Bits;
 use crate::jobs::Job;
+use crate::joins;
 use crate::library::Library;
-use crate::set::Buffers;
+use crate::set::{Buffers, MapSet};
 use second::{Answer, Reading, Refusal};
 use std::panic::{catch_unwind, AssertUnwindSafe};
 
 #[derive(Clone, Debug, PartialEq, Eq)]
 #[allow(clippy::large_enum_variant)]
 pub enum Outcome {
+    /// A reading or a joining.
     Read {
         answer: Reading,
         /// All six areas afterwards, with their guard elements.
@@ -29,6 +31,8 @@ pub enum Outcome {
     },
     Ask(Result<Answer, Refusal>),
     Delay(Result<Bits, Refusal>),
+    /// Two groupings of the same sets.
+    Chain(Box<[Result<MapSet, Refusal>; 2]>),
     Move(Result<u64, Refusal>),
     Panic,
 }
@@ -46,6 +50,7 @@ impl Outcome {
             Outcome::Write { answer, .. } => answer.err(),
             Outcome::Ask(answer) => answer.err(),
             Outcome::Delay(answer) => answer.err(),
+            Outcome::Chain(answers) => answers[0].as_ref().err().copied(),
             Outcome::Move(answer) => answer.err(),
             _ => None,
         }
@@ -78,6 +83,18 @@ fn attempt(library: &dyn Library, job: &Job) -> Outcome {
             carrier,
             ..
         } => Outcome::Delay(library.delay(set, question, *carrier)),
+        Job::Join {
+            earlier,
+            later,
+            lent,
+        } => {
+            let mut areas = lent.clone();
+            let answer = library.join(earlier, later, &mut areas);
+            Outcome::Read { answer, areas }
+        }
+        Job::Chain { sets, seed } => {
+            Outcome::Chain(Box::new(joins::groupings(library, sets, *seed)))
+        }
         Job::Move { epoch, by } => Outcome::Move(library.moved(*epoch, *by)),
     }
 }
@@ -125,6 +142,10 @@ pub fn difference(a: &Outcome, b: &Outcome) -> Option<String> {
         (Outcome::Needs(first), Outcome::Needs(second)) => unequal("needs", first, second),
         (Outcome::Ask(first), Outcome::Ask(second)) => unequal("value asked", first, second),
         (Outcome::Delay(first), Outcome::Delay(second)) => unequal("delay", first, second),
+        (Outcome::Chain(first), Outcome::Chain(second)) => first
+            .iter()
+            .zip(second.iter())
+            .find_map(|(a, b)| unequal("chain", a, b)),
         (Outcome::Move(first), Outcome::Move(second)) => unequal("moved epoch", first, second),
         _ => Some(format!("one of the two failed: {a:?} {b:?}")),
     }

@@ -2,7 +2,7 @@
 
 use crate::rng::Rng;
 use second::maps::Grid;
-use second::{Areas, Axis, Header, Texts, View};
+use second::{Areas, Axis, Given, Header, Texts, View};
 
 /// The six areas.
 #[derive(Clone, Debug, Default, PartialEq, Eq)]
@@ -97,6 +97,15 @@ pub struct MapSet {
 impl MapSet {
     pub fn grid(&self) -> Grid {
         Grid::of(&self.header)
+    }
+
+    /// As the second program is given it.
+    pub fn given(&self) -> Given<'_> {
+        Given {
+            header: &self.header,
+            texts: &self.texts,
+            areas: self.areas.view(),
+        }
     }
 
     pub fn needs(&self) -> [usize; 6] {

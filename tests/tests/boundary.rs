@@ -206,6 +206,49 @@ fn own_areas_too_short_for_delays() {
     assert_eq!(record, [1.0e9, 1.0, 0.403, -7.5, -7.5]);
 }
 
+/// Each of the three headers, and each of the three texts, must be long enough.
+#[test]
+fn own_areas_too_short_for_joining() {
+    let set = set();
+    let no_room = || lent([0; 6]);
+    for which in 0..3 {
+        for (header, texts, answer) in [(HEADER - 1, TEXTS, 101), (HEADER, TEXTS - 1, 102)] {
+            let (mut earlier, mut later, mut lent) = (set.clone(), set.clone(), no_room());
+            let headers = [&mut earlier.header, &mut later.header, &mut lent.header];
+            headers
+                .into_iter()
+                .nth(which)
+                .expect("one")
+                .truncate(header);
+            let all = [&mut earlier.texts, &mut later.texts, &mut lent.texts];
+            all.into_iter().nth(which).expect("one").truncate(texts);
+            let before = lent.clone();
+            assert_eq!(Archive.join(&earlier, &later, &mut lent), answer, "{which}");
+            assert!(lent == before, "something was written");
+        }
+    }
+    let mut lent = no_room();
+    lent.place.truncate(1);
+    assert_eq!(Archive.join(&set, &set, &mut lent), 103);
+    // A set of one map ends where it begins, so that it can follow itself, but not one of a second before.
+    let mut lent = no_room();
+    let before = lent.clone();
+    let mut before_it = set.clone();
+    before_it.header[3] -= 1;
+    before_it.header[4] -= 1;
+    before_it.areas.epochs[0] -= 1;
+    assert_eq!(Archive.join(&before_it, &set, &mut lent), 41);
+    // A number that its field cannot hold.
+    let mut wide = set.clone();
+    wide.header[8] += 1 << 32;
+    assert_eq!(Archive.join(&set, &wide, &mut lent), 31);
+    assert!(lent == before, "something was written");
+    assert_eq!(Archive.join(&set, &set, &mut lent), 11);
+    assert_eq!(lent.place, [1, needs(&set.header)[0] as u64]);
+    lent.place = before.place.clone();
+    assert!(lent == before, "something was written");
+}
+
 #[test]
 fn own_area_too_short_for_moving() {
     for (epoch, by) in [(0, 0), (0, -1), (u64::MAX, 0)] {

@@ -467,6 +467,58 @@ fn delays_of_questions() {
     });
 }
 
+/// Document 02's eleventh request: two days that share midnight. Its map comes from the later day, with its RMS map.
+#[test]
+fn two_days_joined() {
+    let corner = |value: i32| [[value; 2]; 2];
+    let first = header(2, 3600, "")
+        + &map("TEC", 1, Some(0), corner(10), "")
+        + &map("TEC", 2, Some(3600), corner(20), "")
+        + &map("RMS", 2, None, corner(1), "")
+        + &end();
+    let second = header(2, 7200, "").replace(&date(0), &date(3600))
+        + &map("TEC", 1, Some(3600), corner(30), "")
+        + &map("RMS", 1, None, corner(2), "")
+        + &map("TEC", 2, Some(7200), corner(40), "")
+        + &end();
+    each(|library| {
+        let (first, second) = (read(library, &first), read(library, &second));
+        let (first, second) = (first.expect("accepted"), second.expect("accepted"));
+        let mut areas = Buffers::filled([12, 12, 0, 18, 3, 3], 1);
+        let answer = library.join(&first, &second, &mut areas);
+        let Reading::Accepted { header, texts } = answer else {
+            panic!("{answer:?}");
+        };
+        assert_eq!((header.maps, header.interval), (3, 0));
+        assert_eq!(
+            (header.first_epoch, header.last_epoch),
+            (START, START + 7200)
+        );
+        assert_eq!(areas.marks, [0, 1, 0]);
+        assert_eq!(areas.tec, [[10; 4], [30; 4], [40; 4]].concat());
+        assert_eq!(areas.rms, [[9999; 4], [2; 4], [9999; 4]].concat());
+        let set = MapSet {
+            header,
+            texts,
+            areas,
+        };
+        // Halfway from 10 to 30, though the first day alone says 15.
+        assert_eq!(library.ask(&set, &question(500, 500, 1800, 1)), tecu(2_000));
+        assert_eq!(
+            library.ask(&first, &question(500, 500, 1800, 1)),
+            tecu(1_500)
+        );
+        // Not the other way round, and not with another radius.
+        let mut areas = Buffers::filled([12, 12, 0, 18, 3, 3], 1);
+        let refused = |number| Reading::Refused(Refusal::Bare { number });
+        assert_eq!(library.join(&second, &first, &mut areas), refused(41));
+        let mut other = second.clone();
+        other.header.radius += 1;
+        assert_eq!(library.join(&first, &other, &mut areas), refused(40));
+        assert_eq!(library.join(&other, &first, &mut areas), refused(40));
+    });
+}
+
 /// The figures of interpolation that are proved, run as well.
 #[test]
 fn corners_and_halves() {

@@ -71,6 +71,57 @@ fn two_million_values() {
     }
 }
 
+/// The first or the last maps of the set: `from` to `to`, one at least.
+fn part(set: &MapSet, from: usize, to: usize) -> MapSet {
+    let mut part = set.clone();
+    let (size, blocks) = (50 * 400, 50);
+    part.areas = Buffers {
+        tec: set.areas.tec[from * size..to * size].to_vec(),
+        exponents: vec![-1; 3 * (to - from) * blocks],
+        epochs: set.areas.epochs[from..to].to_vec(),
+        marks: vec![0; to - from],
+        ..Buffers::default()
+    };
+    part.header.maps = (to - from) as i64;
+    part.header.first_epoch = set.areas.epochs[from];
+    part.header.last_epoch = set.areas.epochs[to - 1];
+    part
+}
+
+/// Two halves that share a map make the whole again; one map more is beyond the limit.
+#[test]
+fn joined_to_two_million_values() {
+    let mut areas = Buffers::filled([2_000_000, 0, 0, 15_000, 100, 100], 1);
+    let Reading::Accepted { header, texts } = second::read(text().as_bytes(), &mut areas.lent())
+    else {
+        panic!("refused");
+    };
+    let whole = MapSet {
+        header,
+        texts,
+        areas,
+    };
+    let (first, second) = (part(&whole, 0, 50), part(&whole, 49, 100));
+    // A map once more, a minute after the last.
+    let mut longer = second.clone();
+    longer.areas.tec.extend_from_within(..50 * 400);
+    longer.areas.exponents.extend([-1; 150]);
+    longer.areas.epochs.push(whole.header.last_epoch + 60);
+    longer.areas.marks.push(0);
+    longer.header.maps += 1;
+    longer.header.last_epoch += 60;
+    for library in library::all() {
+        let mut areas = Buffers::filled(whole.areas.lengths(), 1);
+        let answer = library.join(&first, &second, &mut areas);
+        assert_eq!(answer, Reading::Accepted { header, texts });
+        assert!(areas == whole.areas);
+        let before = areas.clone();
+        let answer = library.join(&first, &longer, &mut areas);
+        assert_eq!(answer, Reading::Refused(Refusal::Bare { number: 42 }));
+        assert!(areas == before);
+    }
+}
+
 #[test]
 fn one_column_more() {
     let text = text().replace("199.5", "200.0");

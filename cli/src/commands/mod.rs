@@ -5,6 +5,7 @@ pub mod canon;
 pub mod check;
 pub mod delay;
 pub mod info;
+pub mod join;
 pub mod plot;
 
 use crate::args::{Args, Options};
@@ -25,6 +26,7 @@ pub const COMMANDS: &[&Command] = &[
     &check::COMMAND,
     &info::COMMAND,
     &canon::COMMAND,
+    &join::COMMAND,
     &ask::COMMAND,
     &delay::COMMAND,
     &plot::COMMAND,

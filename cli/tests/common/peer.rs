@@ -16,32 +16,38 @@ pub struct Peer {
 
 impl Peer {
     pub fn read(text: &[u8]) -> Result<Peer, Refusal> {
-        let values = (text.len() / 5).min(2_000_000);
-        let mut peer = Peer {
-            header: Header::default(),
-            texts: Texts::default(),
-            tec: vec![0; values],
-            rms: vec![0; values],
-            height: vec![0; values],
-            exponents: vec![0; 3 * values],
-            epochs: vec![0; 300],
-            marks: vec![0; 300],
-        };
-        let mut areas = Areas {
-            tec: &mut peer.tec,
-            rms: &mut peer.rms,
-            height: &mut peer.height,
-            exponents: &mut peer.exponents,
-            epochs: &mut peer.epochs,
-            marks: &mut peer.marks,
-        };
-        match read(text, &mut areas) {
+        let mut peer = Peer::of_lengths((text.len() / 5).min(2_000_000), 300);
+        match read(text, &mut peer.areas()) {
             Reading::Accepted { header, texts } => {
                 peer.header = header;
                 peer.texts = texts;
                 Ok(peer)
             }
             Reading::Refused(refusal) => Err(refusal),
+        }
+    }
+
+    fn of_lengths(values: usize, maps: usize) -> Peer {
+        Peer {
+            header: Header::default(),
+            texts: Texts::default(),
+            tec: vec![0; values],
+            rms: vec![0; values],
+            height: vec![0; values],
+            exponents: vec![0; 3 * values],
+            epochs: vec![0; maps],
+            marks: vec![0; maps],
+        }
+    }
+
+    fn areas(&mut self) -> Areas<'_> {
+        Areas {
+            tec: &mut self.tec,
+            rms: &mut self.rms,
+            height: &mut self.height,
+            exponents: &mut self.exponents,
+            epochs: &mut self.epochs,
+            marks: &mut self.marks,
         }
     }
 
@@ -53,6 +59,25 @@ impl Peer {
             exponents: &self.exponents,
             epochs: &self.epochs,
             marks: &self.marks,
+        }
+    }
+
+    /// The canonical text of this and a later text joined, or the number of the refusal.
+    pub fn joined(&self, later: &Peer) -> Result<Vec<u8>, u8> {
+        let values = self.tec.len() + later.tec.len();
+        let mut both = Peer::of_lengths(values, 600);
+        let mut areas = both.areas();
+        let (header, texts) = second::join(&self.given(), &later.given(), &mut areas)
+            .map_err(|refusal| refusal.number())?;
+        (both.header, both.texts) = (header, texts);
+        Ok(both.canonical())
+    }
+
+    fn given(&self) -> second::Given<'_> {
+        second::Given {
+            header: &self.header,
+            texts: &self.texts,
+            areas: self.view(),
         }
     }
 

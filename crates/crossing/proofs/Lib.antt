@@ -1,3 +1,4 @@
 pub mod OwnLaws
 pub mod ReadLaws
 pub mod WriteLaws
+pub mod JoinLaws

@@ -31,7 +31,7 @@ use Rattle.outcome.specs.declared.ReadOut.{ReadOut}
 
 -- ---- the epochs of an accepted header are small
 
-in-years : (m : MapSet) → Formed m → (m .header .times .first < 9223372036854775808) × (m .header .times .last < 9223372036854775808)
+pub in-years : (m : MapSet) → Formed m → (m .header .times .first < 9223372036854775808) × (m .header .times .last < 9223372036854775808)
 in-years m f = by (f .header .records)
   where
     by : Stand contents (says (m .header) (m .texts)) → (m .header .times .first < 9223372036854775808) × (m .header .times .last < 9223372036854775808)

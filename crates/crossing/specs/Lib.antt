@@ -6,3 +6,4 @@ pub mod WriteExported
 pub mod AskExported
 pub mod DelayExported
 pub mod MoveExported
+pub mod JoinExported

@@ -11,18 +11,25 @@ ghost use Rattle.delay.specs.Delay.{told as told-delay};
 ghost use Rattle.askdelay.specs.AskDelay.{told as told-asked-delay};
 ghost use Rattle.calendar.specs.Calendar.{toldWhen};
 ghost use Rattle.crossing.specs.Own.{too-short};
+ghost use Rattle.crossing.specs.Own as own;
+ghost use Rattle.joining.specs.Joined.{told-why};
 ghost use Rattle.crossing.specs.ReadExported.{told-header, told-texts, Small};
 ghost use Rattle.crossing.specs.NeedsExported.{listed, number as needs-number, told-needs, place as needs-place};
 ghost use Rattle.crossing.specs.WriteExported.{told-number as write-number, told-count};
 ghost use Rattle.crossing.specs.AskExported.{told-number as ask-number, told-value};
 ghost use Rattle.crossing.specs.DelayExported.{told-number as delay-number, told-record};
 ghost use Rattle.crossing.specs.MoveExported.{told-number as move-number, told-moved};
+ghost use Rattle.crossing.specs.JoinExported.{why-number, why-place, answer-number, answer-header, answer-texts, answer-place};
+ghost use Rattle.crossing.specs.JoinExported.{Small as SmallJoined};
 use askdelay::AskedDelay;
 use asker::Asked;
 use asker::Why;
 use calendar::When;
 use delay::Delay;
 use delay::Delayed;
+use joining::Joining;
+use joining::Refusal;
+use mapset::Texts;
 use needs::Elements;
 use outcome::Measured;
 use outcome::ReadOut;
@@ -46,6 +53,22 @@ pub fn too_short(header: usize, texts: usize, result: usize, elements: usize) ->
         return 103;
     }
     0
+}
+
+fn lesser(a: usize, b: usize) -> usize
+    ensures { λ r. ⌜ r ≡ own.lesser a b ⌝ }
+{
+    if a < b {
+        return a;
+    }
+    b
+}
+
+// Of three headers or texts.
+pub fn shortest(a: usize, b: usize, c: usize) -> usize
+    ensures { λ r. ⌜ r ≡ own.shortest a b c ⌝ }
+{
+    lesser(a, lesser(b, c))
 }
 
 // ---- Reading
@@ -235,5 +258,47 @@ pub fn put_moved(when: When, out: &mut [u64]) -> u64
             0
         }
         When::Refused => 7,
+    }
+}
+
+// ---- Joining
+
+fn put_why(why: Refusal, place: &mut [u64]) -> u64
+    requires { ⌜ 2 ≤ length (now place) ⌝ }
+    ensures { λ n. ⌜ (n ≡ why-number (told-why why)) × (now (place .exit) ≡ front (why-place (told-why why)) (now (place .entry))) ⌝ }
+{
+    match why {
+        Refusal::NotValid => 31,
+        Refusal::Unlike => 40,
+        Refusal::Apart => 41,
+        Refusal::TooMany => 42,
+        Refusal::AreaTooShort(area, need) => {
+            put_place(place, area, need);
+            11
+        }
+    }
+}
+
+// Two sets joined cross: the number; the header record and the later set's texts, or the place.
+pub fn put_joined(
+    r: Joining,
+    x: Texts,
+    header: &mut [i64],
+    texts: &mut [u8],
+    place: &mut [u64],
+) -> u64
+    requires { ⌜ (44 ≤ length (now header)) × ((124 ≤ length (now texts)) × ((2 ≤ length (now place)) × SmallJoined r)) ⌝ }
+    ensures { λ n. ⌜ (n ≡ answer-number r)
+        × ((now (header .exit) ≡ front (answer-header r) (now (header .entry)))
+        × ((now (texts .exit) ≡ front (answer-texts r x) (now (texts .entry)))
+        × (now (place .exit) ≡ front (answer-place r) (now (place .entry))))) ⌝ }
+{
+    match r {
+        Joining::Done(h) => {
+            numbers::put_header(header, h);
+            numbers::put_texts(texts, x);
+            0
+        }
+        Joining::Refused(why) => put_why(why, place),
     }
 }

@@ -1,0 +1,2 @@
+-- Two lists one behind the other.
+pub mod Lists
