@@ -49,7 +49,9 @@ module _ (c : tie.After-single Inv-loop μ-loop) where
 
   node-is : bare (c .before .node-of .result) ≡ node s v
   node-is =
-      let e : c .before .node-of .result ≡ in-node (kind-of (s .args .kind)) (node s v) = (rw (exponent-is s) at (c .before .node-of .ensures)) ∙ ap (λ (x : ℤ). in-node (kind-of (s .args .kind)) (plain x (s .args .exponent))) (search needs) in
+      let k = kind-of (s .args .kind) in
+      let x : toZ w32 (ofZ w32 v) ≡ v = search needs in
+      let e : c .before .node-of .result ≡ in-node k (node s v) = c .before .node-of .ensures ∙ (λ i. in-node k (plain (x i) (exponent-is s i))) in
       ap bare e ∙ bare-node (kind-of (s .args .kind)) (node s v)
 
   single-is : c .single .result ≡ single (node s v)
