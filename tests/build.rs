@@ -14,6 +14,7 @@ const FUNCTIONS: [&str; 8] = [
     "MOVED",
     "JOIN",
     "WRITE",
+    "WEEK_ADD",
 ];
 
 fn main() {

@@ -16,4 +16,5 @@ pub const FUNCTIONS: [(&str, bool); 8] = [
     ("ionex_moved", cfg!(feature = "moved")),
     ("ionex_join", cfg!(feature = "join")),
     ("ionex_write", cfg!(feature = "write")),
+    ("ionex_week_add", cfg!(feature = "week_add")),
 ];
