@@ -7,7 +7,7 @@ pub use crate::bridge::Archive;
 pub use crate::c::Archive;
 
 /// Each function of the boundary, and whether it comes from the archive.
-pub const FUNCTIONS: [(&str, bool); 8] = [
+pub const FUNCTIONS: [(&str, bool); 9] = [
     ("ionex_read", cfg!(feature = "read")),
     ("ionex_needs", cfg!(feature = "needs")),
     ("ionex_ask", cfg!(feature = "ask")),
