@@ -53,7 +53,7 @@ enum ionex_answer {
     IONEX_CUT_SHORT = 10,    /* the text ends before END OF FILE; the line is one past the last */
 
     /* Reading and joining: all is good, but an area is too short. place[0] is the area (1 TEC, 2 RMS, 3 height,
-     * 4 exponents, 5 epochs, 6 marks), place[1] the elements it needs. */
+     * 4 exponents, 5 epochs, 6 marks), place[1] the elements it needs. Adding to a week: area 1 is rows. */
     IONEX_SHORT_AREA = 11,
 
     /* Asking. */
@@ -67,21 +67,25 @@ enum ionex_answer {
                           * neighbouring epochs are more than 7,200 s apart */
     IONEX_UNSERVED_CARRIER = 25, /* the carrier is not from 1.0e9 to 2.0e9 Hz */
 
-    /* Writing, and 31 also asking and joining. */
+    /* Writing, and 31 also asking, joining and adding to a week. */
     IONEX_SHORT_OUTPUT = 30, /* the output is too short; count[0] is the bytes needed */
-    IONEX_NO_MAP_SET = 31,   /* what was given is not a valid map set. Writing and joining look at all of it; asking at
-                              * header, texts, lengths of the areas, epochs and marks only */
+    IONEX_NO_MAP_SET = 31,   /* what was given is not a valid map set. Writing, joining and adding to a week look at all
+                              * of it; asking at header, texts, lengths of the areas, epochs and marks only. Adding to a
+                              * week: or the week is none */
 
     /* Joining. */
     IONEX_UNLIKE = 40,        /* the grids (heights among them), the dimensions or the base radii differ */
     IONEX_APART = 41,         /* the earlier set's last epoch is not the later set's first */
     IONEX_TOO_MANY = 42,      /* more than 300 maps, or more than 2,000,000 values of a kind */
 
+    /* Adding to a week. */
+    IONEX_FULL_WEEK = 60,     /* the week has IONEX_WEEK_SETS map sets already */
+
     /* A small area of the call's own is too short. Told first, in this order, before anything else is looked at,
      * and then nothing is written. */
     IONEX_SHORT_HEADER = 101, /* fewer than IONEX_HEADER numbers of header */
     IONEX_SHORT_TEXTS = 102,  /* fewer than IONEX_TEXTS bytes of texts */
-    IONEX_SHORT_RESULT = 103  /* no room for place, needs, count, value, record or moved */
+    IONEX_SHORT_RESULT = 103  /* no room for place, needs, count, value, record, moved or week */
 };
 
 /*
@@ -348,6 +352,55 @@ uint64_t ionex_join(const int64_t *early_header, size_t early_header_len, /* ION
                     int64_t *header, size_t header_len, /* IONEX_HEADER numbers, else 101 */
                     uint8_t *texts, size_t texts_len,   /* IONEX_TEXTS bytes, else 102 */
                     uint64_t *place, size_t place_len); /* 2 numbers, else 103 */
+
+/*
+ * THE WEEK IN FIGURES: IONEX_WEEK numbers, which a caller keeps from call to call; all 0 to begin with. Figures are five
+ * numbers, also those of a row: nodes with a value, nodes without, the smallest value, the largest, the sum; thousandths
+ * of a TECU (TEC, RMS) or of a kilometre (height). Where no node has a value, smallest, largest and sum are 0. A mean is
+ * sum and count, two whole numbers.
+ */
+enum ionex_week {
+    IONEX_WEEK_ADDED = 0, /* how many map sets were added, 0 to IONEX_WEEK_SETS */
+    IONEX_WEEK_KINDS = 1, /* the figures of TEC, RMS and height over all of them: IONEX_FIGURES numbers each */
+    IONEX_WEEK = 16,      /* how many numbers there are */
+    IONEX_WEEK_SETS = 100 /* how many map sets are added at most */
+};
+
+/* Places in figures. */
+enum ionex_figures {
+    IONEX_FIGURES_GIVEN = 0,
+    IONEX_FIGURES_LACKING = 1, /* an absent map has all its nodes here */
+    IONEX_FIGURES_SMALLEST = 2,
+    IONEX_FIGURES_LARGEST = 3,
+    IONEX_FIGURES_SUM = 4,
+    IONEX_FIGURES = 5 /* how many numbers there are */
+};
+
+/* Where the figures of a kind stand in a week, and those of map i of n (from 0) in rows; of all maps of the kind: i is n. */
+#define IONEX_WEEK_KIND(kind) (IONEX_WEEK_KINDS + IONEX_FIGURES * (kind))
+#define IONEX_ROW(kind, i, n) (IONEX_FIGURES * ((kind) * ((n) + 1) + (i)))
+#define IONEX_ROWS(n) (3 * IONEX_FIGURES * ((n) + 1)) /* how many numbers all rows are */
+
+/*
+ * Adds a map set to a week. The figures of up to IONEX_WEEK_SETS valid sets are the same whatever order they come in.
+ *
+ *   0            week is the week with the set; its own figures stand in front of rows, kind by kind, map by map.
+ *   60, 31, 11   refused, told in this order; week and rows are as found. 31: the set is no valid map set, or the week is
+ *                none (a count below 0 or above 2,000,000 for each set, a sum that so many values cannot have, a smallest
+ *                above the largest, or either of them not 0 where no node has a value). 11: place[0] is 1, place[1] the
+ *                numbers that rows needs.
+ */
+uint64_t ionex_week_add(int64_t *week, size_t week_len,           /* IONEX_WEEK numbers, else 103 */
+                        const int64_t *header, size_t header_len, /* IONEX_HEADER numbers, else 101 */
+                        const uint8_t *texts, size_t texts_len,   /* IONEX_TEXTS bytes, else 102 */
+                        const int32_t *tec, size_t tec_len,
+                        const int32_t *rms, size_t rms_len,
+                        const int32_t *height, size_t height_len,
+                        const int32_t *exponents, size_t exponents_len,
+                        const uint64_t *epochs, size_t epochs_len,
+                        const uint8_t *marks, size_t marks_len,
+                        int64_t *rows, size_t rows_len,     /* IONEX_ROWS(n) numbers, else 11 */
+                        uint64_t *place, size_t place_len); /* 2 numbers, else 103 */
 
 /*
  * Moves an epoch, in seconds from 1900-01-01 00:00:00, by a number of seconds, backwards where it is negative.

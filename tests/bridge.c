@@ -2,7 +2,7 @@
  * after another from standard input and answers each on standard output. src/bridge.rs is the other end.
  *
  * A call is a struct call, then its areas. What goes back is the function's answer, then the areas that were lent, as
- * the call left them. -D READ, NEEDS, WRITE, ASK, TECU_DELAY, DELAY, JOIN or MOVED: the archive has this
+ * the call left them. -D READ, NEEDS, WRITE, ASK, TECU_DELAY, DELAY, MOVED, JOIN or WEEK_ADD: the archive has this
  * function. */
 #include "ionex.h"
 #include <stdio.h>
@@ -20,7 +20,8 @@ enum function {
     FUNCTION_NEEDS,
     FUNCTION_TECU_DELAY,
     FUNCTION_DELAY,
-    FUNCTION_JOIN
+    FUNCTION_JOIN,
+    FUNCTION_WEEK_ADD
 };
 
 struct area {
@@ -84,6 +85,10 @@ static uint64_t answer(const struct call *call, void *const *at)
 #ifdef JOIN
     case FUNCTION_JOIN:
         return ionex_join(EIGHT, NEXT_EIGHT, LAST_NINE);
+#endif
+#ifdef WEEK_ADD
+    case FUNCTION_WEEK_ADD:
+        return ionex_week_add(AREA(8), EIGHT, AREA(9), AREA(10));
 #endif
     default:
         fprintf(stderr, "bridge: no function %d\n", (int)call->function);

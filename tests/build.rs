@@ -5,7 +5,7 @@ use std::env;
 use std::path::{Path, PathBuf};
 use std::process::Command;
 
-const FUNCTIONS: [&str; 8] = [
+const FUNCTIONS: [&str; 9] = [
     "READ",
     "NEEDS",
     "ASK",
@@ -14,6 +14,7 @@ const FUNCTIONS: [&str; 8] = [
     "MOVED",
     "JOIN",
     "WRITE",
+    "WEEK_ADD",
 ];
 
 fn main() {

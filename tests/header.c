@@ -124,6 +124,16 @@ int main(int argc, char **argv)
     must(memcmp(joined, one, sizeof one) == 0 && memcmp(words, texts, sizeof words) == 0, "the joined header");
     must(memcmp(values, tec, sizeof values) == 0 && second[0] == epochs[0] && mark[0] == 0, "the joined map");
 
+    int64_t week[16] = {0}, rows[45];
+    must(ionex_week_add(AREA(week), SET, rows, 44, AREA(place)) == IONEX_SHORT_AREA && place[0] == 1 && place[1] == 45,
+         "short rows");
+    must(ionex_week_add(AREA(week), SET, AREA(rows), AREA(place)) == IONEX_DONE && week[0] == 1, "a set into a week");
+    must(rows[0] == 3 && rows[1] == 1 && rows[2] == -20 && rows[3] == 10 && rows[4] == -10, "the first TEC map");
+    must(week[1] == 7 && week[2] == 1 && week[3] == -999900 && week[4] == 9999900 && week[5] == 9002290, "all TEC maps");
+    must(week[6] == 4 && week[7] == 4 && week[10] == 6000 && week[11] == 4 && week[15] == 1610, "RMS and height maps");
+    week[0] = 100;
+    must(ionex_week_add(AREA(week), SET, AREA(rows), AREA(place)) == 60 && week[0] == 100, "a full week");
+
     uint64_t moved[1] = {9};
     must(ionex_moved(IONEX_UNIX_ZERO, 315964800, AREA(moved)) == IONEX_DONE && moved[0] == IONEX_GPS_ZERO, "GPS zero");
     must(ionex_moved(epochs[0], 1, AREA(moved)) == IONEX_DONE && moved[0] == epochs[1], "an epoch moved");

@@ -90,6 +90,17 @@ impl Args {
         }
     }
 
+    /// The files of a command that is about many.
+    pub fn many_files(&self) -> Result<&[OsString], Stop> {
+        if self.files.is_empty() {
+            return usage("no FILE is given");
+        }
+        if self.files.iter().filter(|file| *file == "-").count() > 1 {
+            return usage("standard input can be read once only");
+        }
+        Ok(&self.files)
+    }
+
     /// The value of an option that is one of several words, or the first of them.
     pub fn choice<T: Copy>(&self, option: &str, choices: &[(&str, T)]) -> Result<T, Stop> {
         let Some(word) = self.word(option) else {

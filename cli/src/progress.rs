@@ -8,6 +8,10 @@ const FIRST: Duration = Duration::from_secs(1);
 const AGAIN: Duration = Duration::from_millis(250);
 
 pub struct Progress {
+    /// What stands behind the count.
+    words: String,
+    /// The clock is looked at after so many only.
+    every: u64,
     /// Nobody looks: the output goes to the terminal too, or there is none.
     hidden: bool,
     count: u64,
@@ -16,8 +20,10 @@ pub struct Progress {
 }
 
 impl Progress {
-    pub fn new() -> Progress {
+    pub fn new(words: impl Into<String>, every: u64) -> Progress {
         Progress {
+            words: words.into(),
+            every,
             hidden: !io::stderr().is_terminal() || io::stdout().is_terminal(),
             count: 0,
             next: Instant::now() + FIRST,
@@ -25,15 +31,15 @@ impl Progress {
         }
     }
 
-    /// One more is done. The clock is looked at now and then only.
+    /// One more is done.
     pub fn step(&mut self) {
         self.count += 1;
-        if self.hidden || !self.count.is_multiple_of(64) || Instant::now() < self.next {
+        if self.hidden || !self.count.is_multiple_of(self.every) || Instant::now() < self.next {
             return;
         }
         self.next = Instant::now() + AGAIN;
         self.shown = true;
-        let _ = write!(io::stderr(), "\r{} answered", self.count);
+        let _ = write!(io::stderr(), "\r{} {}", self.count, self.words);
     }
 }
 

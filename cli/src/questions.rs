@@ -62,7 +62,7 @@ impl Answering<'_> {
             tell("ionex: questions, one to a line: LAT LON TIME");
         }
         let mut source = BufReader::with_capacity(1 << 16, io::stdin());
-        let mut progress = Progress::new();
+        let mut progress = Progress::new("answered", 64);
         while let Some(line) = next_line(&mut source)? {
             let (status, words) = self.answer_line(&line);
             out.reached = out.reached.max(status);

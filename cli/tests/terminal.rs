@@ -48,3 +48,11 @@ fn progress() {
     let fast = format!("cat {questions} {questions} | $IONEX ask {file} >/dev/null");
     assert_eq!(at_terminal(&fast, false), "");
 }
+
+/// Files are few and slow, so each one counts.
+#[test]
+fn progress_of_files() {
+    let file = "tests/examples/accepted-canonical.inx";
+    let slow = format!("{{ sleep 1.2; cat {file}; }} | $IONEX week {file} - {file} >/dev/null");
+    assert_eq!(at_terminal(&slow, false), "\r2 of 3 files\r\x1b[K");
+}

@@ -57,6 +57,12 @@ fn not_understood() {
         (&["join"], "join: no FILE is given; see ionex join --help"),
         (&["join", "x"], "join: one FILE is given, but two or more are joined; see ionex join --help"),
         (&["join", "-", "x", "-"], "join: standard input can be read once only; see ionex join --help"),
+        (&["week"], "week: no FILE is given; see ionex week --help"),
+        (&["week", "-", "x", "-"], "week: standard input can be read once only; see ionex week --help"),
+        (
+            &["week", "x", "--json", "--csv"],
+            "week: --json and --csv are given, but one form is printed; see ionex week --help",
+        ),
         (&["ask", "x", "--at", "1,2"], "ask: --at needs --time; see ionex ask --help"),
         (&["ask", "x", "--time", "2010-12-04"], "ask: --time needs --at; see ionex ask --help"),
         (

@@ -207,3 +207,30 @@ pub fn join(early: Given, late: Given, lent: Lent, place: &mut [u64]) -> u64 {
         )
     }
 }
+
+#[rustfmt::skip]
+extern "C" {
+    fn ionex_week_add(
+        week: *mut i64, week_len: usize,
+        header: *const i64, header_len: usize, texts: *const u8, texts_len: usize,
+        tec: *const i32, tec_len: usize, rms: *const i32, rms_len: usize, height: *const i32, height_len: usize,
+        exponents: *const i32, exponents_len: usize, epochs: *const u64, epochs_len: usize,
+        marks: *const u8, marks_len: usize,
+        rows: *mut i64, rows_len: usize, place: *mut u64, place_len: usize,
+    ) -> u64;
+}
+
+/// `ionex_week_add`.
+#[rustfmt::skip]
+pub fn week_add(week: &mut [i64], given: Given, rows: &mut [i64], place: &mut [u64]) -> u64 {
+    let Given { header, texts, tec, rms, height, exponents, epochs, marks } = given;
+    unsafe {
+        ionex_week_add(
+            week.as_mut_ptr(), week.len(),
+            header.as_ptr(), header.len(), texts.as_ptr(), texts.len(),
+            tec.as_ptr(), tec.len(), rms.as_ptr(), rms.len(), height.as_ptr(), height.len(),
+            exponents.as_ptr(), exponents.len(), epochs.as_ptr(), epochs.len(), marks.as_ptr(), marks.len(),
+            rows.as_mut_ptr(), rows.len(), place.as_mut_ptr(), place.len(),
+        )
+    }
+}

@@ -31,6 +31,7 @@ mod mapset;
 mod place;
 mod refusal;
 mod value;
+mod week;
 mod words;
 
 pub use delay::{Carrier, Delay, Metres, Tecu};
@@ -40,4 +41,5 @@ pub use mapset::{Areas, MapSet, NO_VALUE};
 pub use place::Place;
 pub use refusal::Refusal;
 pub use value::{Answer, Kind, Method, MilliKm, MilliTecu};
+pub use week::{Figures, SetFigures, Sum, Week};
 pub use words::ParseError;

@@ -229,7 +229,7 @@ fn four_points(
 
 /// A node in thousandths, or nothing "when its number is 9999 or outside -9999 to
 /// 99999, its exponent is outside -3 to 0, or its map is marked absent".
-fn node(
+pub fn node(
     grid: &Grid,
     areas: &View,
     kind: Kind,

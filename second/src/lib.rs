@@ -20,6 +20,7 @@ pub mod maps;
 pub mod program;
 pub mod read;
 pub mod refusal;
+pub mod week;
 pub mod write;
 
 pub use ask::{ask, Answer, Question};

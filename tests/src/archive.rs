@@ -7,7 +7,7 @@ pub use crate::bridge::Archive;
 pub use crate::c::Archive;
 
 /// Each function of the boundary, and whether it comes from the archive.
-pub const FUNCTIONS: [(&str, bool); 8] = [
+pub const FUNCTIONS: [(&str, bool); 9] = [
     ("ionex_read", cfg!(feature = "read")),
     ("ionex_needs", cfg!(feature = "needs")),
     ("ionex_ask", cfg!(feature = "ask")),
@@ -16,4 +16,5 @@ pub const FUNCTIONS: [(&str, bool); 8] = [
     ("ionex_moved", cfg!(feature = "moved")),
     ("ionex_join", cfg!(feature = "join")),
     ("ionex_write", cfg!(feature = "write")),
+    ("ionex_week_add", cfg!(feature = "week_add")),
 ];

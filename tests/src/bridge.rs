@@ -3,6 +3,7 @@
 
 use crate::boundary::{Asked, Boundary, Given, Lent, Plain};
 use crate::program;
+use crate::weeks::Weeks;
 use std::cell::RefCell;
 use std::io::{self, Read, Write};
 use std::path::Path;
@@ -17,6 +18,7 @@ const NEEDS: u64 = 4;
 const TECU_DELAY: u64 = 5;
 const DELAY: u64 = 6;
 const JOIN: u64 = 7;
+const WEEK_ADD: u64 = 8;
 const NUMBERS: usize = 7;
 const AREAS: usize = 25;
 
@@ -108,6 +110,26 @@ impl Boundary for Archive {
         }
         let mut call = Call::new(MOVED, &[epoch, by as u64]);
         call.lend(moved);
+        call.answer()
+    }
+}
+
+impl Weeks for Archive {
+    fn week_add(
+        &self,
+        week: &mut [i64],
+        given: &Given,
+        rows: &mut [i64],
+        place: &mut [u64],
+    ) -> u64 {
+        if !cfg!(feature = "week_add") {
+            return Plain.week_add(week, given, rows, place);
+        }
+        let mut call = Call::new(WEEK_ADD, &[]);
+        call.give_set(given);
+        call.lend(week);
+        call.lend(rows);
+        call.lend(place);
         call.answer()
     }
 }

@@ -2,6 +2,7 @@
 //! answered by the second program.
 
 use crate::boundary::{Asked, Boundary, Given, Lent};
+use crate::weeks::Weeks;
 
 // The library, as include/ionex.h declares it.
 #[rustfmt::skip]
@@ -70,6 +71,16 @@ extern "C" {
 
     #[cfg(feature = "moved")]
     fn ionex_moved(epoch: u64, by: i64, moved: *mut u64, moved_len: usize) -> u64;
+
+    #[cfg(feature = "week_add")]
+    fn ionex_week_add(
+        week: *mut i64, week_len: usize,
+        header: *const i64, header_len: usize, texts: *const u8, texts_len: usize,
+        tec: *const i32, tec_len: usize, rms: *const i32, rms_len: usize, height: *const i32, height_len: usize,
+        exponents: *const i32, exponents_len: usize, epochs: *const u64, epochs_len: usize,
+        marks: *const u8, marks_len: usize,
+        rows: *mut i64, rows_len: usize, place: *mut u64, place_len: usize,
+    ) -> u64;
 }
 
 /// The library's archive.
@@ -217,5 +228,28 @@ impl Boundary for Archive {
     #[cfg(not(feature = "moved"))]
     fn moved(&self, epoch: u64, by: i64, moved: &mut [u64]) -> u64 {
         crate::boundary::Plain.moved(epoch, by, moved)
+    }
+}
+
+#[rustfmt::skip]
+impl Weeks for Archive {
+    #[cfg(feature = "week_add")]
+    fn week_add(&self, week: &mut [i64], given: &Given, rows: &mut [i64], place: &mut [u64]) -> u64 {
+        let Given { header, texts, areas: a } = given;
+        unsafe {
+            ionex_week_add(
+                week.as_mut_ptr(), week.len(),
+                header.as_ptr(), header.len(), texts.as_ptr(), texts.len(),
+                a.tec.as_ptr(), a.tec.len(), a.rms.as_ptr(), a.rms.len(), a.height.as_ptr(), a.height.len(),
+                a.exponents.as_ptr(), a.exponents.len(), a.epochs.as_ptr(), a.epochs.len(),
+                a.marks.as_ptr(), a.marks.len(),
+                rows.as_mut_ptr(), rows.len(), place.as_mut_ptr(), place.len(),
+            )
+        }
+    }
+
+    #[cfg(not(feature = "week_add"))]
+    fn week_add(&self, week: &mut [i64], given: &Given, rows: &mut [i64], place: &mut [u64]) -> u64 {
+        crate::boundary::Plain.week_add(week, given, rows, place)
     }
 }

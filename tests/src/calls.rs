@@ -125,7 +125,7 @@ pub fn calls(seed: u64) -> Vec<Call> {
 }
 
 /// A length around what a call needs of an own area.
-fn length(rng: &mut Rng, need: usize) -> usize {
+pub fn length(rng: &mut Rng, need: usize) -> usize {
     match rng.below(12) {
         0 => need - 1,
         1 => rng.below(need),
@@ -134,7 +134,7 @@ fn length(rng: &mut Rng, need: usize) -> usize {
     }
 }
 
-fn words(rng: &mut Rng, need: usize) -> Vec<u64> {
+pub fn words(rng: &mut Rng, need: usize) -> Vec<u64> {
     (0..length(rng, need)).map(|_| rng.word()).collect()
 }
 
@@ -211,7 +211,7 @@ fn lent_with(rng: &mut Rng, areas: Buffers) -> Lent {
     }
 }
 
-fn given(rng: &mut Rng, set: &MapSet) -> Given {
+pub fn given(rng: &mut Rng, set: &MapSet) -> Given {
     let mut given = boundary::given(set);
     match rng.below(4) {
         0 => widen(rng, &mut given.header),

@@ -24,3 +24,4 @@ pub mod remarks;
 pub mod rng;
 pub mod run;
 pub mod set;
+pub mod weeks;

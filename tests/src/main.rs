@@ -3,6 +3,7 @@
 //! compare boundary COUNT SEED     both at the C boundary: own areas of every length, numbers too wide
 //! compare faults COUNT SEED       every planted fault must be found
 //! compare delays SEED             delays of a week's log and of any carriers, by both, bit for bit
+//! compare weeks COUNT SEED        weeks in figures, by both, and the reports judged
 //! compare places COUNT SEED       where the damaged texts are refused, for reading
 //! compare program FILE            an executable on every example, against the second program
 //!
@@ -14,7 +15,7 @@
 use compare::archive::{Archive, FUNCTIONS};
 use compare::check::{self, Tally};
 use compare::library::{self, Second};
-use compare::{calls, delays, faults, program, remarks};
+use compare::{calls, delays, faults, program, remarks, weeks};
 use std::path::Path;
 use std::process::ExitCode;
 
@@ -51,7 +52,7 @@ fn main() -> ExitCode {
 }
 
 fn usage() -> ExitCode {
-    eprintln!("usage: compare self-check|libraries|boundary|faults|places COUNT SEED");
+    eprintln!("usage: compare self-check|libraries|boundary|weeks|faults|places COUNT SEED");
     eprintln!("       compare delays SEED");
     eprintln!("       compare program FILE");
     eprintln!("libraries, boundary and delays need a function that is linked");
@@ -65,6 +66,7 @@ fn seeded(mode: &str, count: u64, seed: u64) -> Option<Tally> {
         "self-check" => check::self_check(library.as_ref(), count, seed),
         "libraries" if linked() => check::compare(&Second, library.as_ref(), count, seed),
         "boundary" if linked() => calls::compare(&Archive, count, seed),
+        "weeks" => weeks::compare(&Archive, count, seed),
         "faults" => planted_faults(count, seed),
         _ => return None,
     })
@@ -107,6 +109,11 @@ fn planted_faults(count: u64, seed: u64) -> Tally {
         let found = calls::find(&Archive, fault, count, seed);
         let told = found.map(|(seed, difference)| format!("seed {seed}: {difference}"));
         tell(&mut tally, &format!("{fault:?} at the boundary"), told);
+    }
+    for fault in weeks::FAULTS {
+        let found = weeks::find(fault, count, seed);
+        let told = found.map(|(seed, difference)| format!("seed {seed}: {difference}"));
+        tell(&mut tally, &format!("{fault:?} of a week"), told);
     }
     let all = tally.passed + tally.failed;
     println!("{all} faults planted, {} found", tally.passed);

@@ -5,7 +5,7 @@ use crate::args::{Args, Options};
 use crate::json::Object;
 use crate::numbers::counted;
 use crate::output::{tell, Output, Style};
-use crate::status::{usage, Status, Stop};
+use crate::status::{Status, Stop};
 use crate::{files, refused, time};
 use ionex::{Kind, MapSet};
 use std::ffi::OsStr;
@@ -34,13 +34,7 @@ Exit status: 0 all are accepted, 1 one is refused, 2 one cannot be read.
 ";
 
 fn run(args: &Args, out: &mut Output) -> Result<Status, Stop> {
-    if args.files.is_empty() {
-        return usage("no FILE is given");
-    }
-    if args.files.iter().filter(|file| *file == "-").count() > 1 {
-        return usage("standard input can be read once only");
-    }
-    for file in &args.files {
+    for file in args.many_files()? {
         check_file(file, args.has("--json"), out)?;
     }
     Ok(out.reached)
@@ -58,8 +52,8 @@ fn check_file(file: &OsStr, json: bool, out: &mut Output) -> Result<(), Stop> {
     out.line(&words)
 }
 
-/// A file that cannot be read; the files behind it are checked all the same.
-fn unread(name: &str, words: &str, json: bool, out: &mut Output) -> Result<(), Stop> {
+/// A file that cannot be read; the files behind it are looked at all the same.
+pub fn unread(name: &str, words: &str, json: bool, out: &mut Output) -> Result<(), Stop> {
     out.reached = Status::Failed;
     if json {
         let object = Object::new().text("file", name).text("status", "unread");

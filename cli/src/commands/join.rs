@@ -33,14 +33,10 @@ Exit status: 0 written, 1 a file is refused or two do not fit, 2 one cannot be r
 ";
 
 fn run(args: &Args, out: &mut Output) -> Result<Status, Stop> {
-    let [first, others @ ..] = args.files.as_slice() else {
-        return usage("no FILE is given");
-    };
+    let files = args.many_files()?;
+    let (first, others) = (&files[0], &files[1..]);
     if others.is_empty() {
         return usage("one FILE is given, but two or more are joined");
-    }
-    if args.files.iter().filter(|file| *file == "-").count() > 1 {
-        return usage("standard input can be read once only");
     }
     let mut names = vec![files::name(first)];
     let mut joined = refused::read(&names[0], &files::read(first)?)?;

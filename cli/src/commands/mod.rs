@@ -7,6 +7,7 @@ pub mod delay;
 pub mod info;
 pub mod join;
 pub mod plot;
+pub mod week;
 
 use crate::args::{Args, Options};
 use crate::output::Output;
@@ -27,6 +28,7 @@ pub const COMMANDS: &[&Command] = &[
     &info::COMMAND,
     &canon::COMMAND,
     &join::COMMAND,
+    &week::COMMAND,
     &ask::COMMAND,
     &delay::COMMAND,
     &plot::COMMAND,

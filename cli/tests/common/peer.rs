@@ -1,5 +1,6 @@
 //! What the second program says of a text.
 
+use second::week::{self, Week};
 use second::{ask, read, Answer, Areas, Header, Question, Reading, Refusal, Texts, View};
 
 /// A text that the second program accepts, with areas of its own.
@@ -79,6 +80,14 @@ impl Peer {
             texts: &self.texts,
             areas: self.view(),
         }
+    }
+
+    /// Adds it to a week: its own rows, kind by kind, or the number of the refusal.
+    pub fn added_to(&self, week: &mut Week) -> Result<Vec<i64>, u8> {
+        let mut rows = vec![0; 3 * week::ROW * (self.header.maps as usize + 1)];
+        week::add(week, &self.header, &self.texts, &self.view(), &mut rows)
+            .map_err(|refusal| refusal.number())?;
+        Ok(rows)
     }
 
     pub fn canonical(&self) -> Vec<u8> {

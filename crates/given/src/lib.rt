@@ -16,7 +16,7 @@ use mapset::Times;
 use mapset::Version;
 
 // A number that is not held becomes the largest that is, which no rule accepts.
-fn held(x: i64, high: u64) -> u64
+pub fn held(x: i64, high: u64) -> u64
     ensures { λ r. ⌜ r ≡ bounded high x ⌝ }
 {
     if kit::negative(x) {

@@ -1,7 +1,8 @@
-// The public functions: reading, writing, asking, delays and joining; and an epoch moved, for other languages. Each answers on every input, and asks nothing of its caller.
+// The public functions: reading, writing, asking, delays, joining and the week; and an epoch moved, for other languages. Each answers on every input, and asks nothing of its caller.
 pub mod asking;
 pub mod delays;
 pub mod joiner;
 mod moving;
 pub mod reader;
+pub mod weekly;
 pub mod writing;

@@ -94,6 +94,10 @@ small-thousandths v k i =
     let n : ¬ (power-of k ≡ 0) = λ e. no-power k e (i .exponent) in
     rw (← powers k n .1) (power-size v k (i .number))
 
+pub small-plain : (v k : ℤ) → Small (plain v k)
+unfolding plain
+small-plain v k = pick-elim Small (is-value? v k) (small-thousandths v k) (λ n. tt)
+
 small-worth : (kind : Kind) (mark : ℕ) (v k : ℤ) → Small (worth kind mark v k)
 unfolding worth
 small-worth kind mark v k = pick-elim Small (×-dec (present? kind mark) (is-value? v k)) (λ h. small-thousandths v k (h .1)) (λ n. tt)

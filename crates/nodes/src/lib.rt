@@ -51,7 +51,7 @@ fn power(k: i32) -> i32
     }
 }
 
-fn node_of(kind: u64, v: i32, k: i32) -> Node
+pub fn node_of(kind: u64, v: i32, k: i32) -> Node
     ensures { λ r. ⌜ r ≡ in-node (kind-of kind) (plain v k) ⌝ }
 {
     let p = power(k);
@@ -74,7 +74,7 @@ fn node_of(kind: u64, v: i32, k: i32) -> Node
 }
 
 // Whether a map's mark says that the kind's map is there.
-fn is_present(kind: u64, mark: u8) -> bool
+pub fn is_present(kind: u64, mark: u8) -> bool
     ensures { λ r. ⌜ r ≡ truth (present? (kind-of kind) mark) ⌝ }
 {
     if kind == 0 {

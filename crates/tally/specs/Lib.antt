@@ -1,0 +1,6 @@
+-- The figures of nodes.
+pub mod Gathered
+pub mod Extremes
+pub mod Figures
+pub mod FigureLaws
+pub mod Rows

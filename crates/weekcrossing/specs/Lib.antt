@@ -1,0 +1,4 @@
+-- A week as it crosses to other languages.
+pub mod WeekNumbers
+pub mod WeekExported
+pub mod Back
