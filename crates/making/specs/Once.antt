@@ -19,7 +19,7 @@ use Rattle.needs.specs.Needs.{first-short}
 use Rattle.outcome.specs.Outcome.{accepted, outcome-of, outcome, told}
 use Rattle.outcome.specs.declared.Reading.the-variants.{Accepted}
 use Rattle.outcome.specs.declared.ReadOut.{ReadOut}
-use Rattle.input.specs.Once.{told-once}
+use Rattle.outcome.specs.Once.{told-once}
 use Rattle.index.specs.Index.{Entries, index, Node, Inside, number-in, exponent-in, Reply, given, Replies}
 use Rattle.index.specs.Made.{entries-of, fronts}
 use Rattle.index.proofs.Once.{reply-once}
