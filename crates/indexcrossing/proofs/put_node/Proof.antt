@@ -27,7 +27,7 @@ same-length : tie.Need-same-length
 same-length c = search needs
 
 returns : tie.Need-returns
-returns c = 
+returns c =
     let r = c .before .before .before .before in
     let z = r .reply .given .0 .0 in
     let e = r .reply .given .0 .1 .0 in
