@@ -81,11 +81,15 @@ enum ionex_answer {
     /* Adding to a week. */
     IONEX_FULL_WEEK = 60,     /* the week has IONEX_WEEK_SETS map sets already */
 
+    /* One node by an index. */
+    IONEX_ASTRAY = 50, /* the entry does not point at a block of that row and layer, its exponent is outside -3 to 0, or the
+                        * block's lines are cut or ill-formed */
+
     /* A small area of the call's own is too short. Told first, in this order, before anything else is looked at,
      * and then nothing is written. */
     IONEX_SHORT_HEADER = 101, /* fewer than IONEX_HEADER numbers of header */
     IONEX_SHORT_TEXTS = 102,  /* fewer than IONEX_TEXTS bytes of texts */
-    IONEX_SHORT_RESULT = 103  /* no room for place, needs, count, value, record, moved or week */
+    IONEX_SHORT_RESULT = 103  /* no room for place, needs, count, value, bounds, record, moved or week */
 };
 
 /*
@@ -410,6 +414,67 @@ uint64_t ionex_week_add(int64_t *week, size_t week_len,           /* IONEX_WEEK 
  */
 uint64_t ionex_moved(uint64_t epoch, int64_t by,
                      uint64_t *moved, size_t moved_len); /* 1 number, else 103 */
+
+/*
+ * THE INDEX of a text, for who has the text and no room for areas: header and texts, and three areas.
+ *
+ *   area        element   needs    holds
+ *   positions   uint64_t  3*n*L*R  where each block opens, in bytes from the text's start, in the order of the exponents
+ *   exponents   int32_t   3*n*L*R  the exponent of each block
+ *   marks       uint8_t   n        as in a map set
+ *
+ * A missing RMS or height map has position 0 and exponent -1.
+ */
+
+/*
+ * Makes the index of a text.
+ *
+ *   0         the index stands in front of the three areas, of header and of texts; place is as found.
+ *   1 to 10   the text is refused, as ionex_read refuses it; place says where.
+ *   11        an area is too short; place is the area (1 positions, 2 exponents, 3 marks) and the elements it needs.
+ *
+ * After a refusal header, texts and the three areas are as they were found.
+ */
+uint64_t ionex_index(const uint8_t *text, size_t text_len,
+                     uint64_t *positions, size_t positions_len,
+                     int32_t *exponents, size_t exponents_len,
+                     uint8_t *marks, size_t marks_len,
+                     int64_t *header, size_t header_len, /* IONEX_HEADER numbers, else 101 */
+                     uint8_t *texts, size_t texts_len,   /* IONEX_TEXTS bytes, else 102 */
+                     uint64_t *place, size_t place_len); /* 2 numbers, else 103 */
+
+/*
+ * Answers for one node from a text and an index, which may be of another text, or noise: nothing is trusted, and the block
+ * that the entry points at is looked at whole. An index of another file whose block of that row stands at the very
+ * same bytes cannot be told from the right one.
+ *
+ *   map   counted from 1; layer, row and column from 0
+ *
+ *   0                    value[0] is the number as written, IONEX_ABSENT included, value[1] its exponent.
+ *   23, 31, 21, 22, 50   refused, told in this order; value is as found. 31 looks at header, texts, lengths and marks; 22 is
+ *                        for a map that is marked missing.
+ */
+uint64_t ionex_indexed_node(const uint8_t *text, size_t text_len,
+                            const int64_t *header, size_t header_len, /* IONEX_HEADER numbers, else 101 */
+                            const uint8_t *texts, size_t texts_len,   /* IONEX_TEXTS bytes, else 102 */
+                            const uint64_t *positions, size_t positions_len,
+                            const int32_t *exponents, size_t exponents_len,
+                            const uint8_t *marks, size_t marks_len,
+                            uint64_t kind, uint64_t map, uint64_t layer, uint64_t row, uint64_t column,
+                            int32_t *value, size_t value_len); /* 2 numbers, else 103 */
+
+/*
+ * The lines of that node's block, from its opening to its last value line, without the last line's end: bounds[0] is where
+ * they start in the text, bounds[1] how many bytes they have. Refused as ionex_indexed_node; bounds is then as found.
+ */
+uint64_t ionex_indexed_block(const uint8_t *text, size_t text_len,
+                             const int64_t *header, size_t header_len, /* IONEX_HEADER numbers, else 101 */
+                             const uint8_t *texts, size_t texts_len,   /* IONEX_TEXTS bytes, else 102 */
+                             const uint64_t *positions, size_t positions_len,
+                             const int32_t *exponents, size_t exponents_len,
+                             const uint8_t *marks, size_t marks_len,
+                             uint64_t kind, uint64_t map, uint64_t layer, uint64_t row, uint64_t column,
+                             uint64_t *bounds, size_t bounds_len); /* 2 numbers, else 103 */
 
 #ifdef __cplusplus
 }

@@ -2,8 +2,8 @@
  * after another from standard input and answers each on standard output. src/bridge.rs is the other end.
  *
  * A call is a struct call, then its areas. What goes back is the function's answer, then the areas that were lent, as
- * the call left them. -D READ, NEEDS, WRITE, ASK, TECU_DELAY, DELAY, MOVED, JOIN or WEEK_ADD: the archive has this
- * function. */
+ * the call left them. -D READ, NEEDS, WRITE, ASK, TECU_DELAY, DELAY, MOVED, JOIN, WEEK_ADD, INDEX, INDEXED_NODE or
+ * INDEXED_BLOCK: the archive has this function. */
 #include "ionex.h"
 #include <stdio.h>
 #include <stdlib.h>
@@ -21,7 +21,10 @@ enum function {
     FUNCTION_TECU_DELAY,
     FUNCTION_DELAY,
     FUNCTION_JOIN,
-    FUNCTION_WEEK_ADD
+    FUNCTION_WEEK_ADD,
+    FUNCTION_INDEX,
+    FUNCTION_INDEXED_NODE,
+    FUNCTION_INDEXED_BLOCK
 };
 
 struct area {
@@ -36,10 +39,11 @@ struct call {
     struct area area[AREAS];  /* of no bytes where a function has fewer */
 };
 
-/* The k-th number; the k-th area as two arguments, and the first eight areas. */
+/* The k-th number; the k-th area as two arguments, and the first six or eight areas. */
 #define N(k) call->number[k]
 #define AREA(k) at[k], call->area[k].length
-#define EIGHT AREA(0), AREA(1), AREA(2), AREA(3), AREA(4), AREA(5), AREA(6), AREA(7)
+#define SIX AREA(0), AREA(1), AREA(2), AREA(3), AREA(4), AREA(5)
+#define EIGHT SIX, AREA(6), AREA(7)
 #define NEXT_EIGHT AREA(8), AREA(9), AREA(10), AREA(11), AREA(12), AREA(13), AREA(14), AREA(15)
 #define LAST_NINE AREA(16), AREA(17), AREA(18), AREA(19), AREA(20), AREA(21), AREA(22), AREA(23), AREA(24)
 
@@ -89,6 +93,18 @@ static uint64_t answer(const struct call *call, void *const *at)
 #ifdef WEEK_ADD
     case FUNCTION_WEEK_ADD:
         return ionex_week_add(AREA(8), EIGHT, AREA(9), AREA(10));
+#endif
+#ifdef INDEX
+    case FUNCTION_INDEX:
+        return ionex_index(AREA(0), AREA(1), AREA(2), AREA(3), AREA(4), AREA(5), AREA(6));
+#endif
+#ifdef INDEXED_NODE
+    case FUNCTION_INDEXED_NODE:
+        return ionex_indexed_node(SIX, N(0), N(1), N(2), N(3), N(4), AREA(6));
+#endif
+#ifdef INDEXED_BLOCK
+    case FUNCTION_INDEXED_BLOCK:
+        return ionex_indexed_block(SIX, N(0), N(1), N(2), N(3), N(4), AREA(6));
 #endif
     default:
         fprintf(stderr, "bridge: no function %d\n", (int)call->function);

@@ -5,7 +5,7 @@ use std::env;
 use std::path::{Path, PathBuf};
 use std::process::Command;
 
-const FUNCTIONS: [&str; 9] = [
+const FUNCTIONS: [&str; 12] = [
     "READ",
     "NEEDS",
     "ASK",
@@ -15,6 +15,9 @@ const FUNCTIONS: [&str; 9] = [
     "JOIN",
     "WRITE",
     "WEEK_ADD",
+    "INDEX",
+    "INDEXED_NODE",
+    "INDEXED_BLOCK",
 ];
 
 fn main() {

@@ -134,6 +134,22 @@ int main(int argc, char **argv)
     week[0] = 100;
     must(ionex_week_add(AREA(week), SET, AREA(rows), AREA(place)) == 60 && week[0] == 100, "a full week");
 
+    uint64_t positions[12], bounds[2];
+    int32_t found[2];
+    must(ionex_index(text, length, positions, 11, AREA(exponents), AREA(marks), AREA(header), AREA(texts), AREA(place)) ==
+         IONEX_SHORT_AREA && place[0] == 1 && place[1] == 12, "a short index");
+    must(ionex_index(text, length, AREA(positions), AREA(exponents), AREA(marks), AREA(header), AREA(texts),
+                     AREA(place)) == IONEX_DONE && positions[4] == 0 && exponents[4] == -1, "an index");
+#define INDEX text, length, AREA(header), AREA(texts), AREA(positions), AREA(exponents), AREA(marks)
+    must(ionex_indexed_node(INDEX, IONEX_KIND_TEC, 2, 0, 0, 1, AREA(found)) == IONEX_DONE && found[0] == 99999 &&
+         found[1] == -1, "a node by the index");
+    must(ionex_indexed_node(INDEX, IONEX_KIND_RMS, 1, 0, 0, 1, AREA(found)) == IONEX_NO_VALUE, "a node of no map");
+    must(ionex_indexed_block(INDEX, IONEX_KIND_TEC, 2, 0, 0, 1, AREA(bounds)) == IONEX_DONE &&
+         bounds[0] == positions[2] && memcmp(text + bounds[0] + 60, "LAT/LON1", 8) == 0, "a block");
+    positions[2]++;
+    must(ionex_indexed_block(INDEX, IONEX_KIND_TEC, 2, 0, 0, 1, AREA(bounds)) == 50 && bounds[0] + 1 == positions[2],
+         "an index that is wrong");
+
     uint64_t moved[1] = {9};
     must(ionex_moved(IONEX_UNIX_ZERO, 315964800, AREA(moved)) == IONEX_DONE && moved[0] == IONEX_GPS_ZERO, "GPS zero");
     must(ionex_moved(epochs[0], 1, AREA(moved)) == IONEX_DONE && moved[0] == epochs[1], "an epoch moved");

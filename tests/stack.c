@@ -1,5 +1,5 @@
 /* How much stack the calls take, against what include/ionex.h says: each is run on a stack that was painted before. Given
- * texts; those that are accepted are written and asked too. */
+ * texts; those that are accepted are given to the other calls too. */
 #define _GNU_SOURCE
 #include "ionex.h"
 #include <stdio.h>
@@ -11,10 +11,12 @@
 #define SET AREA(header), AREA(texts), AREA(tec), AREA(rms), AREA(height), AREA(exponents), AREA(epochs), AREA(marks)
 #define PAINT 0xA5
 
-static int32_t tec[2000000], rms[2000000], height[2000000], exponents[6000000], value[1];
-static uint64_t epochs[300], place[2], needs[IONEX_NEEDS], count[1], moved[1], method;
-static uint8_t text[1 << 24], out[1 << 24], marks[300], texts[IONEX_TEXTS];
-static int64_t header[IONEX_HEADER];
+static int32_t tec[2000000], rms[2000000], height[2000000], exponents[6000000], value[2];
+static int32_t tec2[2000000], rms2[2000000], height2[2000000], exponents2[6000000];
+static uint64_t epochs[300], epochs2[300], place[2], needs[IONEX_NEEDS], count[1], moved[1], positions[6000000], method;
+static uint8_t text[1 << 24], out[1 << 24], marks[300], marks2[300], texts[IONEX_TEXTS], texts2[IONEX_TEXTS];
+static int64_t header[IONEX_HEADER], header2[IONEX_HEADER], week[IONEX_WEEK], figures[15 * 301];
+static double record[IONEX_RECORD];
 static size_t length;
 static uint64_t answer;
 
@@ -36,6 +38,37 @@ static void asking(void)
     int32_t lat = (int32_t)(10 * header[IONEX_LAT1] + 3 * header[IONEX_DLAT]);
     int32_t lon = (int32_t)(10 * header[IONEX_LON1] + 3 * header[IONEX_DLON]);
     ionex_ask(SET, IONEX_KIND_TEC, method, 0, lat, lon, epochs[0] + 1, AREA(value));
+}
+
+static void delaying(void)
+{
+    int32_t lat = (int32_t)(10 * header[IONEX_LAT1]);
+    int32_t lon = (int32_t)(10 * header[IONEX_LON1]);
+    ionex_delay(SET, IONEX_KIND_TEC, method, 0, lat, lon, epochs[0], 1.5e9, AREA(record));
+}
+
+/* With itself: a set of one map meets itself. */
+static void joining(void)
+{
+    ionex_join(SET, SET, AREA(tec2), AREA(rms2), AREA(height2), AREA(exponents2), AREA(epochs2), AREA(marks2),
+               AREA(header2), AREA(texts2), AREA(place));
+}
+
+static void adding(void)
+{
+    memset(week, 0, sizeof week);
+    ionex_week_add(AREA(week), SET, AREA(figures), AREA(place));
+}
+
+static void indexing(void)
+{
+    ionex_index(text, length, AREA(positions), AREA(exponents2), AREA(marks2), AREA(header2), AREA(texts2), AREA(place));
+}
+
+static void pointing(void)
+{
+    ionex_indexed_node(text, length, AREA(header2), AREA(texts2), AREA(positions), AREA(exponents2), AREA(marks2),
+                       IONEX_KIND_TEC, 1, 0, 0, 0, AREA(value));
 }
 
 static void moving(void) { ionex_moved(epochs[0], 1, AREA(moved)); }
@@ -73,7 +106,7 @@ static void judge(const char *name, void (*call)(void), size_t allowed, size_t *
 
 int main(int argc, char **argv)
 {
-    size_t most[5] = {0};
+    size_t most[10] = {0};
     int accepted = 0;
     /* Found by the loader at their first call, which takes stack of its own. */
     memcpy(out, text, (size_t)argc);
@@ -88,11 +121,18 @@ int main(int argc, char **argv)
             continue;
         accepted++;
         judge("writing", writing, 4096, &most[1]);
-        for (method = 0; method <= 4; method++)
+        for (method = 0; method <= 4; method++) {
             judge("asking", asking, 4096, &most[2]);
+            judge("delay", delaying, 4096, &most[5]);
+        }
         judge("moving", moving, 4096, &most[3]);
+        judge("joining", joining, 4096, &most[6]);
+        judge("the week", adding, 4096, &most[7]);
+        judge("the index", indexing, 16384, &most[8]);
+        judge("a node", pointing, 4096, &most[9]);
     }
-    printf("needs %zu, reading %zu, writing %zu, asking %zu, moving %zu bytes of stack at most\n", most[4], most[0], most[1],
-           most[2], most[3]);
+    printf("needs %zu, reading %zu, writing %zu, asking %zu, moving %zu, delay %zu, joining %zu, the week %zu, the index %zu, "
+           "a node %zu bytes of stack at most\n",
+           most[4], most[0], most[1], most[2], most[3], most[5], most[6], most[7], most[8], most[9]);
     return wrong || !accepted;
 }

@@ -120,15 +120,18 @@ impl Args {
 
     /// The value of an option that is a number, counted from `first`.
     pub fn number(&self, option: &str, first: u64) -> Result<Option<u64>, Stop> {
-        let Some(word) = self.word(option) else {
-            return Ok(None);
-        };
-        match word.parse() {
-            Ok(number) if number >= first && !word.starts_with('+') => Ok(Some(number)),
-            _ => usage(format!(
-                "{option} {word}: expected a whole number from {first} on"
-            )),
-        }
+        let word = self.word(option);
+        word.map(|word| whole(option, &word, first)).transpose()
+    }
+}
+
+/// A word that is a whole number from `first` on.
+pub fn whole(name: &str, word: &str, first: u64) -> Result<u64, Stop> {
+    match word.parse() {
+        Ok(number) if number >= first && !word.starts_with('+') => Ok(number),
+        _ => usage(format!(
+            "{name} {word}: expected a whole number from {first} on"
+        )),
     }
 }
 

@@ -51,6 +51,11 @@ fn all(mut source: impl Read, size: u64) -> io::Result<Vec<u8>> {
     Ok(text)
 }
 
+/// Whether two names lead to the same file.
+pub fn same(one: &OsStr, other: &OsStr) -> bool {
+    matches!((fs::canonicalize(one), fs::canonicalize(other)), (Ok(one), Ok(other)) if one == other)
+}
+
 /// Writes a file whole, or leaves it as it was.
 pub fn replace(file: &OsStr, content: &[u8]) -> Result<(), Stop> {
     let told = |fault: io::Error| {

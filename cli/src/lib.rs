@@ -4,8 +4,10 @@
 
 mod args;
 pub mod commands;
+mod crc;
 pub mod explain;
 mod files;
+mod index_file;
 mod json;
 mod numbers;
 mod output;

@@ -48,13 +48,9 @@ impl Question {
             .raw("lat", lat)
             .raw("lon", lon)
             .text("time", &time.to_string())
-            .text("kind", self.kind_name())
+            .text("kind", kind_name(self.kind))
             .text("method", self.method_name())
             .raw("layer", self.layer)
-    }
-
-    fn kind_name(&self) -> &'static str {
-        name_of(&KINDS, self.kind)
     }
 
     pub fn method_name(&self) -> &'static str {
@@ -104,6 +100,10 @@ impl Question {
         let none = (0..maps.maps()).all(|map| !maps.has(self.kind, map));
         none.then(|| format!("the file has no {} map", self.kind))
     }
+}
+
+pub fn kind_name(kind: Kind) -> &'static str {
+    name_of(&KINDS, kind)
 }
 
 fn name_of<T: PartialEq>(names: &[(&'static str, T)], wanted: T) -> &'static str {

@@ -93,6 +93,42 @@ fn not_understood() {
             &["delay", "x", "--carrier", "L1", "--kind", "height"],
             "delay: --kind height: expected one of tec, rms; see ionex delay --help",
         ),
+        (&["index", "x"], "index: no -o OUT is given; see ionex index --help"),
+        (&["index", "-o", "x"], "index: no FILE is given; see ionex index --help"),
+        (&["index", "x", "y", "-o", "z"], "index: more than one FILE is given; see ionex index --help"),
+        (&["node"], "node: no FILE is given; see ionex node --help"),
+        (
+            &["node", "x"],
+            "node: expected FILE.index FILE KIND MAP LAYER ROW COLUMN; see ionex node --help",
+        ),
+        (
+            &["node", "x", "y", "tec", "1", "0", "0"],
+            "node: expected FILE.index FILE KIND MAP LAYER ROW COLUMN; see ionex node --help",
+        ),
+        (
+            &["node", "x", "y", "tec", "1", "0", "0", "0", "0"],
+            "node: expected FILE.index FILE KIND MAP LAYER ROW COLUMN; see ionex node --help",
+        ),
+        (
+            &["node", "-", "-", "tec", "1", "0", "0", "0"],
+            "node: standard input can be read once only; see ionex node --help",
+        ),
+        (
+            &["node", "x", "y", "tek", "1", "0", "0", "0"],
+            "node: KIND tek: expected one of tec, rms, height; see ionex node --help",
+        ),
+        (
+            &["node", "x", "y", "tec", "one", "0", "0", "0"],
+            "node: MAP one: expected a whole number from 0 on; see ionex node --help",
+        ),
+        (
+            &["node", "x", "y", "tec", "1", "0", "+1", "0"],
+            "node: ROW +1: expected a whole number from 0 on; see ionex node --help",
+        ),
+        (
+            &["node", "x", "y", "tec", "1", "0", "0", "18446744073709551616"],
+            "node: COLUMN 18446744073709551616: expected a whole number from 0 on; see ionex node --help",
+        ),
         (&["plot", "x"], "plot: no -o OUT.svg or OUT.png is given; see ionex plot --help"),
         (
             &["plot", "x", "--map", "0", "-o", "a.svg"],

@@ -234,3 +234,102 @@ pub fn week_add(week: &mut [i64], given: Given, rows: &mut [i64], place: &mut [u
         )
     }
 }
+
+/// An index to be filled: its three areas, the header's numbers and its texts.
+pub struct LentIndex<'a> {
+    pub positions: &'a mut [u64],
+    pub exponents: &'a mut [i32],
+    pub marks: &'a mut [u8],
+    pub header: &'a mut [i64],
+    pub texts: &'a mut [u8],
+}
+
+/// An index as it is given to a call.
+#[derive(Clone, Copy)]
+pub struct GivenIndex<'a> {
+    pub header: &'a [i64],
+    pub texts: &'a [u8],
+    pub positions: &'a [u64],
+    pub exponents: &'a [i32],
+    pub marks: &'a [u8],
+}
+
+/// A node as it is given to a call.
+#[derive(Clone, Copy)]
+pub struct Node {
+    pub kind: u64,
+    pub map: u64,
+    pub layer: u64,
+    pub row: u64,
+    pub column: u64,
+}
+
+#[rustfmt::skip]
+extern "C" {
+    fn ionex_index(
+        text: *const u8, text_len: usize,
+        positions: *mut u64, positions_len: usize, exponents: *mut i32, exponents_len: usize,
+        marks: *mut u8, marks_len: usize,
+        header: *mut i64, header_len: usize, texts: *mut u8, texts_len: usize, place: *mut u64, place_len: usize,
+    ) -> u64;
+
+    fn ionex_indexed_node(
+        text: *const u8, text_len: usize, header: *const i64, header_len: usize, texts: *const u8, texts_len: usize,
+        positions: *const u64, positions_len: usize, exponents: *const i32, exponents_len: usize,
+        marks: *const u8, marks_len: usize,
+        kind: u64, map: u64, layer: u64, row: u64, column: u64,
+        value: *mut i32, value_len: usize,
+    ) -> u64;
+
+    fn ionex_indexed_block(
+        text: *const u8, text_len: usize, header: *const i64, header_len: usize, texts: *const u8, texts_len: usize,
+        positions: *const u64, positions_len: usize, exponents: *const i32, exponents_len: usize,
+        marks: *const u8, marks_len: usize,
+        kind: u64, map: u64, layer: u64, row: u64, column: u64,
+        bounds: *mut u64, bounds_len: usize,
+    ) -> u64;
+}
+
+/// `ionex_index`.
+#[rustfmt::skip]
+pub fn index(text: &[u8], lent: LentIndex, place: &mut [u64]) -> u64 {
+    let LentIndex { positions, exponents, marks, header, texts } = lent;
+    unsafe {
+        ionex_index(
+            text.as_ptr(), text.len(),
+            positions.as_mut_ptr(), positions.len(), exponents.as_mut_ptr(), exponents.len(),
+            marks.as_mut_ptr(), marks.len(),
+            header.as_mut_ptr(), header.len(), texts.as_mut_ptr(), texts.len(), place.as_mut_ptr(), place.len(),
+        )
+    }
+}
+
+/// `ionex_indexed_node`.
+#[rustfmt::skip]
+pub fn indexed_node(text: &[u8], given: GivenIndex, node: Node, value: &mut [i32]) -> u64 {
+    let GivenIndex { header, texts, positions, exponents, marks } = given;
+    let Node { kind, map, layer, row, column } = node;
+    unsafe {
+        ionex_indexed_node(
+            text.as_ptr(), text.len(), header.as_ptr(), header.len(), texts.as_ptr(), texts.len(),
+            positions.as_ptr(), positions.len(), exponents.as_ptr(), exponents.len(), marks.as_ptr(), marks.len(),
+            kind, map, layer, row, column,
+            value.as_mut_ptr(), value.len(),
+        )
+    }
+}
+
+/// `ionex_indexed_block`.
+#[rustfmt::skip]
+pub fn indexed_block(text: &[u8], given: GivenIndex, node: Node, bounds: &mut [u64]) -> u64 {
+    let GivenIndex { header, texts, positions, exponents, marks } = given;
+    let Node { kind, map, layer, row, column } = node;
+    unsafe {
+        ionex_indexed_block(
+            text.as_ptr(), text.len(), header.as_ptr(), header.len(), texts.as_ptr(), texts.len(),
+            positions.as_ptr(), positions.len(), exponents.as_ptr(), exponents.len(), marks.as_ptr(), marks.len(),
+            kind, map, layer, row, column,
+            bounds.as_mut_ptr(), bounds.len(),
+        )
+    }
+}

@@ -5,7 +5,7 @@ use crate::ffi;
 use crate::header::{Header, HEADER, TEXTS};
 use crate::place::Place;
 use crate::refusal::Refusal;
-use crate::value::{Answer, Kind, Method};
+use crate::value::{Answer, Kind, Method, Written};
 
 /// The number that says that a node has no value.
 pub const NO_VALUE: i32 = 9999;
@@ -384,16 +384,11 @@ impl MapSet {
         row: usize,
         column: usize,
     ) -> Option<Answer> {
-        let number = self.number(kind, map, layer, row, column)?;
-        let tens = match self.exponent(kind, map, layer, row)? {
-            -3 => 1,
-            -2 => 10,
-            -1 => 100,
-            0 => 1000,
-            _ => return None,
+        let written = Written {
+            number: self.number(kind, map, layer, row, column)?,
+            exponent: self.exponent(kind, map, layer, row)?,
         };
-        let stands = number != NO_VALUE && (-9999..=99_999).contains(&number);
-        stands.then(|| kind.answer(number * tens))
+        written.value(kind)
     }
 
     /// The numbers and areas as the archive holds them.

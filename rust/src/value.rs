@@ -1,5 +1,6 @@
 //! What is asked for, and what is answered.
 
+use crate::mapset::NO_VALUE;
 use std::fmt;
 
 /// What a map shows.
@@ -87,6 +88,37 @@ impl Answer {
             Answer::Tecu(_) => "TECU",
             Answer::Km(_) => "km",
         }
+    }
+}
+
+/// A node as a text writes it: its number, which is [`NO_VALUE`] where it has none, and the exponent that its row stands
+/// under.
+#[derive(Clone, Copy, Debug, PartialEq, Eq, Hash)]
+pub struct Written {
+    pub number: i32,
+    pub exponent: i32,
+}
+
+impl Written {
+    /// The value in the unit of its kind; nothing where the node has none.
+    ///
+    /// ```
+    /// use ionex::{Kind, Written};
+    ///
+    /// let written = Written { number: -2, exponent: -2 };
+    /// assert_eq!(written.value(Kind::Tec).unwrap().to_string(), "-0.020 TECU");
+    /// assert_eq!(Written { number: 9999, ..written }.value(Kind::Tec), None);
+    /// ```
+    pub fn value(self, kind: Kind) -> Option<Answer> {
+        let tens = match self.exponent {
+            -3 => 1,
+            -2 => 10,
+            -1 => 100,
+            0 => 1000,
+            _ => return None,
+        };
+        let stands = self.number != NO_VALUE && (-9999..=99_999).contains(&self.number);
+        stands.then(|| kind.answer(self.number * tens))
     }
 }
 

@@ -13,6 +13,7 @@ pub mod delay;
 pub mod fields;
 pub mod fraction;
 pub mod header;
+pub mod index;
 pub mod join;
 pub mod labels;
 pub mod lines;

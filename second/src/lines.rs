@@ -38,6 +38,12 @@ impl<'a> Iterator for Lines<'a> {
     }
 }
 
+/// The lines, each with the place (from 0) of its first byte.
+pub fn placed(text: &[u8]) -> impl Iterator<Item = (usize, &[u8])> {
+    let behind_lf = (1..text.len()).filter(|&at| text[at - 1] == b'\n');
+    std::iter::once(0).chain(behind_lf).zip(lines(text))
+}
+
 /// The columns of a line, or nothing for a blank line. The length is looked at
 /// before the bytes (1 before 2), and both before the line counts as blank.
 pub fn card(line: &[u8]) -> Result<Option<Card>, Fault> {
@@ -71,6 +77,15 @@ mod tests {
         assert_eq!(cut(b"a\r\nb\n\n"), vec![&b"a"[..], b"b", b""]);
         assert_eq!(cut(b"a\r\r\nb"), vec![&b"a\r"[..], b"b"]);
         assert_eq!(cut(b"a\r"), vec![&b"a\r"[..]]);
+    }
+
+    #[test]
+    fn where_lines_start() {
+        let starts = |text: &'static [u8]| -> Vec<usize> { placed(text).map(|p| p.0).collect() };
+        assert_eq!(starts(b""), Vec::<usize>::new());
+        assert_eq!(starts(b"\n"), vec![0]);
+        assert_eq!(starts(b"ab\r\n\nc\n"), vec![0, 4, 5]);
+        assert_eq!(starts(b"ab\nc"), vec![0, 3]);
     }
 
     #[test]

@@ -34,12 +34,27 @@ pub fn needs(text: &[u8]) -> Result<[usize; 6], Refusal> {
     read_all(text).map(|reader| reader.grid.needs(&reader.marks))
 }
 
+/// What an index holds of a text (02, Ask 8), or why it is refused.
+pub struct Placed {
+    pub header: Header,
+    pub texts: Texts,
+    /// One for each block of each kind, as exponents stand.
+    pub positions: Vec<u64>,
+    pub exponents: Vec<i32>,
+    pub marks: Vec<u8>,
+}
+
+pub fn placed(text: &[u8]) -> Result<Placed, Refusal> {
+    read_all(text).map(Reader::placed)
+}
+
 /// "Lowest line first": one line after the other, up to the first refusal.
 fn read_all(text: &[u8]) -> Result<Reader, Refusal> {
     let mut reader = Reader::new();
     let mut line = 0;
-    for bytes in lines::lines(text) {
+    for (at, bytes) in lines::placed(text) {
         line += 1;
+        reader.at = at as u64;
         reader
             .line(bytes)
             .map_err(|Fault { number, column }| Refusal::Place {
@@ -91,6 +106,8 @@ struct Open {
 struct Store {
     values: Vec<i32>,
     exponents: Vec<i32>,
+    /// Of each block, where its opening line starts in the text.
+    positions: Vec<u64>,
     /// The number of the last map that has ended, 0 at first.
     last: i64,
 }
@@ -101,11 +118,14 @@ impl Store {
     fn fill_absent(&mut self, grid: &Grid, count: usize) {
         self.values.resize(count * grid.values(), NO_VALUE);
         self.exponents.resize(count * grid.blocks(), FIRST_EXPONENT);
+        self.positions.resize(count * grid.blocks(), 0);
     }
 }
 
 struct Reader {
     stage: Stage,
+    /// Where the line starts in the text.
+    at: u64,
     header: Header,
     texts: Texts,
     /// Which header records stood, by label.
@@ -140,6 +160,7 @@ impl Reader {
     fn new() -> Reader {
         Reader {
             stage: Stage::Start,
+            at: 0,
             header: Header::default(),
             texts: Texts::default(),
             stood: [false; LABELS],
@@ -465,25 +486,12 @@ impl Reader {
         let Some(open) = &mut self.open else {
             return fault(5, 61);
         };
-        let layer = (open.blocks / self.grid.rows) as i64;
-        let row = (open.blocks % self.grid.rows) as i64;
-        let header = &self.header;
-        let latitude = header.latitudes.first + row * header.latitudes.step;
-        let height = header.heights.first + layer * header.heights.step;
-        let longitudes = header.longitudes;
-        let fits = [
-            found[0] == latitude,
-            found[1] == longitudes.first,
-            found[2] == longitudes.last,
-            found[3] == longitudes.step,
-            found[4] == height || header.dimension == 2,
-        ];
-        if let Some(wrong) = fits.iter().position(|fits| !fits) {
+        if let Some(wrong) = other_block(&self.header, &self.grid, open.blocks, found) {
             return fault(8, labels::number_column(Label::Block, wrong));
         }
-        self.stores[open.kind as usize]
-            .exponents
-            .push(self.exponent);
+        let store = &mut self.stores[open.kind as usize];
+        store.exponents.push(self.exponent);
+        store.positions.push(self.at);
         open.blocks += 1;
         open.due = self.grid.columns;
         Ok(())
@@ -499,19 +507,9 @@ impl Reader {
         let Some(open) = &mut self.open else {
             return Ok(());
         };
-        let count = open.due.min(16);
-        let values = &mut self.stores[open.kind as usize].values;
-        for field in 0..count {
-            let start = 5 * field;
-            match fields::integer(&card[start..start + 5]) {
-                Some(value) => values.push(value as i32),
-                None => return fault(6, start as u64 + 1),
-            }
-        }
-        if let Err(column) = labels::blank(card, 5 * count, 80) {
-            return fault(6, column);
-        }
-        open.due -= count;
+        let found = values(card, open.due)?;
+        open.due -= found.len();
+        self.stores[open.kind as usize].values.extend(found);
         Ok(())
     }
 
@@ -543,6 +541,22 @@ impl Reader {
 
     // ---- the end ----
 
+    fn placed(mut self) -> Placed {
+        let mut placed = Placed {
+            header: self.header,
+            texts: self.texts,
+            positions: Vec::new(),
+            exponents: Vec::new(),
+            marks: self.marks,
+        };
+        for store in &mut self.stores {
+            store.fill_absent(&self.grid, self.grid.maps);
+            placed.positions.append(&mut store.positions);
+            placed.exponents.append(&mut store.exponents);
+        }
+        placed
+    }
+
     /// Looks at the areas' lengths, then copies everything out.
     fn hand_over(mut self, areas: &mut Areas) -> Result<(Header, Texts), Refusal> {
         let needs = self.grid.needs(&self.marks);
@@ -573,8 +587,43 @@ impl Reader {
     }
 }
 
+/// The first number of a block's opening that is not the grid's, for the block of
+/// a place (from 0) in its map.
+pub fn other_block(header: &Header, grid: &Grid, block: usize, found: [i64; 6]) -> Option<usize> {
+    let layer = (block / grid.rows) as i64;
+    let row = (block % grid.rows) as i64;
+    let latitude = header.latitudes.first + row * header.latitudes.step;
+    let height = header.heights.first + layer * header.heights.step;
+    let longitudes = header.longitudes;
+    let fits = [
+        found[0] == latitude,
+        found[1] == longitudes.first,
+        found[2] == longitudes.last,
+        found[3] == longitudes.step,
+        found[4] == height || header.dimension == 2,
+    ];
+    fits.iter().position(|fits| !fits)
+}
+
+/// The values of a line where so many are due, or refusal 6.
+pub fn values(card: &Card, due: usize) -> Result<Vec<i32>, Fault> {
+    let count = due.min(16);
+    let mut values = Vec::with_capacity(count);
+    for field in 0..count {
+        let start = 5 * field;
+        match fields::integer(&card[start..start + 5]) {
+            Some(value) => values.push(value as i32),
+            None => return fault(6, start as u64 + 1),
+        }
+    }
+    match labels::blank(card, 5 * count, 80) {
+        Ok(()) => Ok(values),
+        Err(column) => fault(6, column),
+    }
+}
+
 /// Fills the front of an area; the rest stays.
-fn copy<T: Copy>(area: &mut [T], from: &[T]) {
+pub fn copy<T: Copy>(area: &mut [T], from: &[T]) {
     area[..from.len()].copy_from_slice(from);
 }
 

@@ -7,7 +7,7 @@ pub use crate::bridge::Archive;
 pub use crate::c::Archive;
 
 /// Each function of the boundary, and whether it comes from the archive.
-pub const FUNCTIONS: [(&str, bool); 9] = [
+pub const FUNCTIONS: [(&str, bool); 12] = [
     ("ionex_read", cfg!(feature = "read")),
     ("ionex_needs", cfg!(feature = "needs")),
     ("ionex_ask", cfg!(feature = "ask")),
@@ -17,4 +17,7 @@ pub const FUNCTIONS: [(&str, bool); 9] = [
     ("ionex_join", cfg!(feature = "join")),
     ("ionex_write", cfg!(feature = "write")),
     ("ionex_week_add", cfg!(feature = "week_add")),
+    ("ionex_index", cfg!(feature = "index")),
+    ("ionex_indexed_node", cfg!(feature = "indexed_node")),
+    ("ionex_indexed_block", cfg!(feature = "indexed_block")),
 ];

@@ -2,8 +2,10 @@
 //! and the archive, makes the calls. A function that is not linked (see Cargo.toml) is answered by the second program.
 
 use crate::boundary::{Asked, Boundary, Given, Lent, Plain};
+use crate::indexes::{Indexes, Kept};
 use crate::program;
 use crate::weeks::Weeks;
+use second::index::Node;
 use std::cell::RefCell;
 use std::io::{self, Read, Write};
 use std::path::Path;
@@ -19,6 +21,9 @@ const TECU_DELAY: u64 = 5;
 const DELAY: u64 = 6;
 const JOIN: u64 = 7;
 const WEEK_ADD: u64 = 8;
+const INDEX: u64 = 9;
+const INDEXED_NODE: u64 = 10;
+const INDEXED_BLOCK: u64 = 11;
 const NUMBERS: usize = 7;
 const AREAS: usize = 25;
 
@@ -134,6 +139,49 @@ impl Weeks for Archive {
     }
 }
 
+impl Indexes for Archive {
+    fn index(&self, text: &[u8], lent: &mut Kept, place: &mut [u64]) -> u64 {
+        if !cfg!(feature = "index") {
+            return Plain.index(text, lent, place);
+        }
+        let mut call = Call::new(INDEX, &[]);
+        call.give(text);
+        call.lend(&mut lent.positions);
+        call.lend(&mut lent.exponents);
+        call.lend(&mut lent.marks);
+        call.lend(&mut lent.header);
+        call.lend(&mut lent.texts);
+        call.lend(place);
+        call.answer()
+    }
+
+    fn indexed_node(&self, text: &[u8], kept: &Kept, node: &Node, found: &mut [i32]) -> u64 {
+        if !cfg!(feature = "indexed_node") {
+            return Plain.indexed_node(text, kept, node, found);
+        }
+        let mut call = Call::new(INDEXED_NODE, &place_of(node));
+        call.give(text);
+        call.give_index(kept);
+        call.lend(found);
+        call.answer()
+    }
+
+    fn indexed_block(&self, text: &[u8], kept: &Kept, node: &Node, bounds: &mut [u64]) -> u64 {
+        if !cfg!(feature = "indexed_block") {
+            return Plain.indexed_block(text, kept, node, bounds);
+        }
+        let mut call = Call::new(INDEXED_BLOCK, &place_of(node));
+        call.give(text);
+        call.give_index(kept);
+        call.lend(bounds);
+        call.answer()
+    }
+}
+
+fn place_of(node: &Node) -> [u64; 5] {
+    [node.kind, node.map, node.layer, node.row, node.column]
+}
+
 fn numbers_of(asked: &Asked) -> [u64; 6] {
     let Asked {
         kind,
@@ -223,6 +271,14 @@ impl<'a> Call<'a> {
         self.give(&given.areas.exponents);
         self.give(&given.areas.epochs);
         self.give(&given.areas.marks);
+    }
+
+    fn give_index(&mut self, kept: &Kept) {
+        self.give(&kept.header);
+        self.give(&kept.texts);
+        self.give(&kept.positions);
+        self.give(&kept.exponents);
+        self.give(&kept.marks);
     }
 
     fn lend<T: Number>(&mut self, area: &'a mut [T]) {

@@ -2,7 +2,9 @@
 //! answered by the second program.
 
 use crate::boundary::{Asked, Boundary, Given, Lent};
+use crate::indexes::{Indexes, Kept};
 use crate::weeks::Weeks;
+use second::index::Node;
 
 // The library, as include/ionex.h declares it.
 #[rustfmt::skip]
@@ -80,6 +82,34 @@ extern "C" {
         exponents: *const i32, exponents_len: usize, epochs: *const u64, epochs_len: usize,
         marks: *const u8, marks_len: usize,
         rows: *mut i64, rows_len: usize, place: *mut u64, place_len: usize,
+    ) -> u64;
+
+    #[cfg(feature = "index")]
+    fn ionex_index(
+        text: *const u8, text_len: usize,
+        positions: *mut u64, positions_len: usize, exponents: *mut i32, exponents_len: usize,
+        marks: *mut u8, marks_len: usize,
+        header: *mut i64, header_len: usize, texts: *mut u8, texts_len: usize, place: *mut u64, place_len: usize,
+    ) -> u64;
+
+    #[cfg(feature = "indexed_node")]
+    fn ionex_indexed_node(
+        text: *const u8, text_len: usize,
+        header: *const i64, header_len: usize, texts: *const u8, texts_len: usize,
+        positions: *const u64, positions_len: usize, exponents: *const i32, exponents_len: usize,
+        marks: *const u8, marks_len: usize,
+        kind: u64, map: u64, layer: u64, row: u64, column: u64,
+        found: *mut i32, found_len: usize,
+    ) -> u64;
+
+    #[cfg(feature = "indexed_block")]
+    fn ionex_indexed_block(
+        text: *const u8, text_len: usize,
+        header: *const i64, header_len: usize, texts: *const u8, texts_len: usize,
+        positions: *const u64, positions_len: usize, exponents: *const i32, exponents_len: usize,
+        marks: *const u8, marks_len: usize,
+        kind: u64, map: u64, layer: u64, row: u64, column: u64,
+        bounds: *mut u64, bounds_len: usize,
     ) -> u64;
 }
 
@@ -251,5 +281,62 @@ impl Weeks for Archive {
     #[cfg(not(feature = "week_add"))]
     fn week_add(&self, week: &mut [i64], given: &Given, rows: &mut [i64], place: &mut [u64]) -> u64 {
         crate::boundary::Plain.week_add(week, given, rows, place)
+    }
+}
+
+#[rustfmt::skip]
+impl Indexes for Archive {
+    #[cfg(feature = "index")]
+    fn index(&self, text: &[u8], lent: &mut Kept, place: &mut [u64]) -> u64 {
+        let Kept { header, texts, positions, exponents, marks } = lent;
+        unsafe {
+            ionex_index(
+                text.as_ptr(), text.len(),
+                positions.as_mut_ptr(), positions.len(), exponents.as_mut_ptr(), exponents.len(),
+                marks.as_mut_ptr(), marks.len(),
+                header.as_mut_ptr(), header.len(), texts.as_mut_ptr(), texts.len(), place.as_mut_ptr(), place.len(),
+            )
+        }
+    }
+
+    #[cfg(feature = "indexed_node")]
+    fn indexed_node(&self, text: &[u8], kept: &Kept, node: &Node, found: &mut [i32]) -> u64 {
+        let Kept { header, texts, positions, exponents, marks } = kept;
+        unsafe {
+            ionex_indexed_node(
+                text.as_ptr(), text.len(), header.as_ptr(), header.len(), texts.as_ptr(), texts.len(),
+                positions.as_ptr(), positions.len(), exponents.as_ptr(), exponents.len(), marks.as_ptr(), marks.len(),
+                node.kind, node.map, node.layer, node.row, node.column,
+                found.as_mut_ptr(), found.len(),
+            )
+        }
+    }
+
+    #[cfg(feature = "indexed_block")]
+    fn indexed_block(&self, text: &[u8], kept: &Kept, node: &Node, bounds: &mut [u64]) -> u64 {
+        let Kept { header, texts, positions, exponents, marks } = kept;
+        unsafe {
+            ionex_indexed_block(
+                text.as_ptr(), text.len(), header.as_ptr(), header.len(), texts.as_ptr(), texts.len(),
+                positions.as_ptr(), positions.len(), exponents.as_ptr(), exponents.len(), marks.as_ptr(), marks.len(),
+                node.kind, node.map, node.layer, node.row, node.column,
+                bounds.as_mut_ptr(), bounds.len(),
+            )
+        }
+    }
+
+    #[cfg(not(feature = "index"))]
+    fn index(&self, text: &[u8], lent: &mut Kept, place: &mut [u64]) -> u64 {
+        crate::boundary::Plain.index(text, lent, place)
+    }
+
+    #[cfg(not(feature = "indexed_node"))]
+    fn indexed_node(&self, text: &[u8], kept: &Kept, node: &Node, found: &mut [i32]) -> u64 {
+        crate::boundary::Plain.indexed_node(text, kept, node, found)
+    }
+
+    #[cfg(not(feature = "indexed_block"))]
+    fn indexed_block(&self, text: &[u8], kept: &Kept, node: &Node, bounds: &mut [u64]) -> u64 {
+        crate::boundary::Plain.indexed_block(text, kept, node, bounds)
     }
 }

@@ -15,6 +15,7 @@ pub mod damage;
 pub mod delays;
 pub mod faults;
 pub mod gen;
+pub mod indexes;
 pub mod jobs;
 pub mod joins;
 pub mod library;

@@ -4,6 +4,7 @@
 //! compare faults COUNT SEED       every planted fault must be found
 //! compare delays SEED             delays of a week's log and of any carriers, by both, bit for bit
 //! compare weeks COUNT SEED        weeks in figures, by both, and the reports judged
+//! compare indexes COUNT SEED      indexes, nodes and blocks, by both, and the indexes judged
 //! compare places COUNT SEED       where the damaged texts are refused, for reading
 //! compare program FILE            an executable on every example, against the second program
 //!
@@ -15,7 +16,7 @@
 use compare::archive::{Archive, FUNCTIONS};
 use compare::check::{self, Tally};
 use compare::library::{self, Second};
-use compare::{calls, delays, faults, program, remarks, weeks};
+use compare::{calls, delays, faults, indexes, program, remarks, weeks};
 use std::path::Path;
 use std::process::ExitCode;
 
@@ -52,7 +53,9 @@ fn main() -> ExitCode {
 }
 
 fn usage() -> ExitCode {
-    eprintln!("usage: compare self-check|libraries|boundary|weeks|faults|places COUNT SEED");
+    eprintln!(
+        "usage: compare self-check|libraries|boundary|weeks|indexes|faults|places COUNT SEED"
+    );
     eprintln!("       compare delays SEED");
     eprintln!("       compare program FILE");
     eprintln!("libraries, boundary and delays need a function that is linked");
@@ -67,6 +70,7 @@ fn seeded(mode: &str, count: u64, seed: u64) -> Option<Tally> {
         "libraries" if linked() => check::compare(&Second, library.as_ref(), count, seed),
         "boundary" if linked() => calls::compare(&Archive, count, seed),
         "weeks" => weeks::compare(&Archive, count, seed),
+        "indexes" => indexes::compare(&Archive, count, seed),
         "faults" => planted_faults(count, seed),
         _ => return None,
     })
@@ -114,6 +118,11 @@ fn planted_faults(count: u64, seed: u64) -> Tally {
         let found = weeks::find(fault, count, seed);
         let told = found.map(|(seed, difference)| format!("seed {seed}: {difference}"));
         tell(&mut tally, &format!("{fault:?} of a week"), told);
+    }
+    for fault in indexes::faults::FAULTS {
+        let found = indexes::faults::find(fault, count, seed);
+        let told = found.map(|(seed, difference)| format!("seed {seed}: {difference}"));
+        tell(&mut tally, &format!("{fault:?} of an index"), told);
     }
     let all = tally.passed + tally.failed;
     println!("{all} faults planted, {} found", tally.passed);

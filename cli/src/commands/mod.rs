@@ -4,8 +4,10 @@ pub mod ask;
 pub mod canon;
 pub mod check;
 pub mod delay;
+pub mod index;
 pub mod info;
 pub mod join;
+pub mod node;
 pub mod plot;
 pub mod week;
 
@@ -31,6 +33,8 @@ pub const COMMANDS: &[&Command] = &[
     &week::COMMAND,
     &ask::COMMAND,
     &delay::COMMAND,
+    &index::COMMAND,
+    &node::COMMAND,
     &plot::COMMAND,
 ];
 

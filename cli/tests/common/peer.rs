@@ -1,5 +1,6 @@
 //! What the second program says of a text.
 
+use second::index::{indexed_block, indexed_node, make_index, Entries, Index, Node};
 use second::week::{self, Week};
 use second::{ask, read, Answer, Areas, Header, Question, Reading, Refusal, Texts, View};
 
@@ -116,6 +117,57 @@ impl Peer {
         let delay = second::ask_delay(&self.header, &self.texts, &view, question, hertz)
             .map_err(|refusal| refusal.number())?;
         Ok([delay.carrier, delay.tecu, delay.metres])
+    }
+}
+
+/// The index of a text that the second program accepts.
+pub struct PeerIndex {
+    header: Header,
+    texts: Texts,
+    pub positions: Vec<u64>,
+    pub exponents: Vec<i32>,
+    pub marks: Vec<u8>,
+}
+
+impl PeerIndex {
+    /// Of the areas only what is needed for so many blocks and maps.
+    pub fn make(text: &[u8], blocks: usize, maps: usize) -> Result<PeerIndex, Refusal> {
+        let (mut positions, mut exponents) = (vec![7; blocks], vec![7; blocks]);
+        let mut marks = vec![7; maps];
+        let mut entries = Entries {
+            positions: &mut positions,
+            exponents: &mut exponents,
+            marks: &mut marks,
+        };
+        match make_index(text, &mut entries) {
+            Reading::Refused(refusal) => Err(refusal),
+            Reading::Accepted { header, texts } => Ok(PeerIndex {
+                header,
+                texts,
+                positions,
+                exponents,
+                marks,
+            }),
+        }
+    }
+
+    fn view(&self) -> Index<'_> {
+        Index {
+            header: &self.header,
+            texts: &self.texts,
+            positions: &self.positions,
+            exponents: &self.exponents,
+            marks: &self.marks,
+        }
+    }
+
+    /// Number and exponent, or the number of the refusal.
+    pub fn node(&self, text: &[u8], node: &Node) -> Result<(i32, i32), u8> {
+        indexed_node(&self.view(), text, node).map_err(|refusal| refusal.number())
+    }
+
+    pub fn block<'a>(&self, text: &'a [u8], node: &Node) -> &'a [u8] {
+        indexed_block(&self.view(), text, node)
     }
 }
 

@@ -81,7 +81,7 @@ module _ {m : MapSet} (f : Formed m) where
 
 -- ---- where the maps begin
 
-abbrev Begins : MapSet → ℤ × List (List ℕ) → Type 0
+abbrev pub Begins : MapSet → ℤ × List (List ℕ) → Type 0
 Begins m b = Writes (m .header) (begun (b .0)) (maps (m .maps)) (b .1)
 
 heads-begin : {m : MapSet} {a : Mode} {e : ℤ} {left : Slots} {rs : List (List ℕ)} → Heads m a e left rs → Begins m (body a e rs)
@@ -96,7 +96,7 @@ heads-begin (h-skip {r = r} n hw) = rw (pick-no (same (drop 60 r) (name aux-end)
 heads-begin (h-back {r = r} c hw) = rw (pick-yes (same (drop 60 r) (name aux-end)) _ _ (rec-name c)) (heads-begin hw)
 heads-begin (h-end c a f d l hw) = rw (rec-label c (known-heads .3)) hw
 
-rows-begin : {m : MapSet} {rs : List (List ℕ)} → Rows m rs → Begins m (body plain (negsuc 0) rs)
+pub rows-begin : {m : MapSet} {rs : List (List ℕ)} → Rows m rs → Begins m (body plain (negsuc 0) rs)
 unfolding body
 rows-begin (rows-of v c hw) = rw (rec-label c known-version) (heads-begin hw)
 

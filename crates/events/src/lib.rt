@@ -41,7 +41,7 @@ pub struct Brought {
 // ---- What a row holds
 
 // I6,54X: EXPONENT and START.
-fn whole_in(line: &[u8]) -> i32
+pub fn whole_in(line: &[u8]) -> i32
     requires { ⌜ length (now line) ≤ 80 ⌝ }
     ensures { λ r. ⌜ r ≡ exponent-in (pad (now (line .entry))) ⌝ }
 {

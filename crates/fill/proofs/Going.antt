@@ -32,7 +32,7 @@ use Rattle.fill.proofs.StepLaws.{rows-end}
 -- ---- no store changes a length
 
 module _ {A : Type 0} (st : event.Event → List A → List A) (keeps : (f : event.Event) (l : List A) → length (st f l) ≡ length l) where
-  scan-length : (fs : List event.Event) (l : List A) → length (scan st fs l) ≡ length l
+  pub scan-length : (fs : List event.Event) (l : List A) → length (scan st fs l) ≡ length l
   scan-length [] l = refl
   scan-length (f ∷ fs) l = scan-length fs (st f l) ∙ keeps f l
 
@@ -49,7 +49,7 @@ keeps-values B C k (event.block k′ i b x) l = both (is k k′)
 keeps-values B C k (event.epoch i e) l = refl
 keeps-values B C k (event.marked k′ i) l = refl
 
-keeps-exponents : (n B : ℕ) (f : event.Event) (l : List ℤ) → length (put-exponent n B f l) ≡ length l
+pub keeps-exponents : (n B : ℕ) (f : event.Event) (l : List ℤ) → length (put-exponent n B f l) ≡ length l
 keeps-exponents n B (event.block k i b x) l = length-set l _ _
 keeps-exponents n B (event.epoch i e) l = refl
 keeps-exponents n B (event.marked k i) l = refl
@@ -59,7 +59,7 @@ keeps-epochs (event.block k i b x) l = refl
 keeps-epochs (event.epoch i e) l = length-set l _ _
 keeps-epochs (event.marked k i) l = refl
 
-keeps-marks : (f : event.Event) (l : List ℕ) → length (put-mark f l) ≡ length l
+pub keeps-marks : (f : event.Event) (l : List ℕ) → length (put-mark f l) ≡ length l
 keeps-marks (event.block k i b x) l = refl
 keeps-marks (event.epoch i e) l = refl
 keeps-marks (event.marked k i) l = length-set l _ _
@@ -91,7 +91,7 @@ due-epoch s Tec r = refl
 due-epoch s Rms r = refl
 due-epoch s Height r = refl
 
-due-is : (C : ℕ) (s : Now) (o : Option Label) (r : List ℕ) (rs : List (List ℕ)) → due-behind C o ≡ turn C s o r rs .due
+pub due-is : (C : ℕ) (s : Now) (o : Option Label) (r : List ℕ) (rs : List (List ℕ)) → due-behind C o ≡ turn C s o r rs .due
 due-is C s none r rs = refl
 due-is C s (some (start Tec)) r rs = refl
 due-is C s (some (start Rms)) r rs = refl
@@ -120,7 +120,7 @@ module _ (n B C : ℕ) (N : Kind → ℕ) (s : Now) (p : Small n B s) where
   small-epoch Rms r h = p
   small-epoch Height r h = p
 
-  small-turn : (o : Option Label) (r : List ℕ) (rs : List (List ℕ)) → All (Inside n B C N) (turn C s o r rs .events) → Small n B (turn C s o r rs .next)
+  pub small-turn : (o : Option Label) (r : List ℕ) (rs : List (List ℕ)) → All (Inside n B C N) (turn C s o r rs .events) → Small n B (turn C s o r rs .next)
   small-turn none r rs h = p
   small-turn (some (start Tec)) r rs h = (p .0, omega arith)
   small-turn (some (start Rms)) r rs h = (p .0, omega arith)

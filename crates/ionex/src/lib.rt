@@ -1,6 +1,7 @@
-// The public functions: reading, writing, asking, delays, joining and the week; and an epoch moved, for other languages. Each answers on every input, and asks nothing of its caller.
+// The public functions: reading, writing, asking, delays, joining, the week and the index; and an epoch moved, for other languages. Each answers on every input, and asks nothing of its caller.
 pub mod asking;
 pub mod delays;
+pub mod indexing;
 pub mod joiner;
 mod moving;
 pub mod reader;

@@ -4,10 +4,11 @@ use Prim.Native.Nat.{ℕ, suc, _≤_, _<_}
 use mathlib.Core.List.{List, [], _∷_}
 use native.Mathlib.Decide.{ℕ-discrete, decLe}
 use lib.ListN.{length, take, drop}
-use Rattle.kit.specs.Answer.{pick, all-dec, ¬-dec}
+use Rattle.kit.specs.Answer.{All, pick, all-dec, ¬-dec}
 use Rattle.kit.specs.Range.{Within, within?}
-use Rattle.layout.specs.Text.{pad}
+use Rattle.layout.specs.Text.{Clean, pad}
 use Rattle.reading.specs.Feed.{why, split, over, bad, row, bad-column, feed}
+use Rattle.lines.specs.Cuts.{Starts}
 use Rattle.lines.specs.declared.Look.{Look}
 use Rattle.lines.specs.declared.Look.the-variants.{Wrong, Blank, Full}
 use Rattle.lines.specs.declared.Line.{Line}
@@ -41,11 +42,16 @@ pub record Spans (t : List ℕ) (s : Span) : Type 0 where
   pub within : s .next ≤ length t
   pub inside : s .width ≤ s .next
   pub lines : split t ≡ take (s .width) t ∷ split (drop (s .next) t)
+  pub starts : Starts t (s .width) (s .next)
 
 -- a blank line, which is skipped
 pub record Skips (t : List ℕ) (next : ℕ) : Type 0 where
   pub ahead : 0 < next
   pub within : next ≤ length t
+  pub width : ℕ
+  pub clean : Clean (take width t)
+  pub blank : All (λ b. b ≡ 32) (take width t)
+  pub starts : Starts t width next
   pub on : (n : ℕ) → feed n (split t) ≡ feed (suc n) (split (drop next t))
 
 -- a line of w bytes, which is handed on
@@ -54,6 +60,9 @@ pub record Rows (t : List ℕ) (w next : ℕ) : Type 0 where
   pub within : next ≤ length t
   pub inside : w ≤ next
   pub fits : w ≤ 80
+  pub clean : Clean (take w t)
+  pub full : ¬ All (λ b. b ≡ 32) (take w t)
+  pub starts : Starts t w next
   pub on : (n : ℕ) → feed n (split t) ≡ row n (pad (take w t)) (feed (suc n) (split (drop next t)))
 
 -- `Stands t r`: r is the line that starts the text t, as the reading sees it

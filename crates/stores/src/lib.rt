@@ -105,7 +105,7 @@ fn clear(area: &mut [i32], v: i32)
     }
 }
 
-fn clear_marks(marks: &mut [u8])
+pub fn clear_marks(marks: &mut [u8])
     ensures { λ _. ⌜ now (marks .exit) ≡ replicate (length (now (marks .entry))) 0 ⌝ }
 {
     let mut j = 0;
@@ -115,7 +115,7 @@ fn clear_marks(marks: &mut [u8])
     }
 }
 
-fn clear_front(area: &mut [i32], k: usize, v: i32)
+pub fn clear_front(area: &mut [i32], k: usize, v: i32)
     requires { ⌜ k ≤ length (now area) ⌝ }
     ensures { λ _. ⌜ now (area .exit) ≡ fill v k (now (area .entry)) ⌝ }
 {

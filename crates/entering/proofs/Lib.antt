@@ -1,0 +1,3 @@
+pub mod RowsAhead
+pub mod HeadLaws
+pub mod ScanLaws

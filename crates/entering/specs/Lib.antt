@@ -1,0 +1,2 @@
+-- The scan that makes an index: what its functions promise.
+pub mod Enter

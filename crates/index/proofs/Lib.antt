@@ -1,0 +1,9 @@
+pub mod Lines
+pub mod Told
+pub mod Kept
+pub mod Cover
+pub mod Begin
+pub mod AsRead
+pub mod CutLaws
+pub mod FoundLaws
+pub mod Once

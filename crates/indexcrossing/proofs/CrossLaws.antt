@@ -1,0 +1,94 @@
+-- An index and its answers as they cross, case by case.
+use mathlib.Core.Path.{_≡_, refl, sym, ap, subst, _∙_}
+use mathlib.Core.List.{List, [], _∷_}
+use mathlib.Core.Option.{Option, none, some}
+use Prim.Native.Nat.{ℕ, _-_, _≤_, _<_}
+use native.Mathlib.Omega.{arith}
+use lib.IntN.{ℤ}
+use lib.ListN.{length}
+use Rattle.kit.specs.Answer.{Answer, ok, refused}
+use Rattle.kit.specs.Lists.{front}
+use Rattle.mapset.specs.declared.Header.{Header}
+use Rattle.mapset.specs.declared.Texts.{Texts}
+use Rattle.mapset.specs.MapSet.{MapSet}
+use Rattle.mapset.specs.SoundLaws.{header-groups}
+use Rattle.reading.specs.Feed.{Why}
+use Rattle.reading.specs.Read.{read}
+use Rattle.reading.specs.Exact.{made-read}
+use Rattle.areas.specs.Formed.{Formed}
+use Rattle.areas.proofs.Made.{made-formed}
+use Rattle.outcome.specs.Outcome.{accepted, told, told-number, told-place}
+use Rattle.outcome.specs.declared.Reading.{Reading}
+use Rattle.outcome.specs.declared.Reading.the-variants.{Accepted, Refused}
+use Rattle.outcome.specs.declared.ReadOut.{ReadOut}
+use Rattle.crossing.specs.Own.{too-short}
+use Rattle.crossing.proofs.OwnLaws.{unless-none, unless-short}
+use Rattle.crossing.specs.ReadExported.{told-header, told-texts, Small}
+use Rattle.index.specs.Index as index
+use Rattle.index.specs.Index.{Entries}
+use Rattle.pointed.specs.Told as pointed
+use Rattle.pointed.specs.Told.{Inside, Starts}
+use Rattle.pointed.specs.Once.{between-length}
+use Rattle.pointed.specs.declared.Reply.{Reply}
+use Rattle.pointed.specs.declared.Reply.the-variants as reply
+use Rattle.making.specs.Making.{with-room, made-of, made, comes}
+use Rattle.indexcrossing.specs.Crossed as crossed
+use Rattle.indexcrossing.specs.Crossed.{told-value, told-bounds, number-in, value-in, bounds-in, Ordered}
+use Rattle.indexcrossing.specs.IndexExported.{crossed as all-crossed, crosses, index-crossed}
+
+-- ---- a reply
+
+pub same-number : (t : List ℕ) (r : Reply) → number-in r ≡ crossed.told-number (pointed.told t r)
+same-number t (reply.Given z e a b) = refl
+same-number t (reply.Refused w) = refl
+
+pub same-value : (t : List ℕ) (r : Reply) → value-in r ≡ told-value (pointed.told t r)
+same-value t (reply.Given z e a b) = refl
+same-value t (reply.Refused w) = refl
+
+pub same-bounds : (t : List ℕ) (at : ℕ) (r : Reply) → Inside t r → Starts at r → bounds-in r ≡ told-bounds at (pointed.told t r)
+same-bounds t at (reply.Given z e a b) i s = λ j. s j ∷ sym (between-length t a b (i .0) (i .1)) j ∷ []
+same-bounds t at (reply.Refused w) i s = refl
+
+pub ordered : (t : List ℕ) (r : Reply) → Inside t r → Ordered r
+ordered t (reply.Given z e a b) i = i .0
+ordered t (reply.Refused w) i = tt
+
+-- ---- the epochs of an accepted header are small
+
+in-years : (m : MapSet) → Formed m → (m .header .times .first < 9223372036854775808) × (m .header .times .last < 9223372036854775808)
+in-years m f = let g = header-groups (m .header) (m .texts) (f .header) .1 .1 .0 in (omega (arith, g .0), omega (arith, g .1 .0))
+
+roomy : (m : MapSet) (t : List ℕ) (l : Entries) (s : Option (ℕ × ℕ)) {h : Header} → with-room m t l s .told ≡ accepted h → m .header ≡ h
+unfolding with-room
+roomy m t l none e = cc
+roomy m t l (some x) e = let z : _≡_ {A = ℕ} 0 1 = cc in absurd (omega arith)
+
+small-header : (t : List ℕ) (l : Entries) (a : Answer Why MapSet) → read t ≡ a → (h : Header) → made-of a t l .told ≡ accepted h → Small (Accepted h)
+unfolding made-of
+small-header t l (ok m) r h e = rw (roomy m t l _ e) at (in-years m (made-formed (made-read t r)))
+small-header t l (refused w) r h e = let z : _≡_ {A = ℕ} 0 1 = cc in absurd (omega arith)
+
+pub small-epochs : (t : List ℕ) (l : Entries) (r : ReadOut) (l′ : Entries) → comes r l′ ≡ made t l → Small (r .answer)
+small-epochs t l r l′ e = by (r .answer) refl
+  where
+    by : (a : Reading) → r .answer ≡ a → Small a
+    by (Accepted h) q = small-header t l (read t) refl h (sym (ap (λ o. o .told) e) ∙ ap told q)
+    by (Refused w) q = tt
+
+-- ---- the areas of the call's own, and the answer
+
+module _ (t : List ℕ) (l : Entries) (h : List ℤ) (x p : List ℕ) where
+  pub cross-short : {k : ℕ} → k ≡ too-short (length h) (length x) (length p) 2 → 1 ≤ k → all-crossed k l h x p ≡ index-crossed t l h x p
+  unfolding index-crossed
+  cross-short e a = ap (λ k. all-crossed k l h x p) e ∙ sym (unless-short _ (λ k. all-crossed k l h x p) (omega (arith, e, a)))
+
+  module _ (n : too-short (length h) (length x) (length p) 2 ≡ 0) (r : ReadOut) (l′ : Entries) (e : comes r l′ ≡ made t l) where
+    is-crossed : crosses (comes r l′) h x p ≡ index-crossed t l h x p
+    unfolding index-crossed
+    is-crossed = ap (λ o. crosses o h x p) e ∙ sym (unless-none _ (λ k. all-crossed k l h x p) n)
+
+    pub cross-answer : {k : ℕ} {h′ : List ℤ} {x′ p′ : List ℕ} → k ≡ told-number (told (r .answer)) → h′ ≡ front (told-header (told (r .answer))) h
+        → x′ ≡ front (told-texts (told (r .answer)) (r .texts)) x → p′ ≡ front (told-place (told (r .answer))) p → all-crossed k l′ h′ x′ p′ ≡ index-crossed t l h x p
+    unfolding crosses
+    cross-answer n a b c = (λ i. all-crossed (n i) l′ (a i) (b i) (c i)) ∙ is-crossed

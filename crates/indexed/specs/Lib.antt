@@ -1,0 +1,2 @@
+-- What the code finds of a block, by what `index` says stands there.
+pub mod Hits

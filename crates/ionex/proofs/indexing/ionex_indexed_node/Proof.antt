@@ -1,0 +1,62 @@
+use Rattle.indexcrossing.specs.Crossed as crossed
+use Rattle.indexcrossing.proofs.CrossLaws.{same-number, same-value}
+use mathlib.Core.Path.{ap, _∙_}
+use native.Mathlib.Omega.{arith}
+use lib.ListN.{length}
+use Rattle.kit.specs.Lists.{front}
+use Rattle.crossing.proofs.OwnLaws.{none, fit}
+use borrow.Author.Needs.{needs}
+use Rattle.ionex.proofs.indexing.ionex_indexed_node.Statement.{statement}
+use Rattle.ionex.proofs.indexing.ionex_indexed_node.Tie as tie
+use Rattle.ionex.proofs.indexing.ionex_indexed_node.Reads as reads
+use Rattle.ionex.proofs.indexing.ionex_indexed_node.Lts as lts
+use Rattle.crossing.proofs.too_short.Reads as too-short-reads
+use Rattle.given.proofs.header_in.Reads as header-in-reads
+use Rattle.given.proofs.texts_in.Reads as texts-in-reads
+use Rattle.indexcrossing.proofs.put_node.Reads as put-node-reads
+use Rattle.ionex.proofs.indexing.indexed_node.Reads as indexed-node-reads
+
+too-short-requires : tie.Need-too-short-requires
+too-short-requires c κs = search needs
+
+returns : tie.Need-returns
+returns c = crossed.NodeCrosses.short _ (c .before .too-short .ensures) (omega (arith, c .if1 .taken))
+
+header-in-requires : tie.Need-header-in-requires
+header-in-requires c κs = let s = c .before .before .before .before .before .before in fit (length (s .args .header .now)) (length (s .args .texts .now)) (length (s .args .value .now)) 2 (c .before .too-short .ensures) (omega (arith, c .if1 .left)) .header
+
+texts-in-requires : tie.Need-texts-in-requires
+texts-in-requires c κs = let s = c .before .before .before .before .before .before .before in fit (length (s .args .header .now)) (length (s .args .texts .now)) (length (s .args .value .now)) 2 (c .before .before .too-short .ensures) (omega (arith, c .before .if1 .left)) .texts
+
+indexed-node-requires : tie.Need-indexed-node-requires
+indexed-node-requires c κs = search needs
+
+put-node-requires : tie.Need-put-node-requires
+put-node-requires c κs =
+    let s = c .before .before .before .before .before .before .before .before .before .before in
+    let f = fit (length (s .args .header .now)) (length (s .args .texts .now)) (length (s .args .value .now)) 2 (c .before .before .before .before .before .too-short .ensures) (omega (arith, c .before .before .before .before .if1 .left)) in
+    f .result
+
+same-length : tie.Need-same-length
+same-length c = search needs
+
+returns-2 : tie.Need-returns-2
+returns-2 c =
+    let s = c .before .before .before .before .before .before .before .before .before .before .before .before in
+    let r = c .before .before .before .indexed-node .result in
+    let a = rw (c .before .before .before .before .before .header-in .ensures, c .before .before .before .before .texts-in .ensures) at (c .before .before .before .indexed-node .ensures) in
+    let p = c .before .put-node .ensures in
+    rw (p .0 ∙ same-number (s .args .text .now) r, p .1 ∙ ap (λ y. front y (s .args .value .now)) (same-value (s .args .text .now) r)) (crossed.NodeCrosses.answered (none (length (s .args .header .now)) (length (s .args .texts .now)) (length (s .args .value .now)) 2 (c .before .before .before .before .before .before .before .too-short .ensures) (omega (arith, c .before .before .before .before .before .before .if1 .left))) _ (a .replies))
+
+pub ionex-indexed-node-spec : {M : Type 1} → statement M
+ionex-indexed-node-spec =
+    tie.close
+    (tie.spec
+    too-short-requires
+    returns
+    header-in-requires
+    texts-in-requires
+    indexed-node-requires
+    put-node-requires
+    same-length
+    returns-2)

@@ -1,0 +1,71 @@
+use mathlib.Core.Path.{_≡_, subst}
+use mathlib.Core.List.{List}
+use Prim.Native.Nat.{ℕ}
+use Rattle.mapset.specs.declared.Texts.{Texts}
+use Rattle.judging.specs.Scanned.{Judges}
+use Rattle.judging.specs.declared.Judged.{Judged}
+use Rattle.judging.proofs.JudgeLaws.{one-to-ten}
+use Rattle.index.specs.Index.{entries}
+use Rattle.making.proofs.MakeLaws.{made-refused}
+use borrow.Author.Needs.{needs}
+use Rattle.making.proofs.make_index.Statement.{statement}
+use Rattle.making.proofs.make_index.Tie as tie
+use Rattle.making.proofs.make_index.Reads as reads
+use Rattle.making.proofs.make_index.Lts as lts
+use Rattle.judging.proofs.judge.Reads as judge-reads
+use Rattle.making.proofs.store.Reads as store-reads
+use Rattle.outcome.proofs.reason_of.Reads as reason-of-reads
+use Rattle.outcome.proofs.refused.Reads as refused-reads
+
+-- what the first scan says, by its answer
+judged : (t : List ℕ) (x : Texts) (a b : Judged) → Judges t a x → a ≡ b → Judges t b x
+judged t x a b j e = subst (λ z. Judges t z x) e j
+
+judge-requires : tie.Need-judge-requires
+judge-requires c κs = search needs
+
+enum-known-answer : tie.Need-enum-known-answer
+enum-known-answer c = search needs
+
+reason-of-requires : tie.Need-reason-of-requires
+reason-of-requires c κs = one-to-ten (c .before .before .before .before .before .before .before .before .args .text .now) _ (judged _ _ _ _ (c .before .before .before .before .judge .ensures) (c .before .answer .given .1))
+
+refused-requires : tie.Need-refused-requires
+refused-requires c κs = search needs
+
+enum-known-answer-2 : tie.Need-enum-known-answer-2
+enum-known-answer-2 c = search needs
+
+store-requires : tie.Need-store-requires
+store-requires c κs = let j = judged _ _ _ _ (c .before .before .before .before .before .before .before .judge .ensures) (c .before .before .before .before .answer2 .given .1) in (j .maps, j .reads)
+
+returns : tie.Need-returns
+returns c = let s = c .before .before .before .before .before .before .before .before .before .before in let f = c .refused .ensures in rw (f .0, f .1, c .before .reason-of .ensures) (made-refused (s .args .text .now) (entries (s .args .positions .now) (s .args .exponents .now) (s .args .marks .now)) _ _ _ (judged _ _ _ _ (c .before .before .before .before .before .before .judge .ensures) (c .before .before .before .answer .given .1)))
+
+same-length : tie.Need-same-length
+same-length c = search needs
+
+same-length-2 : tie.Need-same-length-2
+same-length-2 c = search needs
+
+same-length-3 : tie.Need-same-length-3
+same-length-3 c = search needs
+
+returns-2 : tie.Need-returns-2
+returns-2 c = search needs
+
+pub make-index-spec : {M : Type 1} → statement M
+make-index-spec =
+    tie.close
+    (tie.spec
+    judge-requires
+    enum-known-answer
+    reason-of-requires
+    refused-requires
+    enum-known-answer-2
+    store-requires
+    returns
+    same-length
+    same-length-2
+    same-length-3
+    returns-2)

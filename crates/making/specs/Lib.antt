@@ -1,0 +1,3 @@
+-- What is answered of a text and the areas lent for its index.
+pub mod Making
+pub mod Once

@@ -1,0 +1,3 @@
+-- What is answered by an index and its text, as the code has it.
+pub mod Told
+pub mod Once
