@@ -1,5 +1,6 @@
-//! Finds the library's archive, where one of its functions is linked (see Cargo.toml): in the folder that IONEX_LIB
-//! names, else where `rt staticlib ionex` leaves it. It is x86-64 code: for another machine it is linked into the bridge.
+//! Links the library's archive into the bridge, where one of its functions is linked (see Cargo.toml) and the machine is no
+//! x86-64 (there the crate `ionex` links it). The archive is in the folder that IONEX_LIB names, else where
+//! `rt staticlib ionex` leaves it.
 
 use std::env;
 use std::path::{Path, PathBuf};
@@ -24,7 +25,8 @@ fn main() {
     println!("cargo:rerun-if-env-changed=IONEX_LIB");
     let linked = |name: &&str| env::var_os(format!("CARGO_FEATURE_{name}")).is_some();
     let functions: Vec<&str> = FUNCTIONS.into_iter().filter(linked).collect();
-    if functions.is_empty() {
+    let x86_64 = env::var("CARGO_CFG_TARGET_ARCH").is_ok_and(|machine| machine == "x86_64");
+    if functions.is_empty() || x86_64 {
         return;
     }
     let folder = match env::var_os("IONEX_LIB") {
@@ -33,12 +35,7 @@ fn main() {
     };
     let archive = folder.join("libionex.a");
     println!("cargo:rerun-if-changed={}", archive.display());
-    if env::var("CARGO_CFG_TARGET_ARCH").is_ok_and(|machine| machine == "x86_64") {
-        println!("cargo:rustc-link-search=native={}", folder.display());
-        println!("cargo:rustc-link-lib=static=ionex");
-    } else {
-        make_bridge(&archive, &functions);
-    }
+    make_bridge(&archive, &functions);
 }
 
 /// Makes the bridge for these functions, and tells the crate where it is.

@@ -1,13 +1,12 @@
 //! Seeded texts, map sets and questions, run against one library or two.
 
-#![deny(unsafe_code)]
+#![forbid(unsafe_code)]
 
 pub mod archive;
 pub mod boundary;
 #[cfg(not(target_arch = "x86_64"))]
 pub mod bridge;
 #[cfg(target_arch = "x86_64")]
-#[allow(unsafe_code)]
 pub mod c;
 pub mod calls;
 pub mod check;
