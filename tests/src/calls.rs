@@ -182,22 +182,29 @@ fn call(rng: &mut Rng, job: Job) -> Call {
             earlier,
             later,
             lent,
-        } => Call::Join {
-            earlier: given(rng, &earlier),
-            later: given(rng, &later),
-            lent: lent_with(rng, lent),
-        },
+        } => join(rng, &earlier, &later, lent),
         // The first two of a chain, with no room at all.
-        Job::Chain { sets, .. } => Call::Join {
-            earlier: given(rng, &sets[0]),
-            later: given(rng, &sets[1]),
-            lent: lent_with(rng, Buffers::default()),
-        },
+        Job::Chain { sets, .. } => join(rng, &sets[0], &sets[1], Buffers::default()),
         Job::Move { epoch, by } => Call::Move {
             epoch,
             by,
             moved: words(rng, 1),
         },
+    }
+}
+
+/// One of the two sets at most is odd, so that many calls get far.
+fn join(rng: &mut Rng, earlier: &MapSet, later: &MapSet, areas: Buffers) -> Call {
+    let odd = rng.below(4);
+    let mut set = |which: usize, set: &MapSet| match which == odd {
+        true => given(rng, set),
+        false => boundary::given(set),
+    };
+    let (earlier, later) = (set(0, earlier), set(1, later));
+    Call::Join {
+        earlier,
+        later,
+        lent: lent_with(rng, areas),
     }
 }
 
