@@ -1,5 +1,5 @@
 /*
- * ionex.h: reads, writes, interpolates and joins IONEX 1.1 ionosphere maps.
+ * ionex.h: reads, writes, interpolates and joins IONEX 1.0 and 1.1 ionosphere maps, and reads a text's biases.
  *
  * Link with target/staticlib/libionex.a (x86-64), which `rt staticlib ionex` makes. There is nothing to set up and
  * nothing to free: the library keeps nothing between calls and touches only the areas it is lent.
@@ -43,7 +43,7 @@ enum ionex_answer {
      * fields or records. The lowest line is told. */
     IONEX_LONG_LINE = 1,     /* a line has more than 80 bytes */
     IONEX_BAD_BYTE = 2,      /* a byte that is not printable ASCII (32 to 126) */
-    IONEX_NOT_IONEX = 3,     /* no version record first, or not version 1.1, type I and a known code */
+    IONEX_NOT_IONEX = 3,     /* no version record first, or not version 1.0 or 1.1, type I and a code of that version */
     IONEX_UNKNOWN_LABEL = 4, /* columns 61 to 80 hold no label of IONEX */
     IONEX_MISPLACED = 5,     /* a record where it may not stand, or a second time */
     IONEX_ILL_FORMED = 6,    /* no number in a number's field, or a byte where blanks belong */
@@ -89,7 +89,7 @@ enum ionex_answer {
      * and then nothing is written. */
     IONEX_SHORT_HEADER = 101, /* fewer than IONEX_HEADER numbers of header */
     IONEX_SHORT_TEXTS = 102,  /* fewer than IONEX_TEXTS bytes of texts */
-    IONEX_SHORT_RESULT = 103  /* no room for place, needs, count, value, bounds, record, moved or week */
+    IONEX_SHORT_RESULT = 103  /* no room for place, needs, count, value, bounds, record, moved, counts or week */
 };
 
 /*
@@ -113,7 +113,7 @@ enum ionex_answer {
 
 /* Places in the header, IONEX_HEADER numbers. Tenths: 87.5 degrees are 875. */
 enum ionex_header {
-    IONEX_VERSION = 0,     /* in tenths: 11 */
+    IONEX_VERSION = 0,     /* in tenths: 10 (IONEX 1.0) or 11 (1.1); a call writes the version that it is given */
     IONEX_TYPE = 1,        /* the byte 'I', 73 */
     IONEX_CODE = 2,        /* the system or model that the maps are from, of enum ionex_code */
     IONEX_FIRST_EPOCH = 3, /* EPOCH OF FIRST MAP, seconds from 1900-01-01 00:00:00 */
@@ -153,7 +153,9 @@ enum ionex_code {
     IONEX_IRI = 5,
     IONEX_MIX = 6,
     IONEX_NNS = 7,
-    IONEX_TOP = 8
+    IONEX_TOP = 8,
+    IONEX_GPS = 9, /* version 1.0 only, and so is GLO */
+    IONEX_GLO = 10
 };
 
 /* For the j-th letter of G R E C J I S (j from 0): whether its SYS record stands, its stations, its satellites. */
@@ -475,6 +477,35 @@ uint64_t ionex_indexed_block(const uint8_t *text, size_t text_len,
                              const uint8_t *marks, size_t marks_len,
                              uint64_t kind, uint64_t map, uint64_t layer, uint64_t row, uint64_t column,
                              uint64_t *bounds, size_t bounds_len); /* 2 numbers, else 103 */
+
+/*
+ * Reads the code biases of a text's header: its aux data blocks that are titled DIFFERENTIAL CODE BIASES. The map reader
+ * skips them.
+ *
+ *   area         element   each                 holds
+ *   satellites   int32_t   IONEX_SATELLITE 4    system ('G' or 'R'), number 1 to 99, bias, RMS
+ *   stations     int32_t   IONEX_STATION 3      system, bias, RMS
+ *   names        uint8_t   IONEX_STATION_NAME 20   the station's name, padded with blanks, no ending 0
+ *
+ * Bias and RMS in thousandths of a nanosecond. Both kinds stand in the file's order. Areas may be longer: the rest stays.
+ *
+ *   0         counts[0] satellites and counts[1] stations stand in the areas; both may be 0.
+ *   1 to 10   refused; place[0] is the line and place[1] the column. What ionex_read refuses comes first; then the first
+ *             bias line that is none: 6, 7 (a letter other than G, R or blank, which is G; a number outside 1 to 99), 5
+ *             (a satellite, or a station of that system, given before).
+ *   11        place[0] is the first area too short (1 satellites, 2 stations, 3 names), place[1] the elements it needs.
+ *
+ * On every answer but 0 the areas and counts are as found, and on 0 place is.
+ */
+#define IONEX_SATELLITE 4
+#define IONEX_STATION 3
+#define IONEX_STATION_NAME 20
+uint64_t ionex_biases(const uint8_t *text, size_t text_len,
+                      int32_t *satellites, size_t satellites_len,
+                      int32_t *stations, size_t stations_len,
+                      uint8_t *names, size_t names_len,
+                      uint64_t *counts, size_t counts_len, /* 2 numbers, else 103 */
+                      uint64_t *place, size_t place_len);  /* 2 numbers, else 103 */
 
 #ifdef __cplusplus
 }
