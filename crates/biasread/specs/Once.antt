@@ -8,7 +8,7 @@ use Rattle.mapset.specs.MapSet.{MapSet}
 use Rattle.reading.specs.Feed.{Why}
 use Rattle.outcome.specs.Outcome.{told-reason}
 use Rattle.outcome.specs.declared.Reading.the-variants as Reading
-use Rattle.input.specs.Once.{told-once}
+use Rattle.outcome.specs.Once.{told-once}
 use Rattle.needs.specs.Needs.{first-short}
 use Rattle.biases.specs.Biases.{Biases}
 use Rattle.biases.specs.Rules.{Makes}
