@@ -13,8 +13,8 @@
  *     a text that is read, a map set that is asked or written.
  * Everything else may be anything at all: every text, number and length has an answer.
  *
- * STACK. Reading, and ionex_needs, takes less than 16 KiB, each other call less than 4 KiB, whatever it is given: none
- * calls itself. Nothing is allocated; of the C library memcpy and memset are called, no more.
+ * STACK. ionex_read, ionex_needs, ionex_index and ionex_biases take less than 16 KiB, each other call less than 4 KiB,
+ * whatever it is given: none calls itself. Nothing is allocated; of the C library memcpy and memset are called, no more.
  *
  * TIME. Every epoch is in seconds from 1900-01-01 00:00:00, in universal time (UT) as document 001 has its maps, and
  * each day has 86,400 seconds. A clock in GPS time runs ahead of it by the leap seconds that have come since 1980, 18
@@ -53,7 +53,8 @@ enum ionex_answer {
     IONEX_CUT_SHORT = 10,    /* the text ends before END OF FILE; the line is one past the last */
 
     /* Reading and joining: all is good, but an area is too short. place[0] is the area (1 TEC, 2 RMS, 3 height,
-     * 4 exponents, 5 epochs, 6 marks), place[1] the elements it needs. Adding to a week: area 1 is rows. */
+     * 4 exponents, 5 epochs, 6 marks), place[1] the elements it needs. Adding to a week: area 1 is rows. An index, and
+     * biases: their three areas. */
     IONEX_SHORT_AREA = 11,
 
     /* Asking. */
@@ -478,28 +479,34 @@ uint64_t ionex_indexed_block(const uint8_t *text, size_t text_len,
                              uint64_t kind, uint64_t map, uint64_t layer, uint64_t row, uint64_t column,
                              uint64_t *bounds, size_t bounds_len); /* 2 numbers, else 103 */
 
-/*
- * Reads the code biases of a text's header: its aux data blocks that are titled DIFFERENTIAL CODE BIASES. The map reader
- * skips them.
- *
- *   area         element   each                 holds
- *   satellites   int32_t   IONEX_SATELLITE 4    system ('G' or 'R'), number 1 to 99, bias, RMS
- *   stations     int32_t   IONEX_STATION 3      system, bias, RMS
- *   names        uint8_t   IONEX_STATION_NAME 20   the station's name, padded with blanks, no ending 0
- *
- * Bias and RMS in thousandths of a nanosecond. Both kinds stand in the file's order. Areas may be longer: the rest stays.
- *
- *   0         counts[0] satellites and counts[1] stations stand in the areas; both may be 0.
- *   1 to 10   refused; place[0] is the line and place[1] the column. What ionex_read refuses comes first; then the first
- *             bias line that is none: 6, 7 (a letter other than G, R or blank, which is G; a number outside 1 to 99), 5
- *             (a satellite, or a station of that system, given before).
- *   11        place[0] is the first area too short (1 satellites, 2 stations, 3 names), place[1] the elements it needs.
- *
- * On every answer but 0 the areas and counts are as found, and on 0 place is.
- */
-#define IONEX_SATELLITE 4
-#define IONEX_STATION 3
+/* How many elements a satellite and a station take in the areas of ionex_biases. */
+#define IONEX_SATELLITE_NUMBERS 4
+#define IONEX_STATION_NUMBERS 3
 #define IONEX_STATION_NAME 20
+
+/*
+ * Reads the code biases of a text's header, of both versions: the records PRN / BIAS / RMS and STATION / BIAS / RMS of its
+ * aux blocks that are titled DIFFERENTIAL CODE BIASES. ionex_read skips them.
+ *
+ *   area         element   for each                              holds
+ *   satellites   int32_t   satellite, IONEX_SATELLITE_NUMBERS    system ('G' or 'R'), number 1 to 99, bias, RMS
+ *   stations     int32_t   station, IONEX_STATION_NUMBERS        system, bias, RMS
+ *   names        uint8_t   station, IONEX_STATION_NAME           its name, printable, padded with blanks, no ending 0
+ *
+ * Bias and RMS are in thousandths of a nanosecond. Satellites and stations stand in the text's order each. Areas may be
+ * longer than the need: the rest is not written.
+ *
+ *   0         counts[0] satellites and counts[1] stations stand in front of the areas; both may be 0. place is as found.
+ *   1 to 10   refused; place[0] is the line and place[1] the column. What ionex_read refuses comes first; then the first
+ *             line of a bias block that is at fault: 6, 7 (column 4: a letter other than G, R or blank, which is G;
+ *             column 5: a number outside 1 to 99), 5 (column 61: a satellite, or a station with the same system, given
+ *             before).
+ *   11        place[0] is the first area too short (1 satellites, 2 stations, 3 names), place[1] the elements it needs.
+ *             Told only where nothing else is wrong.
+ *
+ * After a refusal the areas and counts are as they were found. The text is gone over as for ionex_needs, its header once
+ * or twice more, and for each station the header's lines before it: nothing is kept of earlier ones but the text.
+ */
 uint64_t ionex_biases(const uint8_t *text, size_t text_len,
                       int32_t *satellites, size_t satellites_len,
                       int32_t *stations, size_t stations_len,

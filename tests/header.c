@@ -155,8 +155,8 @@ int main(int argc, char **argv)
         "    07    -1.234      .005                                  PRN / BIAS / RMS\n"
         "   R  BRUS 13101M004          12.345     0.100              STATION / BIAS / RMS\n"
         "                                                            END OF AUX DATA\n";
-    static uint8_t biased[8192], names[20];
-    int32_t satellites[4], stations[3];
+    static uint8_t biased[8192], names[IONEX_STATION_NAME];
+    int32_t satellites[IONEX_SATELLITE_NUMBERS], stations[IONEX_STATION_NUMBERS];
     uint64_t counts[2];
     size_t version = sizeof "     1.1            IONOSPHERE MAPS     MIX                 IONEX VERSION / TYPE";
     size_t more = sizeof block - 1;
