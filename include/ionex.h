@@ -1,5 +1,5 @@
 /*
- * ionex.h: reads, writes, interpolates and joins IONEX 1.1 ionosphere maps.
+ * ionex.h: reads, writes, interpolates and joins IONEX 1.0 and 1.1 ionosphere maps, and reads a text's biases.
  *
  * Link with target/staticlib/libionex.a (x86-64), which `rt staticlib ionex` makes. There is nothing to set up and
  * nothing to free: the library keeps nothing between calls and touches only the areas it is lent.
@@ -13,8 +13,8 @@
  *     a text that is read, a map set that is asked or written.
  * Everything else may be anything at all: every text, number and length has an answer.
  *
- * STACK. Reading, and ionex_needs, takes less than 16 KiB, each other call less than 4 KiB, whatever it is given: none
- * calls itself. Nothing is allocated; of the C library memcpy and memset are called, no more.
+ * STACK. ionex_read, ionex_needs, ionex_index and ionex_biases take less than 16 KiB, each other call less than 4 KiB,
+ * whatever it is given: none calls itself. Nothing is allocated; of the C library memcpy and memset are called, no more.
  *
  * TIME. Every epoch is in seconds from 1900-01-01 00:00:00, in universal time (UT) as document 001 has its maps, and
  * each day has 86,400 seconds. A clock in GPS time runs ahead of it by the leap seconds that have come since 1980, 18
@@ -43,7 +43,7 @@ enum ionex_answer {
      * fields or records. The lowest line is told. */
     IONEX_LONG_LINE = 1,     /* a line has more than 80 bytes */
     IONEX_BAD_BYTE = 2,      /* a byte that is not printable ASCII (32 to 126) */
-    IONEX_NOT_IONEX = 3,     /* no version record first, or not version 1.1, type I and a known code */
+    IONEX_NOT_IONEX = 3,     /* no version record first, or not version 1.0 or 1.1, type I and a code of that version */
     IONEX_UNKNOWN_LABEL = 4, /* columns 61 to 80 hold no label of IONEX */
     IONEX_MISPLACED = 5,     /* a record where it may not stand, or a second time */
     IONEX_ILL_FORMED = 6,    /* no number in a number's field, or a byte where blanks belong */
@@ -53,7 +53,8 @@ enum ionex_answer {
     IONEX_CUT_SHORT = 10,    /* the text ends before END OF FILE; the line is one past the last */
 
     /* Reading and joining: all is good, but an area is too short. place[0] is the area (1 TEC, 2 RMS, 3 height,
-     * 4 exponents, 5 epochs, 6 marks), place[1] the elements it needs. Adding to a week: area 1 is rows. */
+     * 4 exponents, 5 epochs, 6 marks), place[1] the elements it needs. Adding to a week: area 1 is rows. An index, and
+     * biases: their three areas. */
     IONEX_SHORT_AREA = 11,
 
     /* Asking. */
@@ -89,7 +90,7 @@ enum ionex_answer {
      * and then nothing is written. */
     IONEX_SHORT_HEADER = 101, /* fewer than IONEX_HEADER numbers of header */
     IONEX_SHORT_TEXTS = 102,  /* fewer than IONEX_TEXTS bytes of texts */
-    IONEX_SHORT_RESULT = 103  /* no room for place, needs, count, value, bounds, record, moved or week */
+    IONEX_SHORT_RESULT = 103  /* no room for place, needs, count, value, bounds, record, moved, counts or week */
 };
 
 /*
@@ -113,7 +114,7 @@ enum ionex_answer {
 
 /* Places in the header, IONEX_HEADER numbers. Tenths: 87.5 degrees are 875. */
 enum ionex_header {
-    IONEX_VERSION = 0,     /* in tenths: 11 */
+    IONEX_VERSION = 0,     /* in tenths: 10 (IONEX 1.0) or 11 (1.1); a call writes the version that it is given */
     IONEX_TYPE = 1,        /* the byte 'I', 73 */
     IONEX_CODE = 2,        /* the system or model that the maps are from, of enum ionex_code */
     IONEX_FIRST_EPOCH = 3, /* EPOCH OF FIRST MAP, seconds from 1900-01-01 00:00:00 */
@@ -153,7 +154,9 @@ enum ionex_code {
     IONEX_IRI = 5,
     IONEX_MIX = 6,
     IONEX_NNS = 7,
-    IONEX_TOP = 8
+    IONEX_TOP = 8,
+    IONEX_GPS = 9, /* version 1.0 only, and so is GLO */
+    IONEX_GLO = 10
 };
 
 /* For the j-th letter of G R E C J I S (j from 0): whether its SYS record stands, its stations, its satellites. */
@@ -475,6 +478,41 @@ uint64_t ionex_indexed_block(const uint8_t *text, size_t text_len,
                              const uint8_t *marks, size_t marks_len,
                              uint64_t kind, uint64_t map, uint64_t layer, uint64_t row, uint64_t column,
                              uint64_t *bounds, size_t bounds_len); /* 2 numbers, else 103 */
+
+/* How many elements a satellite and a station take in the areas of ionex_biases. */
+#define IONEX_SATELLITE_NUMBERS 4
+#define IONEX_STATION_NUMBERS 3
+#define IONEX_STATION_NAME 20
+
+/*
+ * Reads the code biases of a text's header, of both versions: the records PRN / BIAS / RMS and STATION / BIAS / RMS of its
+ * aux blocks that are titled DIFFERENTIAL CODE BIASES. ionex_read skips them.
+ *
+ *   area         element   for each                              holds
+ *   satellites   int32_t   satellite, IONEX_SATELLITE_NUMBERS    system ('G' or 'R'), number 1 to 99, bias, RMS
+ *   stations     int32_t   station, IONEX_STATION_NUMBERS        system, bias, RMS
+ *   names        uint8_t   station, IONEX_STATION_NAME           its name, printable, padded with blanks, no ending 0
+ *
+ * Bias and RMS are in thousandths of a nanosecond. Satellites and stations stand in the text's order each. Areas may be
+ * longer than the need: the rest is not written.
+ *
+ *   0         counts[0] satellites and counts[1] stations stand in front of the areas; both may be 0. place is as found.
+ *   1 to 10   refused; place[0] is the line and place[1] the column. What ionex_read refuses comes first; then the first
+ *             line of a bias block that is at fault: 6, 7 (column 4: a letter other than G, R or blank, which is G;
+ *             column 5: a number outside 1 to 99), 5 (column 61: a satellite, or a station with the same system, given
+ *             before).
+ *   11        place[0] is the first area too short (1 satellites, 2 stations, 3 names), place[1] the elements it needs.
+ *             Told only where nothing else is wrong.
+ *
+ * After a refusal the areas and counts are as they were found. The text is gone over as for ionex_needs, its header once
+ * or twice more, and for each station the header's lines before it: nothing is kept of earlier ones but the text.
+ */
+uint64_t ionex_biases(const uint8_t *text, size_t text_len,
+                      int32_t *satellites, size_t satellites_len,
+                      int32_t *stations, size_t stations_len,
+                      uint8_t *names, size_t names_len,
+                      uint64_t *counts, size_t counts_len, /* 2 numbers, else 103 */
+                      uint64_t *place, size_t place_len);  /* 2 numbers, else 103 */
 
 #ifdef __cplusplus
 }

@@ -2,8 +2,8 @@
  * after another from standard input and answers each on standard output. src/bridge.rs is the other end.
  *
  * A call is a struct call, then its areas. What goes back is the function's answer, then the areas that were lent, as
- * the call left them. -D READ, NEEDS, WRITE, ASK, TECU_DELAY, DELAY, MOVED, JOIN, WEEK_ADD, INDEX, INDEXED_NODE or
- * INDEXED_BLOCK: the archive has this function. */
+ * the call left them. -D READ, NEEDS, WRITE, ASK, TECU_DELAY, DELAY, MOVED, JOIN, WEEK_ADD, INDEX, INDEXED_NODE,
+ * INDEXED_BLOCK or BIASES: the archive has this function. */
 #include "ionex.h"
 #include <stdio.h>
 #include <stdlib.h>
@@ -24,7 +24,8 @@ enum function {
     FUNCTION_WEEK_ADD,
     FUNCTION_INDEX,
     FUNCTION_INDEXED_NODE,
-    FUNCTION_INDEXED_BLOCK
+    FUNCTION_INDEXED_BLOCK,
+    FUNCTION_BIASES
 };
 
 struct area {
@@ -105,6 +106,10 @@ static uint64_t answer(const struct call *call, void *const *at)
 #ifdef INDEXED_BLOCK
     case FUNCTION_INDEXED_BLOCK:
         return ionex_indexed_block(SIX, N(0), N(1), N(2), N(3), N(4), AREA(6));
+#endif
+#ifdef BIASES
+    case FUNCTION_BIASES:
+        return ionex_biases(SIX);
 #endif
     default:
         fprintf(stderr, "bridge: no function %d\n", (int)call->function);

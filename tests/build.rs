@@ -6,7 +6,7 @@ use std::env;
 use std::path::{Path, PathBuf};
 use std::process::Command;
 
-const FUNCTIONS: [&str; 12] = [
+const FUNCTIONS: [&str; 13] = [
     "READ",
     "NEEDS",
     "ASK",
@@ -19,6 +19,7 @@ const FUNCTIONS: [&str; 12] = [
     "INDEX",
     "INDEXED_NODE",
     "INDEXED_BLOCK",
+    "BIASES",
 ];
 
 fn main() {

@@ -150,6 +150,27 @@ int main(int argc, char **argv)
     must(ionex_indexed_block(INDEX, IONEX_KIND_TEC, 2, 0, 0, 1, AREA(bounds)) == 50 && bounds[0] + 1 == positions[2],
          "an index that is wrong");
 
+    static const char block[] =
+        "DIFFERENTIAL CODE BIASES                                    START OF AUX DATA\n"
+        "    07    -1.234      .005                                  PRN / BIAS / RMS\n"
+        "   R  BRUS 13101M004          12.345     0.100              STATION / BIAS / RMS\n"
+        "                                                            END OF AUX DATA\n";
+    static uint8_t biased[8192], names[IONEX_STATION_NAME];
+    int32_t satellites[IONEX_SATELLITE_NUMBERS], stations[IONEX_STATION_NUMBERS];
+    uint64_t counts[2];
+    size_t version = sizeof "     1.1            IONOSPHERE MAPS     MIX                 IONEX VERSION / TYPE";
+    size_t more = sizeof block - 1;
+    memcpy(biased, canonical, version);
+    memcpy(biased + version, block, more);
+    memcpy(biased + version + more, canonical + version, need - version);
+    must(ionex_biases(biased, need + more, satellites, 3, AREA(stations), AREA(names), AREA(counts), AREA(place)) ==
+         IONEX_SHORT_AREA && place[0] == 1 && place[1] == 4, "too little room for a satellite");
+    must(ionex_biases(biased, need + more, AREA(satellites), AREA(stations), AREA(names), AREA(counts),
+                      AREA(place)) == IONEX_DONE && counts[0] == 1 && counts[1] == 1, "biases");
+    must(satellites[0] == 'G' && satellites[1] == 7 && satellites[2] == -1234 && satellites[3] == 5, "a satellite");
+    must(stations[0] == 'R' && stations[1] == 12345 && stations[2] == 100, "a station");
+    must(memcmp(names, "BRUS 13101M004      ", 20) == 0, "its name");
+
     uint64_t moved[1] = {9};
     must(ionex_moved(IONEX_UNIX_ZERO, 315964800, AREA(moved)) == IONEX_DONE && moved[0] == IONEX_GPS_ZERO, "GPS zero");
     must(ionex_moved(epochs[0], 1, AREA(moved)) == IONEX_DONE && moved[0] == epochs[1], "an epoch moved");

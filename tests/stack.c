@@ -17,6 +17,9 @@ static uint64_t epochs[300], epochs2[300], place[2], needs[IONEX_NEEDS], count[1
 static uint8_t text[1 << 24], out[1 << 24], marks[300], marks2[300], texts[IONEX_TEXTS], texts2[IONEX_TEXTS];
 static int64_t header[IONEX_HEADER], header2[IONEX_HEADER], week[IONEX_WEEK], figures[15 * 301];
 static double record[IONEX_RECORD];
+static int32_t satellites[198 * IONEX_SATELLITE_NUMBERS], stations[8192 * IONEX_STATION_NUMBERS];
+static uint8_t names[8192 * IONEX_STATION_NAME];
+static uint64_t counts[2];
 static size_t length;
 static uint64_t answer;
 
@@ -47,6 +50,8 @@ static void delaying(void)
     ionex_delay(SET, IONEX_KIND_TEC, method, 0, lat, lon, epochs[0], 1.5e9, AREA(record));
 }
 
+static void multiplying(void) { ionex_tecu_delay(1000, 1.5e9, AREA(record)); }
+
 /* With itself: a set of one map meets itself. */
 static void joining(void)
 {
@@ -71,6 +76,18 @@ static void pointing(void)
                        IONEX_KIND_TEC, 1, 0, 0, 0, AREA(value));
 }
 
+static void blocking(void)
+{
+    uint64_t bounds[2];
+    ionex_indexed_block(text, length, AREA(header2), AREA(texts2), AREA(positions), AREA(exponents2), AREA(marks2),
+                        IONEX_KIND_TEC, 1, 0, 0, 0, AREA(bounds));
+}
+
+static void biasing(void)
+{
+    ionex_biases(text, length, AREA(satellites), AREA(stations), AREA(names), AREA(counts), AREA(place));
+}
+
 static void moving(void) { ionex_moved(epochs[0], 1, AREA(moved)); }
 static void nothing(void) {}
 
@@ -90,24 +107,40 @@ static size_t taken(void (*call)(void))
     return sizeof stack - clean;
 }
 
-static int wrong;
+/* Each call, less than how much stack the header file tells, and the most that it took. Those of a text come first: the
+ * others are given what reading left. */
+static struct {
+    const char *name;
+    void (*call)(void);
+    size_t allowed, most;
+} calls[] = {
+    {"needs", needing, 16384, 0},
+    {"biases", biasing, 16384, 0},
+    {"reading", reading, 16384, 0},
+    {"the index", indexing, 16384, 0},
+    {"a node", pointing, 4096, 0},
+    {"a block", blocking, 4096, 0},
+    {"writing", writing, 4096, 0},
+    {"asking", asking, 4096, 0},
+    {"delay", delaying, 4096, 0},
+    {"delay of TECU", multiplying, 4096, 0},
+    {"joining", joining, 4096, 0},
+    {"the week", adding, 4096, 0},
+    {"moving", moving, 4096, 0},
+};
+enum { CALLS = sizeof calls / sizeof calls[0], OF_A_TEXT = 3 };
 
-/* Compares the most that a call took, less what an empty one takes, with what the header file allows. */
-static void judge(const char *name, void (*call)(void), size_t allowed, size_t *most)
+/* The most that a call took, less what an empty one takes. */
+static void judge(int k)
 {
-    size_t bytes = taken(call) - taken(nothing);
-    if (bytes > *most)
-        *most = bytes;
-    if (bytes >= allowed) {
-        printf("%s took %zu bytes of stack, and less than %zu are told\n", name, bytes, allowed);
-        wrong = 1;
-    }
+    size_t bytes = taken(calls[k].call) - taken(nothing);
+    if (bytes > calls[k].most)
+        calls[k].most = bytes;
 }
 
 int main(int argc, char **argv)
 {
-    size_t most[10] = {0};
-    int accepted = 0;
+    int accepted = 0, wrong = 0;
     /* Found by the loader at their first call, which takes stack of its own. */
     memcpy(out, text, (size_t)argc);
     for (int i = 1; i < argc; i++) {
@@ -115,24 +148,19 @@ int main(int argc, char **argv)
         length = file ? fread(text, 1, sizeof text, file) : 0;
         if (!file || fclose(file) != 0)
             return 2;
-        judge("needs", needing, 16384, &most[4]);
-        judge("reading", reading, 16384, &most[0]);
+        for (int k = 0; k < OF_A_TEXT; k++)
+            judge(k);
         if (answer != IONEX_DONE)
             continue;
         accepted++;
-        judge("writing", writing, 4096, &most[1]);
-        for (method = 0; method <= 4; method++) {
-            judge("asking", asking, 4096, &most[2]);
-            judge("delay", delaying, 4096, &most[5]);
-        }
-        judge("moving", moving, 4096, &most[3]);
-        judge("joining", joining, 4096, &most[6]);
-        judge("the week", adding, 4096, &most[7]);
-        judge("the index", indexing, 16384, &most[8]);
-        judge("a node", pointing, 4096, &most[9]);
+        for (method = 0; method <= 4; method++)
+            for (int k = OF_A_TEXT; k < CALLS; k++)
+                judge(k);
     }
-    printf("needs %zu, reading %zu, writing %zu, asking %zu, moving %zu, delay %zu, joining %zu, the week %zu, the index %zu, "
-           "a node %zu bytes of stack at most\n",
-           most[4], most[0], most[1], most[2], most[3], most[5], most[6], most[7], most[8], most[9]);
+    for (int k = 0; k < CALLS; k++) {
+        int over = calls[k].most >= calls[k].allowed;
+        printf("%s took %zu bytes of stack at most%s\n", calls[k].name, calls[k].most, over ? ": more than is told" : "");
+        wrong |= over;
+    }
     return wrong || !accepted;
 }

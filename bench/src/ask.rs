@@ -1,7 +1,7 @@
 //! The value at a place and second, plainly, with the library's checks.
 
 use crate::calendar;
-use crate::header::{self, Axis, Header, CODES};
+use crate::header::{self, Axis, Header};
 
 pub struct View<'a> {
     pub tec: &'a [i32],
@@ -207,9 +207,8 @@ fn node(
 pub fn is_valid(header: &Header) -> bool {
     let count = |count: Option<i64>| count.is_none_or(|n| header::COUNT.contains(&n));
     let printable = |text: &[u8]| text.iter().all(|b| (32..=126).contains(b));
-    header.version == 11
+    header::codes(header.version).is_some_and(|codes| header.code < codes.len())
         && header.kind == b'I'
-        && header.code < CODES.len()
         && header.first_epoch < calendar::END
         && header.last_epoch < calendar::END
         && header::INTERVAL.contains(&header.interval)

@@ -36,6 +36,32 @@ pub fn of_day(day: usize, with_rms: bool) -> String {
     text
 }
 
+/// The file of TEC maps with a block of code biases: 32 satellites and so many stations.
+pub fn with_biases(stations: usize) -> String {
+    let mut block = String::new();
+    record(&mut block, TITLE, "START OF AUX DATA");
+    for number in 1..=32 {
+        let body = format!("   G{number:02}{:10.3}     0.011", bias(number));
+        record(&mut block, &body, "PRN / BIAS / RMS");
+    }
+    for number in 0..stations {
+        let name = format!("S{number:04} {:05}M001", 10_001 + number);
+        let body = format!("   G  {name:<20}{:10.3}     0.040", bias(number));
+        record(&mut block, &body, "STATION / BIAS / RMS");
+    }
+    record(&mut block, TITLE, "END OF AUX DATA");
+    global(false).replacen(END_OF_HEADER, &(block + END_OF_HEADER), 1)
+}
+
+const TITLE: &str = "DIFFERENTIAL CODE BIASES";
+const END_OF_HEADER: &str =
+    "                                                            END OF HEADER";
+
+/// Nanoseconds, from -15 to 15.
+fn bias(number: usize) -> f64 {
+    f64::from(29 * noise(0, 0, number) - 15_000) / 1000.0
+}
+
 fn record(text: &mut String, body: &str, label: &str) {
     writeln!(text, "{body:<60}{label}").expect("a string takes all");
 }

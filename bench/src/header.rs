@@ -67,9 +67,20 @@ impl Default for Header {
     }
 }
 
-pub const CODES: [&[u8]; 9] = [
-    b"BEN", b"ENV", b"ERS", b"GEO", b"GNS", b"IRI", b"MIX", b"NNS", b"TOP",
+/// Behind the codes of version 1.1, those that only 1.0 has.
+pub const CODES: [&[u8]; 11] = [
+    b"BEN", b"ENV", b"ERS", b"GEO", b"GNS", b"IRI", b"MIX", b"NNS", b"TOP", b"GPS", b"GLO",
 ];
+
+/// The codes of a version in tenths, where it is one.
+pub fn codes(version: i64) -> Option<&'static [&'static [u8]]> {
+    match version {
+        10 => Some(&CODES),
+        11 => Some(&CODES[..9]),
+        _ => None,
+    }
+}
+
 pub const SYSTEMS: &[u8; 7] = b"GRECJIS";
 pub const INTERVAL: std::ops::RangeInclusive<i64> = 0..=21_600;
 pub const MAPS: std::ops::RangeInclusive<i64> = 1..=300;

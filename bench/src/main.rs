@@ -1,5 +1,5 @@
 //! Times the library beside plain Rust that makes the same checks: reading two global files, asking, writing,
-//! and joining.
+//! and joining; and the library alone: an epoch moved, and the biases of a header.
 //! The last line is `ratio X`: the library's time over the plain reader's for the file of TEC maps.
 
 #![forbid(unsafe_code)]
@@ -11,6 +11,7 @@ use bench::header::Header;
 use bench::join::{join, Set};
 use bench::plain::{read, Areas};
 use compare::archive::{Archive, FUNCTIONS};
+use compare::biases::{self, Biases};
 use compare::boundary::{Asked, Boundary, Given, Lent, HEADER, TEXTS};
 use compare::set::Buffers;
 use std::hint::black_box;
@@ -39,6 +40,8 @@ fn main() {
     report_writing("25 TEC maps", &tec);
     report_writing("25 TEC and 25 RMS maps", &both);
     report_joining(&both, &files::of_day(2, true));
+    report_biases(300);
+    report_biases(2000);
     println!("ratio {ratio:.2}");
 }
 
@@ -274,4 +277,29 @@ fn report_writing(name: &str, text: &str) {
         micros(best),
         count[0]
     );
+}
+
+/// The biases of 32 satellites and so many stations, beside the needs of the same text, which are one look at it.
+fn report_biases(stations: usize) {
+    let text = files::with_biases(stations);
+    let text = text.as_bytes();
+    let mut lent = biases::Lent {
+        satellites: vec![0; 4 * 32],
+        stations: vec![0; 3 * stations],
+        names: vec![0; 20 * stations],
+        counts: vec![0; 2],
+        place: vec![0; 2],
+    };
+    let mut best = [Duration::MAX; 2];
+    for _ in 0..ASKING_ROUNDS {
+        let answer = timed(&mut best[0], || Archive.biases(black_box(text), &mut lent));
+        assert_eq!((answer, lent.counts[1]), (0, stations as u64));
+        let mut needs = [0; 6];
+        let answer = timed(&mut best[1], || {
+            Archive.needs(black_box(text), &mut needs, &mut [0; 2])
+        });
+        assert_eq!(answer, 0);
+    }
+    let [biases, needs] = best.map(micros);
+    println!("biases of 32 satellites and {stations} stations: {biases:.0} us, the text's needs {needs:.0} us");
 }

@@ -2,7 +2,7 @@
 //! once nothing is wrong, so that a refused text leaves them as they were.
 
 use crate::calendar;
-use crate::header::{self, Axis, Header, System, Wrong, CODES, SYSTEMS};
+use crate::header::{self, Axis, Header, System, Wrong, SYSTEMS};
 use std::ops::RangeInclusive;
 
 pub struct Areas<'a> {
@@ -394,9 +394,11 @@ impl Reader {
     fn version(&mut self, body: &[u8]) -> Step {
         let [version] = decimals(body, 0, 8)?;
         blank(body, 8, 20)?;
-        check(version == 11, 3, 1)?;
+        let Some(codes) = header::codes(version) else {
+            return fault(3, 1);
+        };
         check(body[20] == b'I', 3, 21)?;
-        let Some(code) = CODES.iter().position(|code| *code == &body[40..43]) else {
+        let Some(code) = codes.iter().position(|code| *code == &body[40..43]) else {
             return fault(3, 41);
         };
         self.header.version = version;

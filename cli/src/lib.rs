@@ -1,4 +1,4 @@
-//! The program `ionex`: IONEX 1.1 files from the command line.
+//! The program `ionex`: IONEX 1.0 and 1.1 files from the command line.
 
 #![forbid(unsafe_code)]
 
@@ -7,6 +7,7 @@ pub mod commands;
 mod crc;
 pub mod explain;
 mod files;
+mod form;
 mod index_file;
 mod json;
 mod numbers;
@@ -30,7 +31,7 @@ use status::usage;
 use std::ffi::OsString;
 
 const INTRODUCTION: &str = "\
-ionex: ionosphere maps of IONEX 1.1, checked, shown and asked
+ionex: ionosphere maps of IONEX 1.0 and 1.1, checked, shown and asked
 
 Usage: ionex COMMAND FILE... [OPTIONS]
 

@@ -14,6 +14,7 @@ fn accepted_files() {
         "tests/examples/001-table-4.inx",
         "tests/examples/accepted-canonical.inx",
         "tests/examples/accepted-4000-values.inx",
+        "tests/examples/accepted-version-1.inx",
         &day,
     ];
     let ran = ionex(&[&["check"], &files[..]].concat());
@@ -22,6 +23,7 @@ fn accepted_files() {
         "5 TEC and 5 RMS maps, 13 layers of 35 × 72, 1995-10-15 00:00:00 to 1995-10-16 00:00:00",
         "2 TEC and 1 RMS maps, 2 × 3, 2000-01-01 00:00:00 to 2000-01-01 02:00:00",
         "1 TEC map, 40 × 100, 2000-01-01 00:00:00 to 2000-01-01 00:00:00",
+        "2 TEC and 1 RMS maps, 2 × 3, 2000-01-01 00:00:00 to 2000-01-01 02:00:00",
         "25 TEC and 25 RMS maps, 71 × 73, 2010-12-04 00:00:00 to 2010-12-05 00:00:00",
     ];
     let expected: String = files
@@ -142,9 +144,24 @@ fn damaged(damage: impl FnOnce(&mut Vec<String>)) -> Vec<u8> {
 #[test]
 fn hints_for_what_people_meet() {
     let good = example("accepted-canonical.inx");
+    let archive = example("accepted-version-1.inx");
     let version = |from: &str, to: &str| damaged(|lines| lines[0] = lines[0].replacen(from, to, 1));
     let cases: Vec<(Vec<u8>, &str, &str)> = vec![
-        (version("1.1", "1.0"), "3 1:1", "this is a file of version 1.0, which is not read; version 1.1 is"),
+        (
+            version("GNS", "GLO"),
+            "3 1:41",
+            "GPS and GLO are codes of version 1.0; in version 1.1 GNS stands for both",
+        ),
+        (
+            damaged(|lines| lines.insert(4, record("   G07     0.100     0.200", "PRN / BIAS / RMS"))),
+            "4 5:61",
+            "PRN / BIAS / RMS belongs between START OF AUX DATA and END OF AUX DATA, in the header",
+        ),
+        (
+            archive[..archive.len() - 72].to_vec(),
+            "10 44:0",
+            "some centres leave END OF FILE out; if nothing else is missing, add it: `printf '%60sEND OF FILE\\n' '' >>FILE`",
+        ),
         (
             [b"\x1f\x8b\x08\x00\x12\x34".as_slice(), &good].concat(),
             "1 1:81",
@@ -256,6 +273,10 @@ fn what_was_expected() {
         damaged(move |lines| drop(lines.drain(range.start() - 1..=range.end() - 1)))
     };
     let epoch = |text: &str| record(text, "EPOCH OF CURRENT MAP");
+    let version = |version: &str, code: &str| {
+        let body = format!("     {version}            IONOSPHERE MAPS     {code}");
+        set(1, &record(&body, "IONEX VERSION / TYPE"))
+    };
     let cases: Vec<(Vec<u8>, &str, &str)> = vec![
         // 9: missing
         (without(10..=11), "9 13:0", "before it BASE RADIUS, MAP DIMENSION"),
@@ -410,6 +431,9 @@ fn what_was_expected() {
             "a label from column 61 on: all 3 values of latitude 10.0 (line 18) have come",
         ),
         (without(1..=1), "3 1:61", "`IONEX VERSION / TYPE` from column 61 on, in the first record"),
+        (version("1.2", "GNS"), "3 1:1", "the version: 1.0 or 1.1, found `1.2`"),
+        (version("1.0", "GAL"), "3 1:41", "the code: one of BEN ENV ERS GEO GNS IRI MIX NNS TOP GPS GLO, found `GAL`"),
+        (version("1.1", "GAL"), "3 1:41", "the code: one of BEN ENV ERS GEO GNS IRI MIX NNS TOP, found `GAL`"),
     ];
     for (text, place, words) in cases {
         let (found, expected, _) = told(&text);

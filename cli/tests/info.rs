@@ -107,3 +107,12 @@ fn refused_or_unread() {
     ionex(&["info", "tests"]).failed(2, "ionex: tests: is a folder, not a file\n");
     ionex(&["info", "none.inx"]).failed(2, "ionex: none.inx: no such file\n");
 }
+
+#[test]
+fn a_file_of_version_1_0() {
+    let file = "tests/examples/accepted-version-1.inx";
+    let ran = ionex(&["info", file]);
+    assert!(ran.done().contains("\n  version           1.0, code GPS\n"));
+    let ran = ionex(&["info", file, "--json"]);
+    assert!(ran.done().contains(r#""version":1.0,"code":"GPS","#));
+}

@@ -51,6 +51,12 @@ fn not_understood() {
         (&["check", "--jsn", "x"], "check: unknown option --jsn; see ionex check --help"),
         (&["check", "-", "-"], "check: standard input can be read once only; see ionex check --help"),
         (&["info", "a", "b"], "info: more than one FILE is given; see ionex info --help"),
+        (&["biases"], "biases: no FILE is given; see ionex biases --help"),
+        (&["biases", "a", "b"], "biases: more than one FILE is given; see ionex biases --help"),
+        (
+            &["biases", "x", "--csv", "--json"],
+            "biases: --json and --csv are given, but one form is printed; see ionex biases --help",
+        ),
         (&["canon"], "canon: no FILE is given; see ionex canon --help"),
         (&["canon", "x", "-o"], "canon: -o needs a value; see ionex canon --help"),
         (&["canon", "x", "-o", "a", "-o", "b"], "canon: -o is given twice; see ionex canon --help"),

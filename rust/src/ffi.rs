@@ -333,3 +333,35 @@ pub fn indexed_block(text: &[u8], given: GivenIndex, node: Node, bounds: &mut [u
         )
     }
 }
+
+/// Biases to be filled: three areas, and how many satellites and stations there are.
+pub struct LentBiases<'a> {
+    pub satellites: &'a mut [i32],
+    pub stations: &'a mut [i32],
+    pub names: &'a mut [u8],
+    pub counts: &'a mut [u64],
+}
+
+#[rustfmt::skip]
+extern "C" {
+    fn ionex_biases(
+        text: *const u8, text_len: usize,
+        satellites: *mut i32, satellites_len: usize, stations: *mut i32, stations_len: usize,
+        names: *mut u8, names_len: usize,
+        counts: *mut u64, counts_len: usize, place: *mut u64, place_len: usize,
+    ) -> u64;
+}
+
+/// `ionex_biases`.
+#[rustfmt::skip]
+pub fn biases(text: &[u8], lent: LentBiases, place: &mut [u64]) -> u64 {
+    let LentBiases { satellites, stations, names, counts } = lent;
+    unsafe {
+        ionex_biases(
+            text.as_ptr(), text.len(),
+            satellites.as_mut_ptr(), satellites.len(), stations.as_mut_ptr(), stations.len(),
+            names.as_mut_ptr(), names.len(),
+            counts.as_mut_ptr(), counts.len(), place.as_mut_ptr(), place.len(),
+        )
+    }
+}

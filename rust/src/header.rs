@@ -7,10 +7,60 @@ use std::fmt;
 pub const HEADER: usize = 44;
 pub const TEXTS: usize = 124;
 
-const CODES: [&str; 9] = [
-    "BEN", "ENV", "ERS", "GEO", "GNS", "IRI", "MIX", "NNS", "TOP",
+/// The codes with their letters, as the archive numbers them from 0.
+const CODES: [(Code, &str); 11] = [
+    (Code::Ben, "BEN"),
+    (Code::Env, "ENV"),
+    (Code::Ers, "ERS"),
+    (Code::Geo, "GEO"),
+    (Code::Gns, "GNS"),
+    (Code::Iri, "IRI"),
+    (Code::Mix, "MIX"),
+    (Code::Nns, "NNS"),
+    (Code::Top, "TOP"),
+    (Code::Gps, "GPS"),
+    (Code::Glo, "GLO"),
 ];
 const LETTERS: [char; 7] = ['G', 'R', 'E', 'C', 'J', 'I', 'S'];
+
+/// The version of IONEX that a text is of.
+#[derive(Clone, Copy, Debug, PartialEq, Eq, Hash)]
+pub enum Version {
+    V1_0,
+    V1_1,
+    /// Tenths that are no such version: no map set that was read has them.
+    Unknown(i64),
+}
+
+impl Version {
+    fn of(tenths: i64) -> Version {
+        match tenths {
+            10 => Version::V1_0,
+            11 => Version::V1_1,
+            other => Version::Unknown(other),
+        }
+    }
+
+    /// 10 or 11.
+    pub fn tenths(self) -> i64 {
+        match self {
+            Version::V1_0 => 10,
+            Version::V1_1 => 11,
+            Version::Unknown(tenths) => tenths,
+        }
+    }
+}
+
+impl fmt::Display for Version {
+    /// `1.0` or `1.1`, `?` where it is unknown
+    fn fmt(&self, f: &mut fmt::Formatter) -> fmt::Result {
+        f.pad(match self {
+            Version::V1_0 => "1.0",
+            Version::V1_1 => "1.1",
+            Version::Unknown(_) => "?",
+        })
+    }
+}
 
 /// The satellite system or the theoretical model that the maps are from: the code of the version record.
 #[derive(Clone, Copy, Debug, PartialEq, Eq, Hash)]
@@ -24,35 +74,33 @@ pub enum Code {
     Mix,
     Nns,
     Top,
+    /// Of version 1.0 alone, as `Glo`.
+    Gps,
+    Glo,
     /// A number that stands for no code: no map set that was read has it.
     Unknown(i64),
 }
 
 impl Code {
     fn of(number: i64) -> Code {
-        use Code::*;
-        let codes = [Ben, Env, Ers, Geo, Gns, Iri, Mix, Nns, Top];
         let known = usize::try_from(number)
             .ok()
-            .and_then(|place| codes.get(place));
-        known.copied().unwrap_or(Unknown(number))
+            .and_then(|place| CODES.get(place));
+        known.map_or(Code::Unknown(number), |(code, _)| *code)
+    }
+
+    /// The archive's number.
+    pub(crate) fn number(self) -> i64 {
+        match self {
+            Code::Unknown(number) => number,
+            known => CODES.iter().take_while(|(code, _)| *code != known).count() as i64,
+        }
     }
 
     /// Its three letters, `???` where it is unknown.
     pub fn as_str(self) -> &'static str {
-        let place = match self {
-            Code::Ben => 0,
-            Code::Env => 1,
-            Code::Ers => 2,
-            Code::Geo => 3,
-            Code::Gns => 4,
-            Code::Iri => 5,
-            Code::Mix => 6,
-            Code::Nns => 7,
-            Code::Top => 8,
-            Code::Unknown(_) => return "???",
-        };
-        CODES[place]
+        let found = CODES.iter().find(|(code, _)| *code == self);
+        found.map_or("???", |(_, letters)| letters)
     }
 }
 
@@ -95,8 +143,7 @@ impl Axis {
 /// have, is brought to the nearest that it can.
 #[derive(Clone, Debug, PartialEq, Eq)]
 pub struct Header {
-    /// In tenths: 11.
-    pub version: i64,
+    pub version: Version,
     pub code: Code,
     /// EPOCH OF FIRST MAP.
     pub first: Epoch,
@@ -141,7 +188,7 @@ impl Header {
             (LETTERS[j], (numbers[at] != 0).then_some(counts))
         };
         Header {
-            version: numbers[0],
+            version: Version::of(numbers[0]),
             code: Code::of(numbers[2]),
             first: epoch(3),
             last: epoch(4),

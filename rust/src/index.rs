@@ -2,7 +2,7 @@
 
 use crate::ffi;
 use crate::header::{Header, HEADER, TEXTS};
-use crate::refusal::Refusal;
+use crate::refusal::{Refusal, INDEX_AREAS};
 use crate::value::{Kind, Written};
 
 /// An index as the archive holds it: 44 numbers, 124 bytes of texts, and three areas. Any numbers and any lengths may stand
@@ -95,7 +95,7 @@ impl Index {
         let mut place = [0; 2];
         let number = ffi::index(text, areas.lent(), &mut place);
         if number != 0 {
-            return Err(Refusal::of_reading(number, place));
+            return Err(Refusal::of_reading(number, place, &INDEX_AREAS));
         }
         let mut index = Index::from_areas(areas);
         let (entries, maps) = (index.entries(), index.header.maps);

@@ -1,4 +1,4 @@
-//! Reads, writes and interpolates IONEX 1.1 ionosphere maps: a safe API over the library that is proved.
+//! Reads, writes and interpolates IONEX 1.0 and 1.1 ionosphere maps, and reads their code biases: a safe API over the library that is proved.
 //!
 //! ```
 //! use ionex::{Epoch, Kind, MapSet, Method, Place};
@@ -21,6 +21,7 @@
 #![deny(unsafe_code)]
 #![warn(missing_debug_implementations)]
 
+mod biases;
 mod delay;
 mod epoch;
 #[doc(hidden)]
@@ -35,9 +36,10 @@ mod value;
 mod week;
 mod words;
 
+pub use biases::{Biases, MilliNs, Satellite, Station, System};
 pub use delay::{Carrier, Delay, Metres, Tecu};
 pub use epoch::{Date, Epoch};
-pub use header::{Axis, Code, Header, HEADER, TEXTS};
+pub use header::{Axis, Code, Header, Version, HEADER, TEXTS};
 pub use index::{Index, IndexAreas};
 pub use mapset::{Areas, MapSet, NO_VALUE};
 pub use place::Place;

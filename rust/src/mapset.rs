@@ -2,9 +2,9 @@
 
 use crate::epoch::Epoch;
 use crate::ffi;
-use crate::header::{Header, HEADER, TEXTS};
+use crate::header::{Code, Header, Version, HEADER, TEXTS};
 use crate::place::Place;
-use crate::refusal::Refusal;
+use crate::refusal::{Refusal, MAP_AREAS};
 use crate::value::{Answer, Kind, Method, Written};
 
 /// The number that says that a node has no value.
@@ -113,7 +113,7 @@ pub struct MapSet {
 }
 
 impl MapSet {
-    /// Reads an IONEX 1.1 text; refusals 1 to 10 where it is none.
+    /// Reads an IONEX text of version 1.0 or 1.1; refusals 1 to 10 where it is none.
     pub fn read(text: &[u8]) -> Result<MapSet, Refusal> {
         let mut areas = Areas::of_lengths(room(text));
         let mut place = [0; 2];
@@ -123,7 +123,7 @@ impl MapSet {
             number = ffi::read(text, areas.lent(), &mut place);
         }
         if number != 0 {
-            return Err(Refusal::of_reading(number, place));
+            return Err(Refusal::of_reading(number, place, &MAP_AREAS));
         }
         Ok(MapSet::of_accepted(areas))
     }
@@ -143,7 +143,7 @@ impl MapSet {
         let (mut needs, mut place) = ([0; 6], [0; 2]);
         match ffi::needs(text, &mut needs, &mut place) {
             0 => Ok(needs.map(|elements| elements as usize)),
-            number => Err(Refusal::of_reading(number, place)),
+            number => Err(Refusal::of_reading(number, place, &MAP_AREAS)),
         }
     }
 
@@ -164,8 +164,9 @@ impl MapSet {
         Ok(())
     }
 
-    /// The canonical text: the one text that says the same in a fixed order and spacing. Refusal 31 where this is no valid
-    /// map set, which can only be one of [`MapSet::from_areas`].
+    /// The canonical text: the one text that says the same in a fixed order and spacing, of the version that the header has.
+    /// Refusal 31 where this is no valid map set, which can only be one of [`MapSet::from_areas`] or
+    /// [`MapSet::set_version`].
     pub fn write(&self) -> Result<Vec<u8>, Refusal> {
         let mut out = vec![0; self.longest_text()];
         loop {
@@ -246,7 +247,7 @@ impl MapSet {
         let (early, late) = (self.areas.given(), later.areas.given());
         let number = ffi::join(early, late, areas.lent(), &mut place);
         if number != 0 {
-            return Err(Refusal::of_reading(number, place));
+            return Err(Refusal::of_reading(number, place, &MAP_AREAS));
         }
         Ok(MapSet::of_accepted(areas))
     }
@@ -254,6 +255,25 @@ impl MapSet {
     /// The header's numbers by name.
     pub fn header(&self) -> &Header {
         &self.header
+    }
+
+    /// Gives the set another version and code. A code that the version does not have makes it no valid map set (31).
+    ///
+    /// ```
+    /// use ionex::{Code, MapSet, Version};
+    ///
+    /// let mut maps = MapSet::read(&std::fs::read("../tests/examples/accepted-version-1.inx")?)?;
+    /// assert_eq!((maps.header().version, maps.header().code), (Version::V1_0, Code::Gps));
+    /// maps.set_version(Version::V1_1, Code::Gps);
+    /// assert_eq!(maps.write().unwrap_err().number(), 31);
+    /// maps.set_version(Version::V1_1, Code::Gns);
+    /// assert!(maps.write()?.starts_with(b"     1.1            IONOSPHERE MAPS     GNS"));
+    /// # Ok::<(), Box<dyn std::error::Error>>(())
+    /// ```
+    pub fn set_version(&mut self, version: Version, code: Code) {
+        self.areas.header[0] = version.tenths();
+        self.areas.header[2] = code.number();
+        self.header = Header::of(&self.areas.header);
     }
 
     /// The program that made the file.

@@ -34,8 +34,8 @@ const MEANINGS: [(u64, &str); 27] = [
     (103, "no room for the result"),
 ];
 
-/// The six areas, as refusal 11 counts them from 1.
-const AREAS: [&str; 6] = [
+/// The areas of a map set, of an index and of biases, as refusal 11 counts them from 1.
+pub(crate) const MAP_AREAS: [&str; 6] = [
     "TEC values",
     "RMS values",
     "height values",
@@ -43,14 +43,25 @@ const AREAS: [&str; 6] = [
     "epochs",
     "marks",
 ];
+pub(crate) const INDEX_AREAS: [&str; 3] = ["positions", "exponents", "marks"];
+pub(crate) const BIAS_AREAS: [&str; 3] = ["satellites", "stations", "station names"];
 
 /// What comes back with a number.
 #[derive(Clone, Copy, Debug, PartialEq, Eq)]
 enum Place {
     Nothing,
-    Column { line: u64, column: u64 },
-    Area { area: u64, needs: u64 },
-    Output { needs: u64 },
+    Column {
+        line: u64,
+        column: u64,
+    },
+    Area {
+        area: u64,
+        name: &'static str,
+        needs: u64,
+    },
+    Output {
+        needs: u64,
+    },
 }
 
 /// A call that was refused: nothing was changed by it.
@@ -79,9 +90,17 @@ impl Refusal {
         }
     }
 
-    /// A refusal of reading, with the two numbers that the archive tells beside it.
-    pub(crate) fn of_reading(number: u64, place: [u64; 2]) -> Refusal {
+    /// A refusal of reading, with the two numbers that the archive tells beside it, into areas of these names.
+    pub(crate) fn of_reading(
+        number: u64,
+        place: [u64; 2],
+        areas: &'static [&'static str],
+    ) -> Refusal {
         let [first, second] = place;
+        let name = |area: u64| {
+            let place = usize::try_from(area.wrapping_sub(1)).ok();
+            place.and_then(|place| areas.get(place)).copied()
+        };
         let place = match number {
             1..=10 => Place::Column {
                 line: first,
@@ -89,6 +108,7 @@ impl Refusal {
             },
             11 => Place::Area {
                 area: first,
+                name: name(first).unwrap_or("unknown"),
                 needs: second,
             },
             _ => Place::Nothing,
@@ -127,7 +147,7 @@ impl Refusal {
         }
     }
 
-    /// The area that is too short (11), 1 to 6.
+    /// The area that is too short (11), from 1.
     pub fn area(&self) -> Option<u64> {
         match self.place {
             Place::Area { area, .. } => Some(area),
@@ -167,15 +187,8 @@ impl fmt::Display for Refusal {
             Place::Nothing => Ok(()),
             Place::Column { line, column: 0 } => write!(f, ", line {line}"),
             Place::Column { line, column } => write!(f, ", line {line}, column {column}"),
-            Place::Area { area, needs } => {
-                let name = usize::try_from(area)
-                    .ok()
-                    .and_then(|area| AREAS.get(area.wrapping_sub(1)));
-                write!(
-                    f,
-                    ", area {area} ({}) needs {needs} elements",
-                    name.unwrap_or(&"unknown")
-                )
+            Place::Area { area, name, needs } => {
+                write!(f, ", area {area} ({name}) needs {needs} elements")
             }
             Place::Output { needs } => write!(f, ", {needs} bytes are needed"),
         }
@@ -183,3 +196,24 @@ impl fmt::Display for Refusal {
 }
 
 impl std::error::Error for Refusal {}
+
+#[cfg(test)]
+mod tests {
+    use super::*;
+
+    #[test]
+    fn areas_by_name() {
+        let told = |areas, place| Refusal::of_reading(11, place, areas).to_string();
+        assert_eq!(
+            told(&MAP_AREAS, [3, 8]),
+            "refused 11: an area is too short, area 3 (height values) needs 8 elements"
+        );
+        assert_eq!(
+            told(&BIAS_AREAS, [3, 40]),
+            "refused 11: an area is too short, area 3 (station names) needs 40 elements"
+        );
+        let refusal = Refusal::of_reading(11, [1, 12], &INDEX_AREAS);
+        assert_eq!((refusal.area(), refusal.needs()), (Some(1), Some(12)));
+        assert_eq!((refusal.line(), refusal.column()), (None, None));
+    }
+}

@@ -123,7 +123,7 @@ impl Written {
 }
 
 /// Thousandths as a decimal number.
-fn decimal(thousandths: i32) -> String {
+pub(crate) fn decimal(thousandths: i32) -> String {
     let sign = if thousandths < 0 { "-" } else { "" };
     let size = thousandths.unsigned_abs();
     format!("{sign}{}.{:03}", size / 1000, size % 1000)

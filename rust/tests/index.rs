@@ -230,7 +230,7 @@ fn not_an_index() {
     let index = Index::make(&text).expect("accepted");
     let edits: [fn(&mut IndexAreas); 6] = [
         |areas| areas.header[6] = i64::MAX,
-        |areas| areas.header[0] = 10,
+        |areas| areas.header[0] = 12,
         |areas| areas.texts[0] = 0,
         |areas| areas.positions.truncate(11),
         |areas| areas.exponents.truncate(11),

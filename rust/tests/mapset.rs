@@ -1,7 +1,8 @@
 //! Map sets read, asked, taken apart and written, against the texts of tests/examples, whose meaning was worked out by hand.
 
 use ionex::{
-    Answer, Areas, Code, Epoch, Kind, MapSet, Method, MilliKm, MilliTecu, Place, HEADER, TEXTS,
+    Answer, Areas, Code, Epoch, Kind, MapSet, Method, MilliKm, MilliTecu, Place, Version, HEADER,
+    TEXTS,
 };
 
 fn text(name: &str) -> Vec<u8> {
@@ -24,8 +25,11 @@ fn km(thousandths: i32) -> Option<Answer> {
 fn the_header_by_name() {
     let maps = accepted("accepted-2d-freedoms.inx");
     let header = maps.header();
-    assert_eq!((header.version, header.code), (11, Code::Mix));
-    assert_eq!(header.code.to_string(), "MIX");
+    assert_eq!((header.version, header.code), (Version::V1_1, Code::Mix));
+    assert_eq!(
+        (header.version.to_string(), header.code.to_string()),
+        ("1.1".to_string(), "MIX".to_string())
+    );
     assert_eq!(header.first.to_string(), "1999-12-31T23:59:59");
     assert_eq!(header.last.to_string(), "2000-01-01T00:00:00");
     assert_eq!((header.interval, header.maps, header.cutoff), (0, 2, 0));
@@ -269,9 +273,10 @@ fn any_numbers_can_be_looked_at() {
         epochs: vec![u64::MAX],
         marks: vec![255],
     };
-    for number in [i64::MIN, -1, 0, 1, 2, i64::MAX] {
+    for number in [i64::MIN, -1, 0, 1, 2, 9, 12, i64::MAX] {
         let maps = MapSet::from_areas(of(number));
-        assert_eq!((maps.program(), maps.header().version), ("", number));
+        assert_eq!(maps.program(), "");
+        assert_eq!(maps.header().version, Version::Unknown(number));
         assert_eq!(maps.value(Kind::Tec, 0, 0, 0, 0), None);
         assert_eq!(maps.write().unwrap_err().number(), 31);
         let asked = maps.ask(Kind::Tec, Method::Between, 0, Place::new(0, 0), Epoch::UNIX);

@@ -10,8 +10,19 @@ pub fn integer(field: &[u8]) -> Option<i64> {
 /// "Fn.1 is the same with a point and one digit more." Before the point no digit
 /// is asked for (02, Ask 4). The value in tenths.
 pub fn tenths(field: &[u8]) -> Option<i64> {
+    decimal(field, 1)
+}
+
+/// "F10.3 is read as Fn.1 with three digits after the point" (02, Ask 7). The value
+/// in thousandths.
+pub fn thousandths(field: &[u8]) -> Option<i64> {
+    decimal(field, 3)
+}
+
+/// So many digits after the point; the value in units of the last.
+fn decimal(field: &[u8], places: usize) -> Option<i64> {
     let (negative, rest) = sign(field);
-    let point = rest.len().checked_sub(2)?;
+    let point = rest.len().checked_sub(places + 1)?;
     if rest[point] != b'.' {
         return None;
     }
@@ -19,8 +30,8 @@ pub fn tenths(field: &[u8]) -> Option<i64> {
         [] => 0,
         body => digits(body)?,
     };
-    let tenth = digits(&rest[point + 1..])?;
-    Some(apply(negative, whole * 10 + tenth))
+    let behind = digits(&rest[point + 1..])?;
+    Some(apply(negative, whole * 10_i64.pow(places as u32) + behind))
 }
 
 /// Drops the leading blanks and an optional minus.
@@ -33,7 +44,7 @@ fn sign(field: &[u8]) -> (bool, &[u8]) {
     }
 }
 
-/// One or more digits and nothing else. Fields have at most 8 columns.
+/// One or more digits and nothing else. Fields have at most 10 columns.
 fn digits(body: &[u8]) -> Option<i64> {
     if body.is_empty() || !body.iter().all(u8::is_ascii_digit) {
         return None;
@@ -111,6 +122,23 @@ mod tests {
         assert_eq!(tenths(b"  + .0"), None);
         assert_eq!(tenths(b"  1..0"), None);
         assert_eq!(tenths(b"      "), None);
+    }
+
+    #[test]
+    fn numbers_of_thousandths() {
+        assert_eq!(thousandths(b"     0.000"), Some(0));
+        assert_eq!(thousandths(b"    -1.234"), Some(-1_234));
+        assert_eq!(thousandths(b"      .005"), Some(5));
+        assert_eq!(thousandths(b"     -.000"), Some(0));
+        assert_eq!(thousandths(b"999999.999"), Some(999_999_999));
+        assert_eq!(thousandths(b"-99999.999"), Some(-99_999_999));
+        assert_eq!(thousandths(b"      1.23"), None);
+        assert_eq!(thousandths(b"    1.2345"), None);
+        assert_eq!(thousandths(b"     1.2 0"), None);
+        assert_eq!(thousandths(b"    1.234 "), None);
+        assert_eq!(thousandths(b"         0"), None);
+        assert_eq!(thousandths(b"     1.-23"), None);
+        assert_eq!(thousandths(b"          "), None);
     }
 
     #[test]

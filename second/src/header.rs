@@ -3,15 +3,15 @@
 
 use crate::calendar;
 
-/// "one of BEN ENV ERS GEO GNS IRI MIX NNS TOP"; the header holds the place.
-pub const CODES: [&[u8; 3]; 9] = [
-    b"BEN", b"ENV", b"ERS", b"GEO", b"GNS", b"IRI", b"MIX", b"NNS", b"TOP",
+/// "one of BEN ENV ERS GEO GNS IRI MIX NNS TOP", and behind these "GPS and GLO",
+/// which only version 1.0 allows (02, Ask 7); the header holds the place.
+pub const CODES: [&[u8; 3]; 11] = [
+    b"BEN", b"ENV", b"ERS", b"GEO", b"GNS", b"IRI", b"MIX", b"NNS", b"TOP", b"GPS", b"GLO",
 ];
 
 /// The letters of SYS, in the order listed in 01.
 pub const SYSTEMS: [u8; 7] = *b"GRECJIS";
 
-pub const VERSION: i64 = 11;
 pub const FILE_TYPE: u8 = b'I';
 
 /// First, last and step of an axis, in tenths.
@@ -94,6 +94,17 @@ pub enum AxisFault {
     /// 0 first, 1 last, 2 step.
     Field(usize),
     Several,
+}
+
+/// A version in tenths: 1.0 or 1.1.
+pub fn version_fits(tenths: i64) -> bool {
+    tenths == 10 || tenths == 11
+}
+
+/// Whether a version allows the code of this place.
+pub fn code_fits(version: i64, code: i64) -> bool {
+    let allowed = if version == 10 { 11 } else { 9 };
+    (0..allowed).contains(&code)
 }
 
 pub fn interval_fits(value: i64) -> bool {
@@ -227,9 +238,9 @@ impl Header {
 
     /// Whether some accepted text has this header record as its meaning.
     pub fn is_valid(&self) -> bool {
-        self.version == VERSION
+        version_fits(self.version)
             && self.file_type == FILE_TYPE
-            && (0..CODES.len() as i64).contains(&self.code)
+            && code_fits(self.version, self.code)
             && calendar::is_epoch(self.first_epoch)
             && calendar::is_epoch(self.last_epoch)
             && interval_fits(self.interval)

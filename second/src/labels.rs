@@ -15,6 +15,8 @@ pub enum Part {
     I(usize),
     /// Fn.1, held in tenths.
     F(usize),
+    /// Fn.3, held in thousandths; in the records of code biases only.
+    D(usize),
     /// Columns 22 to 40 and 44 to 60 of the version record, "not looked at".
     Free(usize),
 }
@@ -56,7 +58,7 @@ pub enum Label {
 }
 
 use Label as L;
-use Part::{Free, A, F, I, X};
+use Part::{Free, A, D, F, I, X};
 
 const TEXT: &[Part] = &[A(60)];
 const NOTHING: &[Part] = &[X(60)];
@@ -110,14 +112,18 @@ const TABLE: [(Label, &str, &[Part]); LABELS] = [
 
 /// The label of a line: "left-justified, blank-padded and compared byte by byte".
 pub fn label_of(card: &Card) -> Option<Label> {
-    let columns = &card[60..80];
-    TABLE
-        .iter()
-        .find(|(_, text, _)| {
-            let (name, padding) = columns.split_at(text.len());
-            name == text.as_bytes() && padding.iter().all(|&b| b == b' ')
-        })
-        .map(|row| row.0)
+    let row = TABLE.iter().find(|(_, text, _)| has_label(card, text));
+    row.map(|row| row.0)
+}
+
+pub fn has_label(card: &Card, label: &str) -> bool {
+    is_padded(&card[60..80], label)
+}
+
+/// Whether columns hold a text and then blanks.
+pub fn is_padded(columns: &[u8], text: &str) -> bool {
+    let (name, padding) = columns.split_at(text.len());
+    name == text.as_bytes() && padding.iter().all(|&b| b == b' ')
 }
 
 pub fn layout(label: Label) -> &'static [Part] {
@@ -131,27 +137,30 @@ pub fn label_text(label: Label) -> &'static str {
 /// The numbers of a record in their order (at most six), or the column for
 /// refusal 6: that of the leftmost ill-formed field or non-blank X column.
 pub fn numbers(label: Label, card: &Card) -> Result<[i64; 6], u64> {
+    numbers_in(layout(label), card)
+}
+
+/// The same by a layout.
+pub fn numbers_in(layout: &[Part], card: &Card) -> Result<[i64; 6], u64> {
     let mut found = [0; 6];
     let mut count = 0;
     let mut at = 0;
-    for part in layout(label) {
-        match *part {
+    for part in layout {
+        let (width, number): (usize, Option<fn(&[u8]) -> Option<i64>>) = match *part {
             X(width) => {
                 blank(card, at, at + width)?;
-                at += width;
+                (width, None)
             }
-            A(width) | Free(width) => at += width,
-            I(width) => {
-                found[count] = fields::integer(&card[at..at + width]).ok_or(at as u64 + 1)?;
-                count += 1;
-                at += width;
-            }
-            F(width) => {
-                found[count] = fields::tenths(&card[at..at + width]).ok_or(at as u64 + 1)?;
-                count += 1;
-                at += width;
-            }
+            A(width) | Free(width) => (width, None),
+            I(width) => (width, Some(fields::integer)),
+            F(width) => (width, Some(fields::tenths)),
+            D(width) => (width, Some(fields::thousandths)),
+        };
+        if let Some(number) = number {
+            found[count] = number(&card[at..at + width]).ok_or(at as u64 + 1)?;
+            count += 1;
         }
+        at += width;
     }
     Ok(found)
 }
@@ -171,7 +180,7 @@ pub fn number_column(label: Label, k: usize) -> u64 {
     for part in layout(label) {
         let (width, number) = match *part {
             X(width) | A(width) | Free(width) => (width, false),
-            I(width) | F(width) => (width, true),
+            I(width) | F(width) | D(width) => (width, true),
         };
         if number {
             if seen == k {
@@ -197,7 +206,8 @@ pub fn record(label: Label, numbers: &[i64], texts: &[&[u8]]) -> Vec<u8> {
                 let value = numbers.next().copied().unwrap_or(0);
                 line.extend(fields::integer_text(value, width).bytes());
             }
-            F(width) => {
+            // No record that is written has D.
+            F(width) | D(width) => {
                 let value = numbers.next().copied().unwrap_or(0);
                 line.extend(fields::tenths_text(value, width).bytes());
             }
@@ -240,7 +250,7 @@ mod tests {
             let width: usize = parts
                 .iter()
                 .map(|p| match *p {
-                    X(w) | A(w) | I(w) | F(w) | Free(w) => w,
+                    X(w) | A(w) | I(w) | F(w) | D(w) | Free(w) => w,
                 })
                 .sum();
             assert_eq!(width, 60, "{text}");

@@ -1,13 +1,15 @@
-//! The second program: an independent, plain implementation of IONEX 1.1,
+//! The second program: an independent, plain implementation of IONEX 1.1 and 1.0,
 //! written from the documents only. It reads text into lent areas, writes a
 //! map set as canonical text, and answers for the value at a place and second.
 //!
 //! "01" in comments is the scope paper and "02" the paper of change requests;
-//! "001" and "000" are the two source documents (IONEX 1.1 and version 1).
+//! "001" and "000" are two source documents (IONEX 1.1 and version 1), and "004" is
+//! that of code biases.
 
 #![forbid(unsafe_code)]
 
 pub mod ask;
+pub mod biases;
 pub mod calendar;
 pub mod delay;
 pub mod fields;

@@ -212,18 +212,20 @@ impl Reader {
             return fault(3, 61);
         }
         let [version, ..] = numbers(Label::Version, card)?;
-        if version != header::VERSION {
+        if !header::version_fits(version) {
             return fault(3, 1);
         }
         if card[20] != header::FILE_TYPE {
             return fault(3, 21);
         }
-        let Some(code) = header::CODES.iter().position(|c| c[..] == card[40..43]) else {
-            return fault(3, 41);
+        let known = header::CODES.iter().position(|c| c[..] == card[40..43]);
+        let code = match known.map(|code| code as i64) {
+            Some(code) if header::code_fits(version, code) => code,
+            _ => return fault(3, 41),
         };
         self.header.version = version;
         self.header.file_type = card[20];
-        self.header.code = code as i64;
+        self.header.code = code;
         self.stage = Stage::Header;
         Ok(())
     }

@@ -196,23 +196,27 @@ fn the_first_record() {
     }
     assert_eq!(outcome_of(&before(1, "  ")), "accepted");
     let version = |body: &str| rec(body, "IONEX VERSION / TYPE");
+    // 02, Ask 7: 1.0 allows two codes more.
+    for code in ["GNS", "GPS", "GLO", "TOP"] {
+        let body = format!("     1.0            I                   {code}");
+        passes(1, &version(&body));
+    }
+    for other in [
+        "     0.9", "     1.2", "    -1.1", "    -1.0", "    10.0", "      .1",
+    ] {
+        let body = format!("{other}            J                   XXX");
+        refuses(1, &version(&body), 3, 1);
+    }
+    for (version_and_type, column) in [("     1.0            J", 21), ("     1.0            I", 41)]
+    {
+        let body = format!("{version_and_type}                   GPX");
+        refuses(1, &version(&body), 3, column);
+    }
     refuses(
         1,
-        &version("     1.0            I                   GNS"),
+        &version("     1.1            I                   GLO"),
         3,
-        1,
-    );
-    refuses(
-        1,
-        &version("    -1.1            I                   GNS"),
-        3,
-        1,
-    );
-    refuses(
-        1,
-        &version("     1.0            J                   XXX"),
-        3,
-        1,
+        41,
     );
     refuses(
         1,

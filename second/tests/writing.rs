@@ -127,7 +127,7 @@ fn exponents_and_starred_records() {
 
 #[test]
 fn header_fields() {
-    refused(|s| s.0.version = 10);
+    refused(|s| s.0.version = 9);
     refused(|s| s.0.file_type = b'i');
     refused(|s| s.0.code = 9);
     refused(|s| s.0.code = -1);
@@ -302,4 +302,24 @@ fn three_dimensions() {
     let mut wrong = lines.clone();
     wrong[21] = wrong[21].replace("450.5", "450.4");
     assert_eq!(outcome_of(&wrong), "refused 8 line 22 column 27");
+}
+
+/// "The writer writes the version it is given" (02, Ask 7), with the codes of that version.
+#[test]
+fn both_versions() {
+    for (version, code, text) in [
+        (10, 10, "1.0"),
+        (10, 9, "1.0"),
+        (10, 4, "1.0"),
+        (11, 8, "1.1"),
+    ] {
+        stays(|set| (set.0.version, set.0.code) = (version, code));
+        let mut set = set();
+        (set.0.version, set.0.code) = (version, code);
+        let written = written(&mut set).unwrap();
+        assert_eq!(&written[..8], format!("     {text}").as_bytes());
+    }
+    for wrong in [(11, 9), (11, 10), (10, 11), (10, -1), (9, 0), (12, 0)] {
+        refused(|set| (set.0.version, set.0.code) = wrong);
+    }
 }

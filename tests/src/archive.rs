@@ -7,7 +7,7 @@ pub use crate::bridge::Archive;
 pub use crate::c::Archive;
 
 /// Each function of the boundary, and whether it comes from the archive.
-pub const FUNCTIONS: [(&str, bool); 12] = [
+pub const FUNCTIONS: [(&str, bool); 13] = [
     ("ionex_read", cfg!(feature = "read")),
     ("ionex_needs", cfg!(feature = "needs")),
     ("ionex_ask", cfg!(feature = "ask")),
@@ -20,4 +20,5 @@ pub const FUNCTIONS: [(&str, bool); 12] = [
     ("ionex_index", cfg!(feature = "index")),
     ("ionex_indexed_node", cfg!(feature = "indexed_node")),
     ("ionex_indexed_block", cfg!(feature = "indexed_block")),
+    ("ionex_biases", cfg!(feature = "biases")),
 ];

@@ -1,6 +1,7 @@
 //! The library's C functions on a machine that does not run x86-64 code: a process under the emulator, made of bridge.c
 //! and the archive, makes the calls. A function that is not linked (see Cargo.toml) is answered by the second program.
 
+use crate::biases::{self, Biases};
 use crate::boundary::{Asked, Boundary, Given, Lent, Plain};
 use crate::indexes::{Indexes, Kept};
 use crate::program;
@@ -24,6 +25,7 @@ const WEEK_ADD: u64 = 8;
 const INDEX: u64 = 9;
 const INDEXED_NODE: u64 = 10;
 const INDEXED_BLOCK: u64 = 11;
+const BIASES: u64 = 12;
 const NUMBERS: usize = 7;
 const AREAS: usize = 25;
 
@@ -174,6 +176,22 @@ impl Indexes for Archive {
         call.give(text);
         call.give_index(kept);
         call.lend(bounds);
+        call.answer()
+    }
+}
+
+impl Biases for Archive {
+    fn biases(&self, text: &[u8], lent: &mut biases::Lent) -> u64 {
+        if !cfg!(feature = "biases") {
+            return Plain.biases(text, lent);
+        }
+        let mut call = Call::new(BIASES, &[]);
+        call.give(text);
+        call.lend(&mut lent.satellites);
+        call.lend(&mut lent.stations);
+        call.lend(&mut lent.names);
+        call.lend(&mut lent.counts);
+        call.lend(&mut lent.place);
         call.answer()
     }
 }

@@ -1,6 +1,7 @@
 //! The library's functions, by the crate's own calls of them (`ionex::ffi`). A function that is not linked (see
 //! Cargo.toml) is answered by the second program.
 
+use crate::biases::{self, Biases};
 use crate::boundary::{Asked, Boundary, Given, Lent};
 use crate::indexes::{Indexes, Kept};
 use crate::weeks::Weeks;
@@ -12,7 +13,7 @@ pub struct Archive;
 /// What is given and lent, as the crate's calls take it.
 #[cfg(feature = "ionex")]
 mod parts {
-    use super::{Asked, Given, Kept, Lent, Node};
+    use super::{biases, Asked, Given, Kept, Lent, Node};
     use ionex::ffi;
 
     pub fn set(given: &Given) -> ffi::Given<'_> {
@@ -80,6 +81,17 @@ mod parts {
             header: &mut kept.header,
             texts: &mut kept.texts,
         }
+    }
+
+    /// And the place.
+    pub fn biases(lent: &mut biases::Lent) -> (ffi::LentBiases<'_>, &mut [u64]) {
+        let areas = ffi::LentBiases {
+            satellites: &mut lent.satellites,
+            stations: &mut lent.stations,
+            names: &mut lent.names,
+            counts: &mut lent.counts,
+        };
+        (areas, &mut lent.place)
     }
 
     pub fn node(node: &Node) -> ffi::Node {
@@ -221,6 +233,19 @@ impl Indexes for Archive {
             "indexed_block",
             ionex::ffi::indexed_block(text, parts::index(kept), parts::node(node), bounds),
             crate::boundary::Plain.indexed_block(text, kept, node, bounds)
+        )
+    }
+}
+
+impl Biases for Archive {
+    fn biases(&self, text: &[u8], lent: &mut biases::Lent) -> u64 {
+        linked!(
+            "biases",
+            {
+                let (areas, place) = parts::biases(lent);
+                ionex::ffi::biases(text, areas, place)
+            },
+            crate::boundary::Plain.biases(text, lent)
         )
     }
 }

@@ -638,8 +638,12 @@ fn version(rng: &mut Rng, page: &mut Page) {
         return;
     };
     match rng.below(7) {
-        0 => page.put(line, 0, b"     1.0"),
-        1 => page.put(line, 0, b"    -1.1"),
+        0 => page.put(line, 0, rng.pick(&[b"     1.0", b"     1.1"])),
+        1 => page.put(
+            line,
+            0,
+            rng.pick(&[b"    -1.1", b"     0.9", b"    10.0", b"     2.0"]),
+        ),
         2 => page.put(line, 20, b"i"),
         3 => page.put(line, 40, rng.pick(&[b"GPS", b"GLO", b"gns", b" GN"])),
         4 => page.put(line, rng.below(20), b"1"),
@@ -874,8 +878,13 @@ pub fn map_set(rng: &mut Rng, set: &mut MapSet) -> bool {
     let areas = &mut set.areas;
     let wide = [i64::from(i32::MIN), i64::from(i32::MAX)];
     match rng.below(30) {
-        0 => header.version = rng.pick(&[0, 10, 12, 110]),
+        0 if rng.once_in(2) => {
+            header.version = 21 - header.version;
+            return header.version == 11 && header.code > 8;
+        }
+        0 => header.version = rng.pick(&[0, 9, 12, 110]),
         1 => header.file_type = rng.pick(b"iG \0\xff"),
+        2 if header.version == 10 => header.code = rng.pick(&[11, 12, 255]),
         2 => header.code = rng.pick(&[9, 10, 255]),
         3 => {
             let old = header.first_epoch;

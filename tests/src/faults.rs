@@ -24,6 +24,11 @@ pub enum Fault {
     // Reading: the header record, its axes (0 heights, 1 latitudes, 2 longitudes;
     // first, last, step) and its starred records.
     Version,
+    /// GPS and GLO under 1.1 too, or not at all; 1.0 read or written as 1.1.
+    GpsInAny,
+    GpsInNone,
+    ReadAsNew,
+    WrittenAsNew,
     FileType,
     Code,
     FirstEpoch,
@@ -132,6 +137,10 @@ pub fn all() -> Vec<Fault> {
         ShortArea,
         ShortNeed,
         Version,
+        GpsInAny,
+        GpsInNone,
+        ReadAsNew,
+        WrittenAsNew,
         FileType,
         Code,
         FirstEpoch,
@@ -244,6 +253,10 @@ impl Library for Faulty {
             }
             Reading::Refused(refusal) => match with_zero(text, refusal) {
                 Some(text) if self.0 == Fault::PointAlone => Second.read(&text, areas),
+                _ if self.0 == Fault::GpsInAny => match as_old(text, refusal) {
+                    Some(text) => Second.read(&text, areas),
+                    None => Reading::Refused(refusal),
+                },
                 _ => self.refused(areas, refusal),
             },
         }
@@ -266,6 +279,10 @@ impl Library for Faulty {
     fn write(&self, set: &MapSet, out: &mut [u8]) -> Result<usize, Refusal> {
         let answer = Second.write(set, out);
         match (self.0, answer) {
+            (Fault::WrittenAsNew, Ok(length)) => {
+                out[7] = b'1';
+                Ok(length)
+            }
             (Fault::WrittenByte, Ok(length)) => {
                 out[length / 2] ^= 1;
                 Ok(length)
@@ -491,6 +508,15 @@ impl Faulty {
                     column: 0,
                 });
             }
+            Fault::GpsInNone if header.code > 8 => {
+                *areas = before;
+                return Reading::Refused(Refusal::Place {
+                    number: 3,
+                    line: 1,
+                    column: 41,
+                });
+            }
+            Fault::ReadAsNew => header.version = 11,
             Fault::Version => header.version += 1,
             Fault::FileType => header.file_type ^= 1,
             Fault::Code => header.code += 1,
@@ -659,12 +685,7 @@ fn with_zero(text: &[u8], refusal: Refusal) -> Option<Vec<u8>> {
     else {
         return None;
     };
-    let before: usize = text
-        .split_inclusive(|&b| b == b'\n')
-        .take(line as usize - 1)
-        .map(<[u8]>::len)
-        .sum();
-    let start = before + column as usize - 1;
+    let start = line_start(text, line) + column as usize - 1;
     [6, 8].into_iter().find_map(|width| {
         let mut changed = text.to_vec();
         let field = changed.get_mut(start..start + width)?;
@@ -676,6 +697,26 @@ fn with_zero(text: &[u8], refusal: Refusal) -> Option<Vec<u8>> {
         field.copy_from_slice(format!("{zero:>width$}").as_bytes());
         Some(changed)
     })
+}
+
+fn line_start(text: &[u8], line: u64) -> usize {
+    let lines = text.split_inclusive(|&b| b == b'\n');
+    lines.take(line as usize - 1).map(<[u8]>::len).sum()
+}
+
+/// The text as one of version 1.0, where its code is what is refused.
+fn as_old(text: &[u8], refusal: Refusal) -> Option<Vec<u8>> {
+    let Refusal::Place {
+        number: 3,
+        line,
+        column: 41,
+    } = refusal
+    else {
+        return None;
+    };
+    let mut changed = text.to_vec();
+    changed[line_start(text, line) + 7] = b'0';
+    Some(changed)
 }
 
 /// The set with the column before the last in the place of the first.

@@ -39,8 +39,10 @@ fn with_columns(rng: &mut Rng, columns: Axis, sizes: [i64; 4]) -> MapSet {
 
 /// A valid map set of so many maps on another's grid that begins where that ends; of one map where the calendar does.
 pub fn later(rng: &mut Rng, set: &MapSet, maps: i64) -> MapSet {
+    let (version, code) = version_and_code(rng);
     let mut header = Header {
-        code: rng.range(0, 8),
+        version,
+        code,
         maps,
         cutoff: edged(rng, 0, 900),
         stations: Count::default(),
@@ -145,10 +147,11 @@ fn columns_and_sizes(rng: &mut Rng) -> (Axis, [i64; 4]) {
 
 fn header(rng: &mut Rng, longitudes: Axis, sizes: [i64; 4]) -> Header {
     let [maps, layers, rows, _] = sizes;
+    let (version, code) = version_and_code(rng);
     let mut header = Header {
-        version: 11,
+        version,
         file_type: b'I',
-        code: rng.range(0, 8),
+        code,
         maps,
         cutoff: edged(rng, 0, 900),
         radius: edged(rng, 10_000, 999_999),
@@ -170,6 +173,12 @@ fn header(rng: &mut Rng, longitudes: Axis, sizes: [i64; 4]) -> Header {
     header.longitudes = longitudes;
     starred(rng, &mut header);
     header
+}
+
+/// A version in tenths and one of its codes.
+fn version_and_code(rng: &mut Rng) -> (i64, i64) {
+    let (version, codes) = rng.pick(&[(11, 9), (11, 9), (10, 11)]);
+    (version, rng.range(0, codes - 1))
 }
 
 /// Records that may stand or not.
@@ -590,7 +599,7 @@ impl Pen<'_> {
 
     fn version(&mut self, header: &Header) {
         let code = second::header::CODES[header.code as usize];
-        let version = self.dec(11, 8);
+        let version = self.dec(header.version, 8);
         let mut body = vec![b' '; 60];
         body[..8].copy_from_slice(version.as_bytes());
         match self.rng.below(3) {

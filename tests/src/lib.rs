@@ -3,6 +3,7 @@
 #![forbid(unsafe_code)]
 
 pub mod archive;
+pub mod biases;
 pub mod boundary;
 #[cfg(not(target_arch = "x86_64"))]
 pub mod bridge;

@@ -5,6 +5,7 @@
 //! compare delays SEED             delays of a week's log and of any carriers, by both, bit for bit
 //! compare weeks COUNT SEED        weeks in figures, by both, and the reports judged
 //! compare indexes COUNT SEED      indexes, nodes and blocks, by both, and the indexes judged
+//! compare biases COUNT SEED       code biases, by both, and those of good texts judged
 //! compare places COUNT SEED       where the damaged texts are refused, for reading
 //! compare program FILE            an executable on every example, against the second program
 //!
@@ -16,7 +17,7 @@
 use compare::archive::{Archive, FUNCTIONS};
 use compare::check::{self, Tally};
 use compare::library::{self, Second};
-use compare::{calls, delays, faults, indexes, program, remarks, weeks};
+use compare::{biases, calls, delays, faults, indexes, program, remarks, weeks};
 use std::path::Path;
 use std::process::ExitCode;
 
@@ -54,7 +55,7 @@ fn main() -> ExitCode {
 
 fn usage() -> ExitCode {
     eprintln!(
-        "usage: compare self-check|libraries|boundary|weeks|indexes|faults|places COUNT SEED"
+        "usage: compare self-check|libraries|boundary|weeks|indexes|biases|faults|places COUNT SEED"
     );
     eprintln!("       compare delays SEED");
     eprintln!("       compare program FILE");
@@ -71,6 +72,7 @@ fn seeded(mode: &str, count: u64, seed: u64) -> Option<Tally> {
         "boundary" if linked() => calls::compare(&Archive, count, seed),
         "weeks" => weeks::compare(&Archive, count, seed),
         "indexes" => indexes::compare(&Archive, count, seed),
+        "biases" => biases::compare(&Archive, count, seed),
         "faults" => planted_faults(count, seed),
         _ => return None,
     })
@@ -123,6 +125,11 @@ fn planted_faults(count: u64, seed: u64) -> Tally {
         let found = indexes::faults::find(fault, count, seed);
         let told = found.map(|(seed, difference)| format!("seed {seed}: {difference}"));
         tell(&mut tally, &format!("{fault:?} of an index"), told);
+    }
+    for fault in biases::faults::FAULTS {
+        let found = biases::faults::find(fault, count, seed);
+        let told = found.map(|(seed, difference)| format!("seed {seed}: {difference}"));
+        tell(&mut tally, &format!("{fault:?} of biases"), told);
     }
     let all = tally.passed + tally.failed;
     println!("{all} faults planted, {} found", tally.passed);

@@ -17,7 +17,7 @@ fn answers_beside_the_texts() {
         .into_iter()
         .filter(|name| !name.starts_with("001"))
         .collect();
-    assert_eq!(names.len(), 20);
+    assert_eq!(names.len(), 21);
     for name in names {
         let text = bytes(&format!("{name}.inx"));
         let expected = bytes(&format!("{name}.expected"));

@@ -189,7 +189,7 @@ fn rows(maps: &MapSet) -> Vec<(String, String)> {
     let mut rows: Vec<(&str, String)> = vec![
         (
             "version",
-            format!("{}, code {}", tenths(header.version), header.code),
+            format!("{}, code {}", header.version, header.code),
         ),
         ("program", maps.program().to_string()),
         ("run by", maps.run_by().to_string()),
@@ -269,7 +269,7 @@ fn json(name: &str, maps: &MapSet) -> Object {
     let header = maps.header();
     let object = Object::new()
         .text("file", name)
-        .raw("version", tenths(header.version))
+        .raw("version", header.version)
         .text("code", header.code.as_str())
         .text("program", maps.program())
         .text("run_by", maps.run_by())

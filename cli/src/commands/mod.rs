@@ -1,6 +1,7 @@
 //! The commands, one to a module.
 
 pub mod ask;
+pub mod biases;
 pub mod canon;
 pub mod check;
 pub mod delay;
@@ -28,6 +29,7 @@ pub struct Command {
 pub const COMMANDS: &[&Command] = &[
     &check::COMMAND,
     &info::COMMAND,
+    &biases::COMMAND,
     &canon::COMMAND,
     &join::COMMAND,
     &week::COMMAND,

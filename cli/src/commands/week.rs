@@ -2,11 +2,12 @@
 
 use super::{check, Command};
 use crate::args::{Args, Options};
+use crate::form::{quoted, Form};
 use crate::json::{array, Object};
 use crate::numbers::counted;
 use crate::output::{tell, Output, Style};
 use crate::progress::Progress;
-use crate::status::{usage, Status, Stop};
+use crate::status::{Status, Stop};
 use crate::{files, refused};
 use ionex::{Answer, Figures, Kind, MapSet, Refusal, SetFigures, Week};
 use std::ffi::OsStr;
@@ -40,20 +41,8 @@ each after the hundredth (60). The order of the files makes no difference to the
 Exit status: 0 all files are in, 1 one is refused, 2 one cannot be read.
 ";
 
-#[derive(Clone, Copy, PartialEq, Eq)]
-enum Form {
-    Table,
-    Json,
-    Csv,
-}
-
 fn run(args: &Args, out: &mut Output) -> Result<Status, Stop> {
-    let form = match (args.has("--json"), args.has("--csv")) {
-        (false, false) => Form::Table,
-        (true, false) => Form::Json,
-        (false, true) => Form::Csv,
-        (true, true) => return usage("--json and --csv are given, but one form is printed"),
-    };
+    let form = Form::of(args)?;
     let files = args.many_files()?;
     let mut progress = Progress::new(format!("of {}", counted(files.len(), "file")), 1);
     let mut week = Week::new();
@@ -266,24 +255,4 @@ fn csv_row(file: &str, map: &str, epoch: &str, kind: Kind, figures: &Figures) ->
         figures.without,
         figures.sum.thousandths()
     )
-}
-
-/// A name with a comma, a quote or a line end stands in quotes.
-fn quoted(name: &str) -> String {
-    if name.contains([',', '"', '\n', '\r']) {
-        return format!("\"{}\"", name.replace('"', "\"\""));
-    }
-    name.to_string()
-}
-
-#[cfg(test)]
-mod tests {
-    use super::*;
-
-    #[test]
-    fn names_in_a_table_of_commas() {
-        assert_eq!(quoted("a b.inx"), "a b.inx");
-        assert_eq!(quoted("a,b"), "\"a,b\"");
-        assert_eq!(quoted("say \"x\""), "\"say \"\"x\"\"\"");
-    }
 }

@@ -37,6 +37,9 @@ fn form(field: &Field) -> String {
         Form::Tenths => {
             format!("a number with a point and one digit more, which stands in column {last}")
         }
+        Form::Thousandths => format!(
+            "a number with a point and three digits more, the last of which stands in column {last}"
+        ),
         Form::Text => "a text".to_string(),
     }
 }

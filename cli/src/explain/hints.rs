@@ -2,7 +2,7 @@
 
 use super::labels;
 use super::missing::values_due;
-use super::records::label_of;
+use super::records::{bias_record_of, label_of};
 use super::state::Stage;
 use super::Place;
 use crate::text;
@@ -58,6 +58,7 @@ pub fn hints(place: &Place) -> Vec<String> {
         stars,
         blanks_behind,
         tab,
+        outside_block,
         label,
     ];
     let found = first.iter().find_map(|hint| hint(place));
@@ -92,9 +93,6 @@ fn version(place: &Place) -> Option<String> {
         return None;
     }
     match place.column {
-        1 if text::number(&place.card, 1, 8) == Some(10) => {
-            Some("this is a file of version 1.0, which is not read; version 1.1 is".to_string())
-        }
         21 => Some(
             "other types are other files: `O` observations, `N` navigation messages".to_string(),
         ),
@@ -220,6 +218,15 @@ fn tab(place: &Place) -> Option<String> {
     let byte = place.bytes.get(place.column.wrapping_sub(1));
     let is_tab = place.number == 2 && byte == Some(&b'\t');
     is_tab.then(|| "write blanks in the place of the tab, as by `expand`".to_string())
+}
+
+/// A bias where no aux block is open.
+fn outside_block(place: &Place) -> Option<String> {
+    let record = bias_record_of(&place.card)?;
+    (place.number == 4).then(|| {
+        let label = record.label;
+        format!("{label} belongs between START OF AUX DATA and END OF AUX DATA, in the header")
+    })
 }
 
 fn label(place: &Place) -> Option<String> {

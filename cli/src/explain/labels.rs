@@ -11,7 +11,13 @@ pub fn version(place: &Place) -> String {
     match record.field_at(place.column) {
         Some(field) => {
             let found = place.found(field.column, field.width);
-            format!("{}: {}, found {found}", field.name, field.accepted)
+            let version_1_0 = text::number(&place.card, 1, 8) == Some(10);
+            let more = if field.column == 41 && version_1_0 {
+                " GPS GLO"
+            } else {
+                ""
+            };
+            format!("{}: {}{more}, found {found}", field.name, field.accepted)
         }
         None => format!("`{}` from column 61 on, in the first record", record.label),
     }

@@ -1,5 +1,6 @@
 //! A refusal in words: what was expected at its place, and what people who met it did.
 
+mod biases;
 mod disagreements;
 mod fields;
 mod hints;
@@ -14,7 +15,7 @@ pub use show::show;
 
 use crate::text::{self, Card};
 use records::Record;
-use state::State;
+use state::{Stage, State};
 
 /// What is told of a refused text beside its number, line and column.
 pub struct Explanation {
@@ -61,6 +62,11 @@ impl Place<'_> {
 pub fn explain(text: &[u8], number: u64, line: u64, column: u64) -> Explanation {
     let bytes = text::line(text, line).unwrap_or(b"");
     let card = text::card(bytes);
+    let state = State::before(text, line);
+    let record = match state.stage {
+        Stage::Aux => records::bias_record_of(&card),
+        _ => records::record_of(&card),
+    };
     let place = Place {
         text,
         number,
@@ -68,8 +74,8 @@ pub fn explain(text: &[u8], number: u64, line: u64, column: u64) -> Explanation 
         column: usize::try_from(column).unwrap_or(0),
         bytes,
         card,
-        record: records::record_of(&card),
-        state: State::before(text, line),
+        record,
+        state,
     };
     Explanation {
         expected: expected(&place),
@@ -84,6 +90,7 @@ fn expected(place: &Place) -> String {
         2 => byte(place),
         3 => labels::version(place),
         4 => labels::unknown(place),
+        5 if place.state.stage == Stage::Aux => biases::twice(place),
         5 => labels::misplaced(place),
         6 => fields::ill_formed(place),
         7 => fields::out_of_range(place),

@@ -1,4 +1,4 @@
-//! The records of IONEX 1.1: labels, fields by column, and what is accepted in each, in words.
+//! The records of IONEX 1.0 and 1.1: labels, fields by column, and what is accepted in each, in words.
 
 use crate::text::{self, Card};
 
@@ -17,6 +17,8 @@ pub enum Form {
     Whole,
     /// Fn.1
     Tenths,
+    /// Fn.3
+    Thousandths,
     /// An
     Text,
 }
@@ -52,7 +54,7 @@ const fn record(label: &'static str, fields: &'static [Field]) -> Record {
     }
 }
 
-use Form::{Tenths, Text, Whole};
+use Form::{Tenths, Text, Thousandths, Whole};
 
 const NOTHING: &[Field] = &[];
 const REMARK: &[Field] = &[field(1, 60, Text, "the remark", "any text")];
@@ -77,7 +79,7 @@ pub const RECORDS: [Record; 32] = [
     record(
         "IONEX VERSION / TYPE",
         &[
-            field(1, 8, Tenths, "the version", "1.1"),
+            field(1, 8, Tenths, "the version", "1.0 or 1.1"),
             field(21, 1, Text, "the type", "`I`, for ionosphere maps"),
             field(
                 41,
@@ -208,6 +210,30 @@ pub const RECORDS: [Record; 32] = [
     record("END OF FILE", NOTHING),
 ];
 
+const SYSTEM: &str = "`G` or a blank for GPS, `R` for GLONASS";
+
+/// The records of a block DIFFERENTIAL CODE BIASES: the map reading knows none of them.
+pub const BIAS_RECORDS: [Record; 2] = [
+    record(
+        "PRN / BIAS / RMS",
+        &[
+            field(4, 1, Text, "the system", SYSTEM),
+            field(5, 2, Whole, "the satellite's number", "1 to 99"),
+            field(7, 10, Thousandths, "the bias", "any number"),
+            field(17, 10, Thousandths, "the RMS", "any number"),
+        ],
+    ),
+    record(
+        "STATION / BIAS / RMS",
+        &[
+            field(4, 1, Text, "the system", SYSTEM),
+            field(7, 20, Text, "the station's name", "any text"),
+            field(27, 10, Thousandths, "the bias", "any number"),
+            field(37, 10, Thousandths, "the RMS", "any number"),
+        ],
+    ),
+];
+
 /// The header records that must stand, beside the version record.
 pub const NEEDED: [&str; 13] = [
     "PGM / RUN BY / DATE",
@@ -227,10 +253,12 @@ pub const NEEDED: [&str; 13] = [
 
 /// The record whose label stands in columns 61 to 80, compared byte by byte.
 pub fn record_of(card: &Card) -> Option<&'static Record> {
-    RECORDS.iter().find(|record| {
-        let (name, padding) = card[60..].split_at(record.label.len());
-        name == record.label.as_bytes() && text::blank(padding)
-    })
+    RECORDS.iter().find(|record| record.labels(card))
+}
+
+/// The same of the records of biases.
+pub fn bias_record_of(card: &Card) -> Option<&'static Record> {
+    BIAS_RECORDS.iter().find(|record| record.labels(card))
 }
 
 /// The label in columns 61 to 80, or nothing where it is none of IONEX.
@@ -239,6 +267,11 @@ pub fn label_of(card: &Card) -> &'static str {
 }
 
 impl Record {
+    fn labels(&self, card: &Card) -> bool {
+        let (name, padding) = card[60..].split_at(self.label.len());
+        name == self.label.as_bytes() && text::blank(padding)
+    }
+
     /// The field that a column lies in.
     pub fn field_at(&self, column: usize) -> Option<&'static Field> {
         let holds = |field: &&Field| (field.column..field.column + field.width).contains(&column);
@@ -267,7 +300,7 @@ mod tests {
 
     #[test]
     fn fields_rise_within_60_columns() {
-        for record in &RECORDS {
+        for record in RECORDS.iter().chain(&BIAS_RECORDS) {
             let mut end = 1;
             for field in record.fields {
                 assert!(field.column >= end, "{}", record.label);

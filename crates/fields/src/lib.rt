@@ -3,7 +3,7 @@ ghost use mathlib.Core.Bool.{true};
 ghost use mathlib.Core.List.{[], _∷_, _++_};
 ghost use Prim.Native.Nat.{_+_, _-_, _<_, _≤_};
 ghost use lib.ListN.{length, getD};
-ghost use Rattle.forms.specs.Form.{I, F1, decimal, numeral, signed, dot};
+ghost use Rattle.forms.specs.Form.{I, F1, F3, decimal, numeral, signed, dot};
 ghost use Rattle.forms.specs.Read.{readField, isNumber};
 ghost use Rattle.forms.specs.Columns.{columns, firstNotBlank, further};
 ghost use Rattle.forms.specs.Rows.{threeAt, sixOf};
@@ -202,6 +202,14 @@ pub fn tenths_at(line: &[u8], a: usize, n: usize) -> Field
     ensures { λ r. ⌜ r ≡ readField F1 (columns (now (line .entry)) a n) ⌝ }
 {
     number_at(line, a, n, 1)
+}
+
+// The form Fn.3, in thousandths.
+pub fn thousandths_at(line: &[u8], a: usize, n: usize) -> Field
+    requires { ⌜ (a ≤ 80) × (n ≤ 10) ⌝ }
+    ensures { λ r. ⌜ r ≡ readField F3 (columns (now (line .entry)) a n) ⌝ }
+{
+    number_at(line, a, n, 3)
 }
 
 // Three fields of six columns after the first a.

@@ -29,6 +29,10 @@ I = decimal 0
 abbrev pub F1 : Form
 F1 = decimal 1
 
+-- Fn.3
+abbrev pub F3 : Form
+F3 = decimal 3
+
 -- Fn.1 as canonical text has it, with a digit before the point
 abbrev pub W1 : Form
 W1 = record { after = 1; least = 1 }

@@ -6,6 +6,7 @@ use Prim.Native.Nat.{ℕ, zero, suc}
 use lib.ListN.{getD, set}
 use lib.IntN.{ℤ, pos}
 use Rattle.kit.specs.Answer.{Answer, ok, refused, bind, amap}
+use Rattle.mapset.specs.declared.Version.{Version}
 use Rattle.mapset.specs.declared.Header.{Header}
 use Rattle.mapset.specs.declared.Texts.{Texts}
 use Rattle.mapset.specs.Header.{Content, count, tenths, epoch, axis, program, mapping, observables, system, Said, words, if-stands}
@@ -24,6 +25,10 @@ use Rattle.gathered.specs.declared.Stepped.{Stepped}
 
 abbrev pub nil : Value
 nil = record { number = 0; satellites = 0; second = 0; axis = axis-of (pos 0) (pos 0) (pos 0) }
+
+-- any version record: times, model, grid and systems of a header do not ask which
+abbrev pub any-version : Version
+any-version = record { tenths = 0; kind = 0; code = 0 }
 
 -- what the state holds for a record with the content k at place i
 abbrev pub said : State → ℕ → Content → Said
@@ -69,8 +74,8 @@ toldNext (Refused n c) s = refused (fault n c)
 abbrev pub told : Stepped → Answer Fault Went
 told r = toldNext (r .next) (r .state)
 
--- the same of `reading`, under a version record with the code c, with `got` got so far
-abbrev pub gone : ℕ → Slots → Turn → Went
+-- the same of `reading`, under the version record c, with `got` got so far
+abbrev pub gone : Version → Slots → Turn → Went
 gone c got (more a e got′) = went a e got′
 gone c got done = ended (made c got) (made-texts got)
 
@@ -79,5 +84,5 @@ unfoldable pub kept : State → ℕ → Answer Fault Said → Answer Fault Went
 kept s i x = bind x (λ y. ok (went (mode (s .aux)) (s .exponent) (set (slots-of s) i (some y))))
 
 -- what `reading` does with a row
-unfoldable pub stepped : State → ℕ → List ℕ → Answer Fault Went
+unfoldable pub stepped : State → Version → List ℕ → Answer Fault Went
 stepped s c r = amap (gone c (slots-of s)) (head-step c (mode (s .aux)) (s .exponent) (slots-of s) r)

@@ -16,7 +16,7 @@ ghost use Rattle.reading.specs.Read.{nothing-yet};
 ghost use Rattle.reading.specs.ScanLaws.{blank-to};
 ghost use Rattle.records.specs.Records.{toldHeard, entry, first-of};
 ghost use Rattle.records.specs.Tables.{kind-of, Numbers};
-ghost use Rattle.gathered.specs.Got.{slots-of, told, kept};
+ghost use Rattle.gathered.specs.Got.{any-version, slots-of, told, kept};
 use forms::Found;
 use mapset::Axis;
 use mapset::Counted;
@@ -275,7 +275,7 @@ fn system_in(s: State, i: usize) -> System
 }
 
 fn times_of(s: State) -> Times
-    ensures { λ r. ⌜ r ≡ made 0 (slots-of s) .times ⌝ }
+    ensures { λ r. ⌜ r ≡ made any-version (slots-of s) .times ⌝ }
 {
     Times {
         first: second_in(s, 1),
@@ -286,7 +286,7 @@ fn times_of(s: State) -> Times
 }
 
 fn model_of(s: State) -> Model
-    ensures { λ r. ⌜ r ≡ made 0 (slots-of s) .model ⌝ }
+    ensures { λ r. ⌜ r ≡ made any-version (slots-of s) .model ⌝ }
 {
     Model {
         cutoff: number_in(s, 6),
@@ -296,7 +296,7 @@ fn model_of(s: State) -> Model
 }
 
 fn grid_of(s: State) -> Grid
-    ensures { λ r. ⌜ r ≡ made 0 (slots-of s) .grid ⌝ }
+    ensures { λ r. ⌜ r ≡ made any-version (slots-of s) .grid ⌝ }
 {
     Grid {
         heights: axis_in(s, 12),
@@ -306,7 +306,7 @@ fn grid_of(s: State) -> Grid
 }
 
 fn systems_of(s: State) -> Systems
-    ensures { λ r. ⌜ r ≡ made 0 (slots-of s) .systems ⌝ }
+    ensures { λ r. ⌜ r ≡ made any-version (slots-of s) .systems ⌝ }
 {
     Systems {
         g: system_in(s, 15),
@@ -319,16 +319,12 @@ fn systems_of(s: State) -> Systems
     }
 }
 
-// The header record of what was got, under a version record with this code.
-pub fn header_of(s: State, code: u32) -> Header
-    ensures { λ r. ⌜ r ≡ made code (slots-of s) ⌝ }
+// The header record of what was got, under this version record.
+pub fn header_of(s: State, version: Version) -> Header
+    ensures { λ r. ⌜ r ≡ made version (slots-of s) ⌝ }
 {
     Header {
-        version: Version {
-            tenths: 11,
-            kind: b'I',
-            code: code,
-        },
+        version: version,
         times: times_of(s),
         model: model_of(s),
         grid: grid_of(s),

@@ -6,6 +6,7 @@ use lib.ListN.{length, take, drop, replicate}
 use lib.IntN.{ℤ}
 use Rattle.kit.specs.Answer.{Answer, refused, amap}
 use Rattle.kit.specs.Range.{Within}
+use Rattle.mapset.specs.declared.Version.{Version}
 use Rattle.mapset.specs.declared.Header.{Header}
 use Rattle.mapset.specs.declared.Texts.{Texts}
 use Rattle.mapset.specs.Grid.{heights, latitudes, longitudes, AxisRules, Limits}
@@ -38,6 +39,7 @@ pub record LeadsRow (t : List ℕ) (at n start end next m : ℕ) : Type 0 where
   pub fits : end - start ≤ 80
   pub whole : end ≤ length t
   pub ahead : start < next
+  pub behind : end ≤ next
   pub within : next ≤ length t
   pub passed : m ≤ start
   pub on : feed (suc n) (split (drop at t)) ≡ row (suc m) (pad (take (end - start) (drop start t))) (feed (suc (suc m)) (split (drop next t)))
@@ -76,22 +78,22 @@ opened (Accepted h e at n) x t =
 
 -- ---- a row of the header
 
--- what is read from a state of the header on, under a version record with the code c
-abbrev pub from-state : ℕ → State → List ℕ → ℕ → ℕ → Answer Why MapSet
+-- what is read from a state of the header on, under the version record c
+abbrev pub from-state : Version → State → List ℕ → ℕ → ℕ → Answer Why MapSet
 from-state c s t at n = heading c (mode (s .aux)) (s .exponent) (slots-of s) (feed (suc n) (split (drop at t)))
 
-pub record Goes (t : List ℕ) (c : ℕ) (s : State) (at n : ℕ) (s′ : State) (at′ n′ : ℕ) : Type 0 where
+pub record Goes (t : List ℕ) (c : Version) (s : State) (at n : ℕ) (s′ : State) (at′ n′ : ℕ) : Type 0 where
   pub same : from-state c s t at n ≡ from-state c s′ t at′ n′
   pub ahead : at < at′
   pub within : at′ ≤ length t
   pub passed : n′ ≤ at′
   pub got : Got (slots-of s′)
 
-pub record Stops (t : List ℕ) (c : ℕ) (s : State) (at n : ℕ) (s′ : State) (a : Headed) : Type 0 where
+pub record Stops (t : List ℕ) (c : Version) (s : State) (at n : ℕ) (s′ : State) (a : Headed) : Type 0 where
   pub same : from-state c s t at n ≡ opened a (texts-of s′) t
   pub sound : Sound t a
 
-abbrev pub Passes : List ℕ → ℕ → State → ℕ → ℕ → Onward → State → Type 0
+abbrev pub Passes : List ℕ → Version → State → ℕ → ℕ → Onward → State → Type 0
 Passes t c s at n (Onward.On at′ n′) s′ = Goes t c s at n s′ at′ n′
 Passes t c s at n (Onward.Stop a) s′ = Stops t c s at n s′ a
 

@@ -12,6 +12,7 @@ use lib.Seq.{drop-drop}
 use lib.IntN.{ℤ, negsuc}
 use Rattle.kit.specs.Answer.{Answer, ok, refused, bind, amap, pick, yields}
 use Rattle.kit.specs.Range.{Within}
+use Rattle.mapset.specs.declared.Version.{Version}
 use Rattle.mapset.specs.declared.Header.{Header}
 use Rattle.mapset.specs.declared.Texts.{Texts}
 use Rattle.mapset.specs.MapSet.{MapSet}
@@ -26,7 +27,7 @@ use Rattle.reading.specs.Maps.{short, run}
 use Rattle.reading.specs.declared.Place.the-variants.{Between}
 use Rattle.reading.specs.Head.{Turn, more, done, number-in, axis-in, made, made-texts, head-step, heading}
 use Rattle.reading.specs.SlotLaws.{Fit, fit-no, fit, fit-none, complete-at}
-use Rattle.reading.specs.Read.{nothing-yet, code-of, begin, read}
+use Rattle.reading.specs.Read.{nothing-yet, version-of, begin, read}
 use Rattle.reading.specs.HeadLaws.{Got, Ends, fine-step}
 use Rattle.gathered.specs.Got.{slots-of, texts-of, mode, Went, went, ended, gone, toldNext, stepped}
 use Rattle.head.specs.Opened.{LeadsRow, HeaderFits, Sound, opened, Goes, Stops, Passes, onward, beside, Opens}
@@ -72,6 +73,7 @@ module _ (t : List ℕ) (from passed at n : ℕ) (z : Reach t from passed at n) 
         fits = omega arith;
         whole = u;
         ahead = omega arith;
+        behind = omega (arith, k .inside);
         within = v;
         passed = omega arith;
         on = z .same ∙ k .on (suc n) ∙ (λ i. row (suc n) (pad (take (sym e i) (drop at t))) (feed (suc (suc n)) (split (drop-drop next at t i))));
@@ -79,25 +81,25 @@ module _ (t : List ℕ) (from passed at n : ℕ) (z : Reach t from passed at n) 
 
 -- ---- a row by what the step tells
 
-gone-ok : (c : ℕ) (got : Slots) (w : Went) (x : Answer Fault Turn) → ok w ≡ amap (gone c got) x → (t : Turn) × ((x ≡ ok t) × (w ≡ gone c got t))
+gone-ok : (c : Version) (got : Slots) (w : Went) (x : Answer Fault Turn) → ok w ≡ amap (gone c got) x → (t : Turn) × ((x ≡ ok t) × (w ≡ gone c got t))
 unfolding amap
 gone-ok c got w (ok t) e = (t, (refl, cc))
 gone-ok c got w (refused f) e = let z : _≡_ {A = ℕ} 0 1 = cc in absurd (omega arith)
 
-gone-no : (c : ℕ) (got : Slots) (f : Fault) (x : Answer Fault Turn) → refused f ≡ amap (gone c got) x → x ≡ refused f
+gone-no : (c : Version) (got : Slots) (f : Fault) (x : Answer Fault Turn) → refused f ≡ amap (gone c got) x → x ≡ refused f
 unfolding amap
 gone-no c got f (ok t) e = let z : _≡_ {A = ℕ} 0 1 = cc in absurd (omega arith)
 gone-no c got f (refused g) e = cc
 
-went-more : (c : ℕ) (got : Slots) (a : Mode) (e : ℤ) (got′ : Slots) (t : Turn) → went a e got′ ≡ gone c got t → t ≡ more a e got′
+went-more : (c : Version) (got : Slots) (a : Mode) (e : ℤ) (got′ : Slots) (t : Turn) → went a e got′ ≡ gone c got t → t ≡ more a e got′
 went-more c got a e got′ (more a₁ e₁ g₁) q = cc
 went-more c got a e got′ done q = let z : _≡_ {A = ℕ} 0 1 = cc in absurd (omega arith)
 
-went-done : (c : ℕ) (got : Slots) (h : Header) (x : Texts) (t : Turn) → ended h x ≡ gone c got t → (t ≡ done) × ((h ≡ made c got) × (x ≡ made-texts got))
+went-done : (c : Version) (got : Slots) (h : Header) (x : Texts) (t : Turn) → ended h x ≡ gone c got t → (t ≡ done) × ((h ≡ made c got) × (x ≡ made-texts got))
 went-done c got h x (more a₁ e₁ g₁) q = let z : _≡_ {A = ℕ} 0 1 = cc in absurd (omega arith)
 went-done c got h x done q = (refl, (cc, cc))
 
-module _ (c : ℕ) (a : Mode) (e : ℤ) (got : Slots) (n : ℕ) (r : List ℕ) (f : Feed) where
+module _ (c : Version) (a : Mode) (e : ℤ) (got : Slots) (n : ℕ) (r : List ℕ) (f : Feed) where
   heading-more : (a′ : Mode) (e′ : ℤ) (got′ : Slots) → head-step c a e got r ≡ ok (more a′ e′ got′) → heading c a e got (row n r f) ≡ heading c a′ e′ got′ f
   unfolding heading bind on-line
   heading-more a′ e′ got′ q = rw q refl
@@ -124,7 +126,7 @@ maps-fit : (o : Option Said) → Fit (count 1 300) o → ¬ (o ≡ none) → Wit
 maps-fit none fit-no n = absurd (n refl)
 maps-fit (some s) (fit (a-count w)) n = w
 
-header-fits : (c : ℕ) (got : Slots) (r : List ℕ) → Got got → Ends c got r → HeaderFits (made c got)
+header-fits : (c : Version) (got : Slots) (r : List ℕ) → Got got → Ends c got r → HeaderFits (made c got)
 unfolding made
 header-fits c got r g x =
     let n : (i : ℕ) → getD starred i true ≡ false → ¬ (getD got i none ≡ none) = λ i. complete-at starred got i (x .complete) in
@@ -143,7 +145,7 @@ header-fits c got r g x =
 abbrev pub after-all : ℕ → ℕ
 after-all n = pick (decLe (suc n) 18446744073709551615) (suc n) 18446744073709551615
 
-module _ (t : List ℕ) (c : ℕ) (s : State) (at n : ℕ) where
+module _ (t : List ℕ) (c : Version) (s : State) (at n : ℕ) where
   pub stops-over : (m l : ℕ) → feed (suc n) (split (drop at t)) ≡ over (suc m) → l ≡ after-all m → Stops t c s at n s (Refused 10 l 0)
   unfolding opened heading short
   stops-over m l e f =
@@ -158,7 +160,7 @@ module _ (t : List ℕ) (c : ℕ) (s : State) (at n : ℕ) where
 
 -- ---- the three ways of a row
 
-module _ (t : List ℕ) (c : ℕ) (s : State) (at n start end next m : ℕ) (z : LeadsRow t at n start end next m) (g : Got (slots-of s)) where
+module _ (t : List ℕ) (c : Version) (s : State) (at n start end next m : ℕ) (z : LeadsRow t at n start end next m) (g : Got (slots-of s)) where
   abbrev here : List ℕ
   here = pad (take (end - start) (drop start t))
 
@@ -224,7 +226,7 @@ module _ (t : List ℕ) (c : ℕ) (s : State) (at n start end next m : ℕ) (z :
 
 -- nothing was got yet
 pub begins : (s : State) → slots-of s ≡ nothing-yet → s .aux ≡ false → s .exponent ≡ negsuc 0
-    → Got (slots-of s) × ((c : ℕ) (f : Feed) → heading c plain (negsuc 0) nothing-yet f ≡ heading c (mode (s .aux)) (s .exponent) (slots-of s) f)
+    → Got (slots-of s) × ((c : Version) (f : Feed) → heading c plain (negsuc 0) nothing-yet f ≡ heading c (mode (s .aux)) (s .exponent) (slots-of s) f)
 begins s e a x = (
   subst Got (sym e) (record { sized = refl; fit = fit-none 22 }),
   λ c f. λ i. heading c (mode (sym a i)) (sym x i) (sym e i) f,
@@ -266,13 +268,13 @@ module _ (t : List ℕ) where
     unfolding read
     first-row = ap begin (z .on)
 
-    pub first-no : (k y : ℕ) → refused (fault k y) ≡ code-of (pad (take (end - start) (drop start t))) → (x : Texts) → read t ≡ opened (Refused k (m + 1) y) x t
+    pub first-no : (k y : ℕ) → refused (fault k y) ≡ version-of (pad (take (end - start) (drop start t))) → (x : Texts) → read t ≡ opened (Refused k (m + 1) y) x t
     unfolding begin bind on-line opened
     first-no k y e x = first-row ∙ (rw (← e) refl) ∙ ap (λ (l : ℕ). refused (why k l y)) (sym (add-one m))
 
-    pub first-coded : (c : ℕ) → ok c ≡ code-of (pad (take (end - start) (drop start t))) → read t ≡ heading c plain (negsuc 0) nothing-yet (feed (suc (m + 1)) (split (drop next t)))
+    pub first-versioned : (c : Version) → ok c ≡ version-of (pad (take (end - start) (drop start t))) → read t ≡ heading c plain (negsuc 0) nothing-yet (feed (suc (m + 1)) (split (drop next t)))
     unfolding begin bind on-line
-    first-coded c e = first-row ∙ (rw (← e) refl) ∙ ap (λ (l : ℕ). heading c plain (negsuc 0) nothing-yet (feed (suc l) (split (drop next t)))) (sym (add-one m))
+    first-versioned c e = first-row ∙ (rw (← e) refl) ∙ ap (λ (l : ℕ). heading c plain (negsuc 0) nothing-yet (feed (suc l) (split (drop next t)))) (sym (add-one m))
 
 -- what is read from later on is read from the start
 pub continues : (f g : Answer Why MapSet) (t : List ℕ) (r : HeaderRead) → f ≡ g → Opens g t r → Opens f t r

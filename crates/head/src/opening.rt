@@ -21,10 +21,11 @@ use gathered::Next;
 use gathered::State;
 use lines::Line;
 use mapset::Texts;
-use version::Coded;
+use mapset::Version;
+use version::Versioned;
 
 // The next line that is not blank.
-fn row_from(text: &[u8], from: usize, passed: u64) -> Ahead
+pub fn row_from(text: &[u8], from: usize, passed: u64) -> Ahead
     requires { ⌜ (from ≤ length (now text)) × (passed ≤ from) ⌝ }
     ensures { λ r. ⌜ Leads (now (text .entry)) from passed r ⌝ }
 {
@@ -51,7 +52,7 @@ fn row_from(text: &[u8], from: usize, passed: u64) -> Ahead
 }
 
 // The number of the line after n lines; a line number is at most 18,446,744,073,709,551,615.
-fn line_after(n: u64) -> u64
+pub fn line_after(n: u64) -> u64
     ensures { λ r. ⌜ r ≡ pick (decLe (suc n) 18446744073709551615) (suc n) 18446744073709551615 ⌝ }
 {
     if n < 18446744073709551615 {
@@ -72,9 +73,9 @@ fn led_to(turn: Next, exponent: i32, next: usize, n: u64) -> Onward
 }
 
 // One row of the header, and what it leads to.
-fn pass(s: State, code: u32, text: &[u8], from: usize, passed: u64) -> Passed
+fn pass(s: State, version: Version, text: &[u8], from: usize, passed: u64) -> Passed
     requires { ⌜ (from ≤ length (now text)) × (passed ≤ from) × Got (slots-of s) ⌝ }
-    ensures { λ r. ⌜ Passes (now (text .entry)) code s from passed (r .onward) (r .state) ⌝ }
+    ensures { λ r. ⌜ Passes (now (text .entry)) version s from passed (r .onward) (r .state) ⌝ }
 {
     match row_from(text, from, passed) {
         Ahead::Over(n) => Passed {
@@ -86,7 +87,7 @@ fn pass(s: State, code: u32, text: &[u8], from: usize, passed: u64) -> Passed
             state: s,
         },
         Ahead::Line(start, end, next, n) => {
-            let r = headlines::step(s, code, &text[start..end]);
+            let r = headlines::step(s, version, &text[start..end]);
             let turn = r.next;
             let t = r.state;
             Passed {
@@ -142,15 +143,15 @@ fn handed(answer: Headed, s: State) -> HeaderRead
 }
 
 // The header after its version record.
-fn header_from(text: &[u8], from: usize, passed: u64, code: u32) -> HeaderRead
+fn header_from(text: &[u8], from: usize, passed: u64, version: Version) -> HeaderRead
     requires { ⌜ (from ≤ length (now text)) × (passed ≤ from) ⌝ }
-    ensures { λ r. ⌜ Opens (heading code plain (negsuc 0) nothing-yet (feed (suc passed) (split (drop from (now (text .entry)))))) (now (text .entry)) r ⌝ }
+    ensures { λ r. ⌜ Opens (heading version plain (negsuc 0) nothing-yet (feed (suc passed) (split (drop from (now (text .entry)))))) (now (text .entry)) r ⌝ }
 {
     let mut s = gathered::nothing();
     let mut at = from;
     let mut n = passed;
     loop {
-        let r = pass(s, code, text, at, n);
+        let r = pass(s, version, text, at, n);
         let onward = r.onward;
         let t = r.state;
         match onward {
@@ -182,9 +183,9 @@ pub fn read_header(text: &[u8]) -> HeaderRead
     match row_from(text, 0, 0) {
         Ahead::Over(n) => refusal(10, line_after(n), 0),
         Ahead::Bad(number, line, column) => refusal(number, line, column),
-        Ahead::Line(start, end, next, n) => match version::version_code(&text[start..end]) {
-            Coded::Refused(number, column) => refusal(number, n + 1, column),
-            Coded::Code(code) => header_from(text, next, n + 1, code),
+        Ahead::Line(start, end, next, n) => match version::version_of(&text[start..end]) {
+            Versioned::Refused(number, column) => refusal(number, n + 1, column),
+            Versioned::As(version) => header_from(text, next, n + 1, version),
         },
     }
 }

@@ -44,7 +44,7 @@ regroup : (a b c d e f g h i l : List (List ℕ))
 regroup a b c d e f g h i l = simp append-assoc
 
 pub header-rows : (h : Header) (t : Texts)
-    → version-row (h .version .code) ∷ head-rows order (says h t) (row-of header-end tt ∷ []) ≡ first-rows h t ++ (middle-rows h t ++ (systems-rows (h .systems) ++ last-rows (h .model) (h .grid)))
+    → version-row (h .version) ∷ head-rows order (says h t) (row-of header-end tt ∷ []) ≡ first-rows h t ++ (middle-rows h t ++ (systems-rows (h .systems) ++ last-rows (h .model) (h .grid)))
 unfolding head-rows slot-row pick decLt decLe row-of row-at names first-rows middle-rows systems-rows last-rows
 header-rows h t =
     let s = h .systems in

@@ -39,7 +39,7 @@ system-rows j s = if-stands (s .stands) (system-row j s)
 -- IONEX VERSION / TYPE to # OF MAPS IN FILE
 unfoldable pub first-rows : Header → Texts → List (List ℕ)
 first-rows h t =
-    version-row (h .version .code)
+    version-row (h .version)
     ∷ program-row t
     ∷ epoch-row 4 (h .times .first)
     ∷ epoch-row 5 (h .times .last)

@@ -74,7 +74,7 @@ fn put_first(out: &mut [u8], at: usize, header: Header, texts: Texts) -> usize
     requires { ⌜ HeaderSays header texts × Room at (said.first-rows header texts) ⌝ }
     ensures { λ r. ⌜ Put (now (out .entry)) at (said.first-rows header texts) (now (out .exit)) r ⌝ }
 {
-    let version = headrows::version_row(header.version.code as usize);
+    let version = headrows::version_row(header.version);
     let program = headrows::program_row(texts);
     let a = rows::put_line(out, at, &version);
     let b = rows::put_line(out, a, &program);
@@ -125,8 +125,8 @@ fn put_last(out: &mut [u8], at: usize, model: Model, grid: Grid) -> usize
 
 // Where the first map's line starts.
 pub fn put_header(out: &mut [u8], at: usize, header: Header, texts: Texts) -> usize
-    requires { ⌜ HeaderSays header texts × Room at (canon.version-row (header .version .code) ∷ head-rows order (says header texts) (row-of header-end tt ∷ [])) ⌝ }
-    ensures { λ r. ⌜ Put (now (out .entry)) at (canon.version-row (header .version .code) ∷ head-rows order (says header texts) (row-of header-end tt ∷ [])) (now (out .exit)) r ⌝ }
+    requires { ⌜ HeaderSays header texts × Room at (canon.version-row (header .version) ∷ head-rows order (says header texts) (row-of header-end tt ∷ [])) ⌝ }
+    ensures { λ r. ⌜ Put (now (out .entry)) at (canon.version-row (header .version) ∷ head-rows order (says header texts) (row-of header-end tt ∷ [])) (now (out .exit)) r ⌝ }
 {
     let a = put_first(out, at, header, texts);
     let b = put_middle(out, a, header, texts);

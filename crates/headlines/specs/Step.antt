@@ -7,6 +7,7 @@ use native.Mathlib.Decide.{ℕ-discrete}
 use lib.Dec.{eqb, ltb}
 use lib.ListN.{getD}
 use Rattle.kit.specs.Answer.{Answer, ok, refused, need, bind, amap}
+use Rattle.mapset.specs.declared.Version.{Version}
 use Rattle.mapset.specs.Header.{system as a-system, starred, Said}
 use Rattle.mapset.specs.Decisions.{dimension?, limits?}
 use Rattle.layout.specs.Labels.{content, letters}
@@ -19,7 +20,7 @@ use Rattle.gathered.specs.Got.{slots-of, mode, Went, went, ended, gone, kept}
 use Rattle.gathered.specs.declared.State.{State}
 
 -- END OF HEADER with its columns blank: 9, 8, 7
-unfoldable pub ended-in : ℕ → Slots → Answer Fault Went
+unfoldable pub ended-in : Version → Slots → Answer Fault Went
 ended-in c got =
     need (complete? starred got) missing
     (need (dimension? (made c got .model .dimension) (made c got .grid .heights)) (fault 8 0)
@@ -47,7 +48,7 @@ unfoldable pub by-letter : State → List ℕ → Answer Fault Went
 by-letter s r = system-at s r (place ℕ-discrete (getD r 5 32) letters)
 
 -- what is done at a label, by its number in the table of actions
-unfoldable pub acted : ℕ → ℕ → State → ℕ → List ℕ → Answer Fault Went
+unfoldable pub acted : ℕ → ℕ → State → Version → List ℕ → Answer Fault Went
 acted n i s c r =
     cond (eqb n 1) (ok (went plain (s .exponent) (slots-of s)))
     (cond (eqb n 2) (exponent-in s r)

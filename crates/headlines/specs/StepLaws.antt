@@ -11,6 +11,7 @@ use borrow.Author.Tests.{eqb-true, eqb-false}
 use lib.ListN.{length, getD, set, drop, replicate, List·getD-map}
 use lib.IntN.{ℤ}
 use Rattle.kit.specs.Answer.{Answer, ok, refused, need, need-yes, need-no, bind, amap, get, pick-yes, pick-no, same}
+use Rattle.mapset.specs.declared.Version.{Version}
 use Rattle.mapset.specs.declared.Header.{Header}
 use Rattle.mapset.specs.Grid.{Limits}
 use Rattle.mapset.specs.Header.{Content, system as a-system, starred, Said, Dimension}
@@ -53,7 +54,7 @@ same-slots s a e = refl
 
 -- ---- END OF HEADER: 9, 8, 7
 
-pub end-is : (c : ℕ) (got : Slots) (line : List ℕ) → length line ≤ 80 → amap (gone c got) (on-end c got (pad line)) ≡ unless (blank-to line 0 60) (ended-in c got)
+pub end-is : (c : Version) (got : Slots) (line : List ℕ) → length line ≤ 80 → amap (gone c got) (on-end c got (pad line)) ≡ unless (blank-to line 0 60) (ended-in c got)
 unfolding on-end ended-in
 end-is c got line fits =
     amap-bind (gone c got) (fields header-end (pad line)) _
@@ -67,7 +68,7 @@ end-is c got line fits =
     ∙ ap (need (limits? (made c got .times .maps) (made c got .grid)) (fault 7 0)) (unfold amap in refl))))
 
 -- h is the header record of what was got
-module _ (s : State) (c : ℕ) where
+module _ (s : State) (c : Version) where
   pub lacking : ¬ Complete starred (slots-of s) → ended-in c (slots-of s) ≡ refused missing
   unfolding ended-in
   lacking n = need-no (complete? starred (slots-of s)) missing _ n
@@ -103,11 +104,11 @@ module _ (s : State) (i : ℕ) (x : Answer Fault Said) (inside : i < 22) where
       need-no (none? (getD (slots-of s) i none)) (fault 5 61) (kept s i x)
       (λ q. let p : some (said s i (content i)) ≡ none = sym (stands s i inside e) ∙ q in let z : _≡_ {A = ℕ} 0 1 = cc in omega arith)
 
-gone-refused : (c : ℕ) (got : Slots) (w : Fault) → amap (gone c got) (refused w) ≡ refused w
+gone-refused : (c : Version) (got : Slots) (w : Fault) → amap (gone c got) (refused w) ≡ refused w
 unfolding amap
 gone-refused c got w = refl
 
-module _ (s : State) (c : ℕ) (shut : s .aux ≡ false) where
+module _ (s : State) (c : Version) (shut : s .aux ≡ false) where
   gone-more : (e : ℤ) (g : Slots) → amap {W = Fault} (gone c (slots-of s)) (ok (more plain e g)) ≡ ok (went (mode (s .aux)) e g)
   unfolding amap
   gone-more e g = ap (λ (b : Bool). ok (went (mode b) e g)) (sym shut)
@@ -140,7 +141,7 @@ letter-is s line j b e f = ap (system-at s (pad line)) (f ∙ ap (λ (x : ℕ). 
 
 -- ---- what is done at a label, by its number in the table of actions
 
-module _ (s : State) (c : ℕ) (r : List ℕ) (shut : s .aux ≡ false) where
+module _ (s : State) (c : Version) (r : List ℕ) (shut : s .aux ≡ false) where
   exponent-is : amap (gone c (slots-of s)) (at-head c (s .exponent) (slots-of s) exponent r) ≡ exponent-in s r
   unfolding at-head exponent-in int-in
   exponent-is =
@@ -173,7 +174,7 @@ module _ (s : State) (c : ℕ) (r : List ℕ) (shut : s .aux ≡ false) where
 
 -- ---- a row
 
-module _ (s : State) (c : ℕ) (line : List ℕ) (fits : length line ≤ 80) where
+module _ (s : State) (c : Version) (line : List ℕ) (fits : length line ≤ 80) where
   pub unknown-is : s .aux ≡ false → 32 ≤ number-of line → stepped s c (pad line) ≡ refused (fault 4 61)
   unfolding stepped head-step get amap
   unknown-is shut h = rw (ap mode shut, label-unknown line fits h) refl

@@ -20,6 +20,7 @@ use forms::Found;
 use gathered::Next;
 use gathered::State;
 use gathered::Stepped;
+use mapset::Version;
 use mapset::axes;
 use records::One;
 use records::Two;
@@ -188,13 +189,13 @@ fn at_exponent(s: State, line: &[u8]) -> Stepped
 }
 
 // END OF HEADER with its columns blank: a record is missing, the dimension disagrees, the grid is too large.
-fn ended(s: State, code: u32) -> Stepped
-    ensures { λ r. ⌜ told r ≡ ended-in code (slots-of s) ⌝ }
+fn ended(s: State, version: Version) -> Stepped
+    ensures { λ r. ⌜ told r ≡ ended-in version (slots-of s) ⌝ }
 {
     if !gathered::complete(s) {
         return gathered::refuse(s, 9, 0);
     }
-    let header = gathered::header_of(s, code);
+    let header = gathered::header_of(s, version);
     let model = header.model;
     let times = header.times;
     let grid = header.grid;
@@ -212,20 +213,20 @@ fn ended(s: State, code: u32) -> Stepped
     }
 }
 
-fn at_end(s: State, code: u32, line: &[u8]) -> Stepped
+fn at_end(s: State, version: Version, line: &[u8]) -> Stepped
     requires { ⌜ length (now line) ≤ 80 ⌝ }
-    ensures { λ r. ⌜ told r ≡ amap (gone code (slots-of s)) (on-end code (slots-of s) (pad (now (line .entry)))) ⌝ }
+    ensures { λ r. ⌜ told r ≡ amap (gone version (slots-of s)) (on-end version (slots-of s) (pad (now (line .entry)))) ⌝ }
 {
     match fields::first_not_blank(line, 0, 60) {
         Found::At(column) => gathered::refuse(s, 6, column as u64),
-        Found::Nowhere => ended(s, code),
+        Found::Nowhere => ended(s, version),
     }
 }
 
 // A record with the k-th label, outside aux blocks.
-fn by_label(s: State, code: u32, k: usize, line: &[u8]) -> Stepped
+fn by_label(s: State, version: Version, k: usize, line: &[u8]) -> Stepped
     requires { ⌜ (k < 32) × (length (now line) ≤ 80) × (s .aux ≡ false) ⌝ }
-    ensures { λ r. ⌜ told r ≡ acted (getD (map action labels) k 0) (getD (map place-at labels) k 0) s code (pad (now (line .entry))) ⌝ }
+    ensures { λ r. ⌜ told r ≡ acted (getD (map action labels) k 0) (getD (map place-at labels) k 0) s version (pad (now (line .entry))) ⌝ }
 {
     let action = ACTIONS[k];
     let place = PLACES[k];
@@ -239,7 +240,7 @@ fn by_label(s: State, code: u32, k: usize, line: &[u8]) -> Stepped
             t.aux = true;
             more(t)
         }
-        6 => at_end(s, code, line),
+        6 => at_end(s, version, line),
         _ => gathered::refuse(s, 5, 61),
     }
 }
@@ -257,9 +258,9 @@ fn in_aux(s: State, k: usize) -> Stepped
 }
 
 // A line that is clean and not blank.
-pub fn step(s: State, code: u32, line: &[u8]) -> Stepped
+pub fn step(s: State, version: Version, line: &[u8]) -> Stepped
     requires { ⌜ length (now line) ≤ 80 ⌝ }
-    ensures { λ r. ⌜ told r ≡ stepped s code (pad (now (line .entry))) ⌝ }
+    ensures { λ r. ⌜ told r ≡ stepped s version (pad (now (line .entry))) ⌝ }
 {
     let k = labels::label_of(line);
     if s.aux {
@@ -268,5 +269,5 @@ pub fn step(s: State, code: u32, line: &[u8]) -> Stepped
     if 32 <= k {
         return gathered::refuse(s, 4, 61);
     }
-    by_label(s, code, k, line)
+    by_label(s, version, k, line)
 }

@@ -9,13 +9,14 @@ use lib.ListN.{length, take, drop, getD, set, replicate, length-append}
 use Rattle.forms.specs.Form.{I, W1}
 use Rattle.forms.specs.Show.{showField}
 use Rattle.forms.specs.ShowLaws.{show-width}
+use Rattle.mapset.specs.declared.Version.{Version}
 use Rattle.layout.specs.Labels.{codes, bytes, name, version}
 use Rattle.layout.proofs.Laws.{every-at}
 use Rattle.writer.specs.Canon.{columns-of, version-row}
 use Rattle.rowtext.proofs.RowLaws.{field-next, longer}
 use Rattle.headrows.specs.HeadRows.{eight, twenties, four, sixty, letter-counts}
 
-pub code-length : (k : ℕ) → k < 9 → length (getD codes k []) ≡ 3
+pub code-length : (k : ℕ) → k < 11 → length (getD codes k []) ≡ 3
 code-length k h = eqb→eq _ _ (every-at (λ (l : List ℕ). eqb (length l) 3) codes tt k h)
 
 -- a text of w bytes takes w of the blanks behind p
@@ -58,19 +59,19 @@ module _ (n r₀ : List ℕ) (e₀ : r₀ ≡ replicate 60 32 ++ n) where
       let f₁ = e₁ ∙ field-next p (showField I 6 x) n (set r₀ 5 b) 6 6 48 refl f₀ in
       e₂ ∙ field-next (p ++ showField I 6 x) (showField I 6 y) n r₁ 12 6 42 (longer p I x 6 6 refl) f₁ ∙ simp (append-assoc, append-nil)
 
-pub version-filled : (r₀ r₁ r₂ r₃ : List ℕ) (c : ℕ) → c < 9 → r₀ ≡ replicate 60 32 ++ name version
-    → r₁ ≡ take 0 r₀ ++ (showField W1 8 (pos 11) ++ drop 8 r₀) → r₂ ≡ take 20 r₁ ++ (bytes "IONOSPHERE MAPS" ++ drop 35 r₁)
-    → r₃ ≡ take 40 r₂ ++ (getD codes c [] ++ drop (40 + length (getD codes c [])) r₂) → r₃ ≡ version-row c
+pub version-filled : (r₀ r₁ r₂ r₃ : List ℕ) (v : Version) → v .code < 11 → r₀ ≡ replicate 60 32 ++ name version
+    → r₁ ≡ take 0 r₀ ++ (showField W1 8 (pos (v .tenths)) ++ drop 8 r₀) → r₂ ≡ take 20 r₁ ++ (bytes "IONOSPHERE MAPS" ++ drop 35 r₁)
+    → r₃ ≡ take 40 r₂ ++ (getD codes (v .code) [] ++ drop (40 + length (getD codes (v .code) [])) r₂) → r₃ ≡ version-row v
 unfolding version-row
-version-filled r₀ r₁ r₂ r₃ c h e₀ e₁ e₂ e₃ =
+version-filled r₀ r₁ r₂ r₃ v h e₀ e₁ e₂ e₃ =
     let n = name version in
-    let v : List ℕ = showField W1 8 (pos 11) in
-    let p₁ : List ℕ = v ++ replicate 12 32 in
+    let t : List ℕ = showField W1 8 (pos (v .tenths)) in
+    let p₁ : List ℕ = t ++ replicate 12 32 in
     let p₂ : List ℕ = p₁ ++ bytes "IONOSPHERE MAPS     " in
-    let l₁ : length p₁ ≡ 20 = length-append v (replicate 12 32) ∙ omega (arith, show-width W1 8 (pos 11)) in
+    let l₁ : length p₁ ≡ 20 = length-append t (replicate 12 32) ∙ omega (arith, show-width W1 8 (pos (v .tenths))) in
     let l₂ : length p₂ ≡ 40 = length-append p₁ (bytes "IONOSPHERE MAPS     ") ∙ omega arith in
-    let f₁ : r₁ ≡ p₁ ++ (replicate 40 32 ++ n) = e₁ ∙ field-next [] v n r₀ 0 8 52 refl e₀ ∙ sym (append-assoc v (replicate 12 32) (replicate 40 32 ++ n)) in
+    let f₁ : r₁ ≡ p₁ ++ (replicate 40 32 ++ n) = e₁ ∙ field-next [] t n r₀ 0 8 52 refl e₀ ∙ sym (append-assoc t (replicate 12 32) (replicate 40 32 ++ n)) in
     let f₂ : r₂ ≡ p₂ ++ (replicate 20 32 ++ n) =
     e₂ ∙ field-next p₁ (bytes "IONOSPHERE MAPS") n r₁ 20 15 25 l₁ f₁ ∙ append-assoc p₁ (bytes "IONOSPHERE MAPS") (replicate 25 32 ++ n)
     ∙ sym (append-assoc p₁ (bytes "IONOSPHERE MAPS     ") (replicate 20 32 ++ n)) in
-    text-next p₂ (getD codes c []) n r₂ r₃ 40 3 17 (code-length c h) l₂ f₂ e₃ ∙ simp append-assoc
+    text-next p₂ (getD codes (v .code) []) n r₂ r₃ 40 3 17 (code-length (v .code) h) l₂ f₂ e₃ ∙ simp append-assoc

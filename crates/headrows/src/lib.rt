@@ -5,18 +5,20 @@ ghost use Rattle.writer.specs.Canon as canon;
 ghost use Rattle.headrows.specs.HeadRows as said;
 use mapset::System;
 use mapset::Texts;
+use mapset::Version;
 
 // In 01's order.
 const LETTERS: [u8; 7] = *b"GRECJIS";
 
-// 1.1, then `IONOSPHERE MAPS` in columns 21 to 35, then the code.
-pub fn version_row(code: usize) -> [u8; 80]
-    requires { ⌜ code < 9 ⌝ }
-    ensures { λ r. ⌜ r ≡ canon.version-row code ⌝ }
+// The version, then `IONOSPHERE MAPS` in columns 21 to 35, then the code.
+pub fn version_row(version: Version) -> [u8; 80]
+    requires { ⌜ (version .tenths < 2 ^ 31) × (version .code < 11) ⌝ }
+    ensures { λ r. ⌜ r ≡ canon.version-row version ⌝ }
 {
+    let code = version.code as usize;
     let text = labels::CODES[code];
     let mut row = rowtext::blank_row(0);
-    numerals::put_tenths(&mut row, 0, 8, 11);
+    numerals::put_tenths(&mut row, 0, 8, version.tenths as i32);
     rowtext::put_text(&mut row, 20, b"IONOSPHERE MAPS");
     rowtext::put_text(&mut row, 40, &text);
     row

@@ -45,7 +45,7 @@ pub fn all_within(low: u8, high: u8, bytes: &[u8]) -> bool
 fn version_fits(v: Version) -> bool
     ensures { λ r. ⌜ r ≡ truth (version? v) ⌝ }
 {
-    (v.tenths == 11) & ((v.kind == 73) & (v.code < 9))
+    within(10, 11, v.tenths) & ((v.kind == 73) & mapset::takes_code(v.tenths, v.code))
 }
 
 fn texts_fit(t: Texts) -> bool

@@ -1,5 +1,6 @@
-// The public functions: reading, writing, asking, delays, joining, the week and the index; and an epoch moved, for other languages. Each answers on every input, and asks nothing of its caller.
+// The public functions: reading, writing, asking, delays, joining, the week, the index and a text's biases; and an epoch moved, for other languages. Each answers on every input, and asks nothing of its caller.
 pub mod asking;
+pub mod biases;
 pub mod delays;
 pub mod indexing;
 pub mod joiner;

@@ -43,8 +43,8 @@ pub const LABELS: [[u8; 20]; 32] = [
     *b"END OF FILE         ",
 ];
 
-// The codes of the version record, in 01's order.
-pub const CODES: [[u8; 3]; 9] = [
+// The codes of the version record: the nine of 1.1 in 01's order, and then the two that 1.0 has besides.
+pub const CODES: [[u8; 3]; 11] = [
     *b"BEN",
     *b"ENV",
     *b"ERS",
@@ -54,10 +54,12 @@ pub const CODES: [[u8; 3]; 9] = [
     *b"MIX",
     *b"NNS",
     *b"TOP",
+    *b"GPS",
+    *b"GLO",
 ];
 
 // Whether columns 61 to 80 hold a label.
-fn has_label(line: &[u8], label: &[u8; 20]) -> bool
+pub fn has_label(line: &[u8], label: &[u8; 20]) -> bool
     requires { ⌜ length (now label) ≡ 20 ⌝ }
     ensures { λ r. ⌜ r ≡ holds (now (line .entry)) 60 (now (label .entry)) ⌝ }
 {

@@ -99,10 +99,11 @@ labels =
     ∷ system ∷ head 10 ∷ head 11 ∷ head 12 ∷ head 13 ∷ head 14 ∷ exponent ∷ aux-start ∷ aux-end ∷ header-end
     ∷ start Tec ∷ end Tec ∷ start Rms ∷ end Rms ∷ start Height ∷ end Height ∷ epoch ∷ block ∷ file-end ∷ []
 
--- the codes of the version record, and the letters of SYS / #STA / #SAT
+-- the codes of the version record, the nine of 1.1 and then the two that 1.0 has besides; and the letters of SYS / #STA / #SAT
 abbrev pub codes : List (List ℕ)
 codes =
-    bytes "BEN" ∷ bytes "ENV" ∷ bytes "ERS" ∷ bytes "GEO" ∷ bytes "GNS" ∷ bytes "IRI" ∷ bytes "MIX" ∷ bytes "NNS" ∷ bytes "TOP" ∷ []
+    bytes "BEN" ∷ bytes "ENV" ∷ bytes "ERS" ∷ bytes "GEO" ∷ bytes "GNS" ∷ bytes "IRI" ∷ bytes "MIX" ∷ bytes "NNS" ∷ bytes "TOP"
+    ∷ bytes "GPS" ∷ bytes "GLO" ∷ []
 
 abbrev pub letters : List ℕ
 letters = bytes "GRECJIS"

@@ -197,7 +197,7 @@ pub data Heads (m : MapSet) : Mode → ℤ → Slots → List (List ℕ) → Typ
 -- the version record comes first; the exponent starts at -1
 pub data Rows (m : MapSet) : List (List ℕ) → Type 0 where
   rows-of : {r : List ℕ} {rs : List (List ℕ)}
-      → VersionRules (m .header .version) → Rec version (pos 11, (73 ∷ [], (getD codes (m .header .version .code) [], tt))) r
+      → VersionRules (m .header .version) → Rec version (pos (m .header .version .tenths), (73 ∷ [], (getD codes (m .header .version .code) [], tt))) r
       → Heads m plain (negsuc 0) (says (m .header) (m .texts)) rs → Rows m (r ∷ rs)
 
 -- `Makes m t`: the map set m makes the text t

@@ -7,15 +7,16 @@ use lib.IntN.{ℤ}
 use Rattle.forms.specs.Form as form
 use Rattle.forms.specs.Form.{Spells}
 
--- an item of a layout, as 01 writes it: Iw, Fw.1, wX, Aw, and w columns that are not looked at
+-- an item of a layout, as 01 writes it: Iw, Fw.1, Fw.3, wX, Aw, and w columns that are not looked at
 pub data Item : Type 0 where
-  I F X A U : ℕ → Item
+  I F D X A U : ℕ → Item
 
--- the values that a layout holds: numbers (of Fw.1 in tenths) and texts
+-- the values that a layout holds: numbers (of Fw.1 in tenths, of Fw.3 in thousandths) and texts
 abbrev pub Vals : List Item → Type 0
 Vals [] = Unit {0}
 Vals (I w ∷ is) = ℤ × Vals is
 Vals (F w ∷ is) = ℤ × Vals is
+Vals (D w ∷ is) = ℤ × Vals is
 Vals (X w ∷ is) = Vals is
 Vals (A w ∷ is) = List ℕ × Vals is
 Vals (U w ∷ is) = Vals is
@@ -27,6 +28,8 @@ pub data Fields : (is : List Item) → Vals is → List ℕ → Type 0 where
       → Spells form.I w z bs → Fields is vs rest → Fields (I w ∷ is) (z, vs) (bs ++ rest)
   f-tenths : {w : ℕ} {z : ℤ} (bs : List ℕ) {is : List Item} {vs : Vals is} {rest : List ℕ}
       → Spells form.F1 w z bs → Fields is vs rest → Fields (F w ∷ is) (z, vs) (bs ++ rest)
+  f-thousandths : {w : ℕ} {z : ℤ} (bs : List ℕ) {is : List Item} {vs : Vals is} {rest : List ℕ}
+      → Spells form.F3 w z bs → Fields is vs rest → Fields (D w ∷ is) (z, vs) (bs ++ rest)
   f-blank : {w : ℕ} {is : List Item} {vs : Vals is} {rest : List ℕ} → Fields is vs rest → Fields (X w ∷ is) vs (replicate w 32 ++ rest)
   f-text : {w : ℕ} (bs : List ℕ) {is : List Item} {vs : Vals is} {rest : List ℕ}
       → length bs ≡ w → Fields is vs rest → Fields (A w ∷ is) (bs, vs) (bs ++ rest)

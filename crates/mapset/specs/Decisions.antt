@@ -5,7 +5,7 @@ use lib.IntN.{ℤ, pos, negsuc, natAbs, _-ℤ_}
 use Rattle.kit.specs.Answer.{×-dec, ⊎-dec, ¬-dec}
 use Rattle.kit.specs.Integer.{int?, le?, lt?, between?}
 use Rattle.mapset.specs.Grid.{Line, heights, latitudes, longitudes, End, Step, Multiple, Together, layers, rows, columns, Limits}
-use Rattle.mapset.specs.Header.{Dimension}
+use Rattle.mapset.specs.Header.{TakesCode, Dimension}
 use Rattle.mapset.specs.Areas.{Follows}
 use Rattle.mapset.specs.declared.Axis.{Axis}
 use Rattle.mapset.specs.declared.Grid.{Grid}
@@ -49,6 +49,9 @@ together? longitudes a =
 unfoldable pub limits? : (n : ℕ) (g : Grid) → Dec (Limits n g)
 limits? n g =
     ×₄-dec (decLe (rows g) 361) (decLe (columns g) 721) (decLe (layers g) 64) (decLe (n * layers g * rows g * columns g) 2000000)
+
+abbrev pub takes-code? : (tenths code : ℕ) → Dec (TakesCode tenths code)
+takes-code? tenths code = ⊎-dec (decLt code 9) (×-dec (ℕ-discrete tenths 10) (decLt code 11))
 
 unfoldable pub dimension? : (d : ℕ) (a : Axis) → Dec (Dimension d a)
 dimension? d a = ⊎-dec (×-dec (ℕ-discrete d 2) (int? (a .step) (pos 0))) (×-dec (ℕ-discrete d 3) (¬-dec (int? (a .step) (pos 0))))

@@ -134,11 +134,15 @@ pub record Fillers (h : Header) : Type 0 where
   pub i : SystemFilled (h .systems .i)
   pub s : SystemFilled (h .systems .s)
 
--- the version record: 1.1, `I`, one of the nine codes
+-- a version's codes, by their places: the nine, and under 1.0 GPS and GLO besides
+abbrev pub TakesCode : ℕ → ℕ → Type 0
+TakesCode v c = (c < 9) ⊎ ((v ≡ 10) × (c < 11))
+
+-- the version record: 1.0 or 1.1, `I`, one of that version's codes
 pub record VersionRules (v : Version) : Type 0 where
-  pub tenths : v .tenths ≡ 11
+  pub tenths : Within 10 11 (v .tenths)
   pub kind : v .kind ≡ 73
-  pub code : v .code < 9
+  pub code : TakesCode (v .tenths) (v .code)
 
 -- dimension 2 exactly when DHGT is 0
 abbrev pub Dimension : ℕ → Axis → Type 0

@@ -12,10 +12,10 @@ use Rattle.kit.specs.Range.{Within, within?}
 use Rattle.kit.specs.Truth.{dec-by}
 use Rattle.calendar.specs.Calendar.{end}
 use Rattle.mapset.specs.Grid.{Line, heights, latitudes, longitudes, AxisRules, Limits}
-use Rattle.mapset.specs.Header.{Written, Dimension}
+use Rattle.mapset.specs.Header.{Written, TakesCode, Dimension}
 use Rattle.mapset.specs.Areas.{Areas, blocks, values, value-need, Run}
 use Rattle.mapset.specs.declared.Kind.the-variants as K
-use Rattle.mapset.specs.Decisions.{end?, step?, together?, dimension?, limits?, follows?}
+use Rattle.mapset.specs.Decisions.{end?, step?, together?, takes-code?, dimension?, limits?, follows?}
 use Rattle.mapset.specs.declared.Axis.{Axis}
 use Rattle.mapset.specs.declared.Grid.{Grid}
 use Rattle.mapset.specs.declared.Version.{Version}
@@ -30,7 +30,7 @@ use Rattle.mapset.specs.declared.Lengths.{Lengths}
 -- ---- the groups of a header
 
 abbrev pub VersionSays : Version → Type 0
-VersionSays v = (v .tenths ≡ 11) × ((v .kind ≡ 73) × (v .code < 9))
+VersionSays v = Within 10 11 (v .tenths) × ((v .kind ≡ 73) × TakesCode (v .tenths) (v .code))
 
 -- the bytes of a text field
 abbrev pub Printable : List ℕ → Type 0
@@ -67,7 +67,7 @@ HeaderSays h t =
 
 -- ---- the same as decisions
 unfoldable pub version? : (v : Version) → Dec (VersionSays v)
-version? v = ×-dec (ℕ-discrete (v .tenths) 11) (×-dec (ℕ-discrete (v .kind) 73) (decLt (v .code) 9))
+version? v = ×-dec (within? 10 11 (v .tenths)) (×-dec (ℕ-discrete (v .kind) 73) (takes-code? (v .tenths) (v .code)))
 
 unfoldable pub printable? : (t : List ℕ) → Dec (Printable t)
 printable? t = all-dec (within? 32 126) t

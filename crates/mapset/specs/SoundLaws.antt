@@ -1,6 +1,7 @@
 -- The groups of Sound hold exactly when `Sound` of Areas holds.
 use mathlib.Core.Path.{_≡_, refl, sym, _∙_}
 use mathlib.Core.Bool.{Bool, true, false}
+use mathlib.Core.Logic.{inl, inr}
 use mathlib.Core.List.{List, [], _∷_}
 use mathlib.Core.Option.{Option, some}
 use Prim.Native.Nat.{ℕ, suc, _+_, _*_, _≤_, _<_}
@@ -16,7 +17,7 @@ use Rattle.kit.specs.Range.{Within, within?}
 use Rattle.kit.specs.Truth.{truth, holds, fails, tells, truth-same, eq-tells, dec-by}
 use Rattle.calendar.specs.Calendar.{end}
 use Rattle.mapset.specs.Grid.{Line, AxisRules, Limits, nodes, layers, rows, columns}
-use Rattle.mapset.specs.Header.{Content, count, tenths, epoch, axis, program, mapping, observables, system, Said, number, along, words, counts, Written, Accepts, a-count, a-tenths, a-epoch, a-axis, a-program, a-mapping, a-observables, a-system, if-stands, Filled, Stand, stand-end, stand-some, stand-none, HeaderRules}
+use Rattle.mapset.specs.Header.{Content, count, tenths, epoch, axis, program, mapping, observables, system, Said, number, along, words, counts, Written, Accepts, a-count, a-tenths, a-epoch, a-axis, a-program, a-mapping, a-observables, a-system, if-stands, Filled, TakesCode, Stand, stand-end, stand-some, stand-none, HeaderRules}
 use Rattle.mapset.specs.declared.Kind.the-variants as K
 use Rattle.mapset.specs.Areas.{Areas, present?, nowhere?, values, value-need, Follows, EpochRules, Sound}
 use Rattle.mapset.specs.Judged.{judged}
@@ -28,6 +29,11 @@ use Rattle.mapset.specs.declared.Header.{Header}
 use Rattle.mapset.specs.declared.Texts.{Texts}
 use Rattle.mapset.specs.declared.axes.Judged.{Judged}
 use Rattle.mapset.specs.declared.axes.Judged.the-variants as J
+
+-- a code that a version takes is one of the list's eleven
+pub takes-known : {v c : ℕ} → TakesCode v c → c < 11
+takes-known (inl h) = omega arith
+takes-known (inr h) = h .1
 
 -- ---- what a record's content accepts, one law for each content
 took-count : {low high n : ℕ} → Accepts (count low high) (number n) → Within low high n

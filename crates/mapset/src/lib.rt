@@ -1,13 +1,23 @@
 // The map set's header record, as document 01 lists it: each field looked at, and which starred records stand.
 // The field of a starred record that does not stand holds 0.
+ghost use mathlib.Core.Path.{_≡_};
+ghost use Rattle.kit.specs.Truth.{truth};
+ghost use Rattle.mapset.specs.Decisions.{takes-code?};
 
 pub mod axes;
 
-// The version record: version in tenths, type, and the code's place in 01's list.
+// The version record: version in tenths, type, and the code's place in the list of codes.
 pub struct Version {
     pub tenths: u32,
     pub kind: u8,
     pub code: u32,
+}
+
+// Whether a version has the code of this place: the nine, and under 1.0 GPS and GLO besides.
+pub fn takes_code(tenths: u32, code: u32) -> bool
+    ensures { λ r. ⌜ r ≡ truth (takes-code? tenths code) ⌝ }
+{
+    (code < 9) | ((tenths == 10) & (code < 11))
 }
 
 // The epochs of the first and the last TEC map in seconds from 1900, INTERVAL, and the number of TEC maps.

@@ -142,7 +142,7 @@ pub fn put_header(out: &mut [i64], h: Header)
     put_starred(out, h);
 }
 
-fn copy_at(from: &[u8], out: &mut [u8], at: usize)
+pub fn copy_at(from: &[u8], out: &mut [u8], at: usize)
     requires { ⌜ at + length (now from) ≤ length (now out) ⌝ }
     ensures { λ _. ⌜ now (out .exit) ≡ sets (now (out .entry)) at (now (from .entry)) ⌝ }
 {

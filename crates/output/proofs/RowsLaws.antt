@@ -139,8 +139,8 @@ module _ (h : Header) (a : Areas) (l : Long h a) (u : h .times .maps ≤ length 
       ∙ (λ i. rows-are Tec (negsuc 0) i ++ second-rows (force-is Tec (negsuc 0) i))
       ∙ ap (λ r. area-rows h a Tec (negsuc 0) ++ r) (y (area-force h a Tec (negsuc 0)))
 
-  pub canon-are : (t : Texts) → canon-rows (nested h t a) ≡ (version-row (h .version .code) ∷ head-rows order (says h t) (row-of header-end tt ∷ [])) ++ all-rows h a
+  pub canon-are : (t : Texts) → canon-rows (nested h t a) ≡ (version-row (h .version) ∷ head-rows order (says h t) (row-of header-end tt ∷ [])) ++ all-rows h a
   unfolding canon-rows
   canon-are t =
-      ap (λ r. version-row (h .version .code) ∷ head-rows order (says h t) (row-of header-end tt ∷ r)) (maps-are t)
-      ∙ ap (λ r. version-row (h .version .code) ∷ r) (head-rest order (says h t) (row-of header-end tt ∷ []) (all-rows h a))
+      ap (λ r. version-row (h .version) ∷ head-rows order (says h t) (row-of header-end tt ∷ r)) (maps-are t)
+      ∙ ap (λ r. version-row (h .version) ∷ r) (head-rest order (says h t) (row-of header-end tt ∷ []) (all-rows h a))

@@ -168,7 +168,7 @@ module _ (h : Header) (t : Texts) (a : Areas) (v : Valid h t a) where
       omega (
         arith,
         ap length (canon-are h a (sound-long h t a (v .sound)) (v .sound .room .epochs) t),
-        length-append (version-row (h .version .code) ∷ b) (all-rows h a),
+        length-append (version-row (h .version) ∷ b) (all-rows h a),
         head-count order (says h t) (row-of header-end tt ∷ []),
         length-append x (y ++ (z ++ e)),
         length-append y (z ++ e),

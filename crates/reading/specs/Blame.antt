@@ -15,16 +15,17 @@ use Rattle.forms.specs.declared.Field.{Field}
 use Rattle.forms.specs.declared.Field.the-variants.{Number, Bad}
 use Rattle.mapset.specs.declared.Kind.{Kind}
 use Rattle.mapset.specs.declared.Kind.the-variants.{Tec, Rms, Height}
+use Rattle.mapset.specs.declared.Version.{Version}
 use Rattle.mapset.specs.declared.Header.{Header}
 use Rattle.mapset.specs.Header.{Content, count, tenths, epoch as an-epoch, axis, program, mapping, observables, system as a-system, Said}
-use Rattle.layout.specs.Records.{Item, I, F, X, A, U, Vals}
+use Rattle.layout.specs.Records.{Item, I, F, D, X, A, U, Vals}
 use Rattle.layout.specs.Labels.{Label, version, description, comment, system, exponent, aux-start, aux-end, header-end, epoch, block, file-end, head, start, end, items, content, layout}
 use Rattle.layout.specs.Layout.{Force, Slots, Mode, plain, aux}
 use Rattle.reading.specs.Feed.{Fault, fault}
 use Rattle.reading.specs.Fields.{number, blank, scan, fields, cells}
 use Rattle.reading.specs.Maps.{Step, on-date, loose, on-comment, on-exponent, start-tec, start-other, start-map, on-start, end-map, on-end, epoch-tec, epoch-other, on-epoch, open-block, on-block, on-file, taken, step}
 use Rattle.reading.specs.Head.{meant, once, on-system, on-end as on-header-end, at-head, head-step}
-use Rattle.reading.specs.Read.{code-of}
+use Rattle.reading.specs.Read.{versioned, version-of}
 use Rattle.reading.specs.declared.Place.{Place}
 use Rattle.reading.specs.declared.Place.the-variants.{Ended, Between, Early, Inside}
 
@@ -85,6 +86,7 @@ unfolding scan
 scan-blames c [] bs = b-ok
 scan-blames c (I w ∷ is) bs = number-blames (λ c. refl) _ c (λ z. amap-blames _ (scan-blames (c + w) is (drop w bs)))
 scan-blames c (F w ∷ is) bs = number-blames (λ c. refl) _ c (λ z. amap-blames _ (scan-blames (c + w) is (drop w bs)))
+scan-blames c (D w ∷ is) bs = number-blames (λ c. refl) _ c (λ z. amap-blames _ (scan-blames (c + w) is (drop w bs)))
 scan-blames c (X w ∷ is) bs = blank-blames (λ c. refl) _ c (scan-blames (c + w) is (drop w bs))
 scan-blames c (A w ∷ is) bs = amap-blames _ (scan-blames (c + w) is (drop w bs))
 scan-blames c (U w ∷ is) bs = scan-blames (c + w) is (drop w bs)
@@ -201,7 +203,7 @@ meant-blames mapping v = b-ok
 meant-blames observables v = b-ok
 meant-blames a-system v = need-blames _ _ tt (need-blames _ _ tt b-ok)
 
-module _ (c : ℕ) (e : ℤ) (got : Slots) (r : List ℕ) where
+module _ (c : Version) (e : ℤ) (got : Slots) (r : List ℕ) where
   once-blames : (i : ℕ) {x : Answer Fault Said} → Blames Later x → Blames Later (once e got i x)
   unfolding once
   once-blames i b = need-blames _ _ tt (bind-blames b (λ s. b-ok))
@@ -237,8 +239,8 @@ module _ (c : ℕ) (e : ℤ) (got : Slots) (r : List ℕ) where
 abbrev pub First : Fault → Type 0
 First f = (f .number ≡ 3) ⊎ (f .number ≡ 6)
 
-pub code-blames : (r : List ℕ) → Blames First (code-of r)
-unfolding code-of
-code-blames r =
+pub version-blames : (r : List ℕ) → Blames First (version-of r)
+unfolding version-of versioned
+version-blames r =
     need-blames _ _ (inl refl) (bind-blames (blames-map (λ w p. inr p) (fields-blame version r)) (λ v.
-    need-blames _ _ (inl refl) (need-blames _ _ (inl refl) (get-blames _ _ (inl refl) (λ c. b-ok)))))
+    need-blames _ _ (inl refl) (need-blames _ _ (inl refl) (get-blames _ _ (inl refl) (λ c. need-blames _ _ (inl refl) b-ok)))))

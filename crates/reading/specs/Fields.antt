@@ -10,7 +10,7 @@ use Rattle.forms.specs.Form as form
 use Rattle.forms.specs.Read.{readField}
 use Rattle.forms.specs.declared.Field.{Field}
 use Rattle.forms.specs.declared.Field.the-variants.{Number, Bad}
-use Rattle.layout.specs.Records.{Item, I, F, X, A, U, Vals}
+use Rattle.layout.specs.Records.{Item, I, F, D, X, A, U, Vals}
 use Rattle.layout.specs.Labels.{Label, name, layout, labels}
 use Rattle.reading.specs.Feed.{Fault, fault}
 
@@ -41,6 +41,7 @@ unfoldable pub scan : (c : ℕ) (is : List Item) → List ℕ → Answer Fault (
 scan c [] bs = ok tt
 scan c (I w ∷ is) bs = number (readField form.I (take w bs)) c (λ z. amap (λ vs. (z, vs)) (scan (c + w) is (drop w bs)))
 scan c (F w ∷ is) bs = number (readField form.F1 (take w bs)) c (λ z. amap (λ vs. (z, vs)) (scan (c + w) is (drop w bs)))
+scan c (D w ∷ is) bs = number (readField form.F3 (take w bs)) c (λ z. amap (λ vs. (z, vs)) (scan (c + w) is (drop w bs)))
 scan c (X w ∷ is) bs = blank (take w bs) c (scan (c + w) is (drop w bs))
 scan c (A w ∷ is) bs = amap (λ vs. (take w bs, vs)) (scan (c + w) is (drop w bs))
 scan c (U w ∷ is) bs = scan (c + w) is (drop w bs)

@@ -13,6 +13,7 @@ use Rattle.kit.specs.Range.{natural?}
 use Rattle.mapset.specs.declared.Axis.{Axis}
 use Rattle.mapset.specs.declared.Counted.{Counted}
 use Rattle.mapset.specs.declared.System.{System}
+use Rattle.mapset.specs.declared.Version.{Version}
 use Rattle.mapset.specs.declared.Header.{Header}
 use Rattle.mapset.specs.declared.Texts.{Texts}
 use Rattle.mapset.specs.Header.{Content, count, tenths, epoch as an-epoch, axis, program, mapping, observables, system as a-system, starred, Said, number, along, words, counts}
@@ -114,11 +115,11 @@ system-in (some (along a)) = record { stands = false; stations = 0; satellites =
 system-in (some (words ws)) = record { stands = false; stations = 0; satellites = 0 }
 system-in (some (counts a b)) = record { stands = true; stations = a; satellites = b }
 
--- the header record of what was got, under a version record with the code c
-unfoldable pub made : ℕ → Slots → Header
+-- the header record of what was got, under the version record c
+unfoldable pub made : Version → Slots → Header
 made c got =
     record {
-      version = record { tenths = 11; kind = 73; code = c };
+      version = c;
       times = record {
         first = number-in (getD got 1 none);
         last = number-in (getD got 2 none);
@@ -167,7 +168,7 @@ on-system e got r none = bind (fields system r) (λ v. refused (fault 7 6))
 on-system e got r (some j) = once e got (systems + j) (bind (fields system r) (meant a-system))
 
 -- END OF HEADER: 9, 8, 7
-unfoldable pub on-end : ℕ → Slots → List ℕ → Answer Fault Turn
+unfoldable pub on-end : Version → Slots → List ℕ → Answer Fault Turn
 on-end c got r =
     bind (fields header-end r)
     (λ v. need (complete? starred got) missing
@@ -175,8 +176,8 @@ on-end c got r =
     (need (limits? (made c got .times .maps) (made c got .grid)) (fault 7 0)
     (ok done))))
 
--- a record of the header, under a version record with the code c, by its label; every other label is misplaced
-unfoldable pub at-head : (c : ℕ) → ℤ → Slots → Label → List ℕ → Answer Fault Turn
+-- a record of the header, under the version record c, by its label; every other label is misplaced
+unfoldable pub at-head : (c : Version) → ℤ → Slots → Label → List ℕ → Answer Fault Turn
 at-head c e got description r = bind (fields description r) (λ v. ok (more plain e got))
 at-head c e got comment r = bind (fields comment r) (λ v. ok (more plain e got))
 at-head c e got exponent r = bind (fields exponent r) (λ v. need (exponent? (v .0)) (fault 7 1) (ok (more plain (v .0) got)))
@@ -193,11 +194,11 @@ at-head c e got block r = misplaced
 at-head c e got file-end r = misplaced
 
 -- inside an aux block every row but END OF AUX DATA is skipped
-unfoldable pub head-step : (c : ℕ) → Mode → ℤ → Slots → List ℕ → Answer Fault Turn
+unfoldable pub head-step : (c : Version) → Mode → ℤ → Slots → List ℕ → Answer Fault Turn
 head-step c plain e got r = get (label r) (fault 4 61) (λ l. at-head c e got l r)
 head-step c aux e got r = pick (same (drop 60 r) (name aux-end)) (bind (fields aux-end r) (λ v. ok (more plain e got))) (ok (more aux e got))
 
-unfoldable pub heading : (c : ℕ) → Mode → ℤ → Slots → Feed → Answer Why MapSet
+unfoldable pub heading : (c : Version) → Mode → ℤ → Slots → Feed → Answer Why MapSet
 heading c a e got (over n) = short n
 heading c a e got (bad w) = refused w
 heading c a e got (row n r f) =

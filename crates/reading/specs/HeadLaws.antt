@@ -11,10 +11,11 @@ use Rattle.kit.specs.Answer.{ok, bind, amap, get, pick, same, need-yes, pick-ye
 use Rattle.kit.specs.Lists.{below}
 use Rattle.kit.specs.Range.{Natural}
 use Rattle.calendar.specs.DateLaws.{dated-below}
+use Rattle.mapset.specs.declared.Version.{Version}
 use Rattle.mapset.specs.declared.Header.{Header}
 use Rattle.mapset.specs.declared.Texts.{Texts}
 use Rattle.mapset.specs.Grid.{Limits}
-use Rattle.mapset.specs.Header.{Content, count, tenths, epoch as an-epoch, axis, program, mapping, observables, system as a-system, starred, Said, number, counts, Accepts, a-count, a-tenths, a-epoch, a-axis, a-program, a-mapping, a-observables, a-system as accepts-system, says, VersionRules, Fillers, Dimension}
+use Rattle.mapset.specs.Header.{Content, count, tenths, epoch as an-epoch, axis, program, mapping, observables, system as a-system, starred, Said, number, counts, Accepts, a-count, a-tenths, a-epoch, a-axis, a-program, a-mapping, a-observables, a-system as accepts-system, says, Fillers, Dimension}
 use Rattle.mapset.specs.MapSet.{MapSet, Maps}
 use Rattle.layout.specs.Text.{Printable}
 use Rattle.layout.specs.Records.{Vals, Fields, f-blank, f-text}
@@ -124,50 +125,46 @@ on-system-of : (e : ℤ) (got : Slots) (k : ℕ) {l : List ℕ} {a b : ℕ} {r :
 unfolding on-system bind
 on-system-of e got k {l} {a} {b} c p u = rw (rec-fields c, system-of l a b u) (once-of e got (15 + k) (counts a b) p)
 
-on-end-of : (h : Header) (t : Texts) (c : ℕ) {r : List ℕ} → Rec header-end tt r → Dimension (h .model .dimension) (h .grid .heights) → Limits (h .times .maps) (h .grid)
+on-end-of : (h : Header) (t : Texts) (c : Version) {r : List ℕ} → Rec header-end tt r → Dimension (h .model .dimension) (h .grid .heights) → Limits (h .times .maps) (h .grid)
     → on-end c (says h t) r ≡ ok done
 unfolding on-end bind made
 on-end-of h t c x d g = rw (rec-fields x) (need-yes _ _ _ (complete-says h t) ∙ need-yes _ _ _ d ∙ need-yes _ _ _ g)
 
-end-row : (m : MapSet) (e : ℤ) (n : ℕ) {r : List ℕ} (y : Feed) → VersionRules (m .header .version) → Rec header-end tt r → Fillers (m .header)
+end-row : (m : MapSet) (e : ℤ) (n : ℕ) {r : List ℕ} (y : Feed) → Rec header-end tt r → Fillers (m .header)
     → Dimension (m .header .model .dimension) (m .header .grid .heights) → Limits (m .header .times .maps) (m .header .grid)
     → run (m .header) Between (record { exponent = e; epochs = []; rms = 0; height = 0 }) 0 y ≡ ok ([], m .maps)
-    → heading (m .header .version .code) plain e (says (m .header) (m .texts)) (row n r y) ≡ ok m
+    → heading (m .header .version) plain e (says (m .header) (m .texts)) (row n r y) ≡ ok m
 unfolding heading head-step get bind amap at-head on-line
-end-row m e n y v c f d g q =
+end-row m e n y c f d g q =
     let h : Header = m .header in
-    rw (rec-label c (known-heads .3), on-end-of h (m .texts) (m .header .version .code) c d g, made-says h (m .texts) v f, texts-says h (m .texts), q)
+    rw (rec-label c (known-heads .3), on-end-of h (m .texts) (m .header .version) c d g, made-says h (m .texts) f, texts-says h (m .texts), q)
 
 pub heads : {m : MapSet} {a : Mode} {e : ℤ} {left got : Slots} {rs : List (List ℕ)} {f : Feed}
-    → VersionRules (m .header .version) → Heads m a e left rs → Carries f rs → Joins m got left → heading (m .header .version .code) a e got f ≡ ok m
+    → Heads m a e left rs → Carries f rs → Joins m got left → heading (m .header .version) a e got f ≡ ok m
 unfolding heading head-step get bind amap at-head on-line
-heads v (h-description c hw) (c-row x) j = rw (rec-label c (known-heads .0), rec-fields c) (heads v hw x j)
-heads v (h-comment c hw) (c-row x) j = rw (rec-label c (known-maps .0), rec-fields c) (heads v hw x j)
-heads v (h-exponent c u hw) (c-row x) j = rw (rec-label c (known-maps .1), rec-fields c, need-yes _ _ _ u) (heads v hw x j)
-heads {e = e} {got = got} v (h-field i {s} w l p c u a hw) (c-row x) j =
+heads (h-description c hw) (c-row x) j = rw (rec-label c (known-heads .0), rec-fields c) (heads hw x j)
+heads (h-comment c hw) (c-row x) j = rw (rec-label c (known-maps .0), rec-fields c) (heads hw x j)
+heads (h-exponent c u hw) (c-row x) j = rw (rec-label c (known-maps .1), rec-fields c, need-yes _ _ _ u) (heads hw x j)
+heads {e = e} {got = got} (h-field i {s} w l p c u a hw) (c-row x) j =
     let t = taken i j p in
-    rw (rec-label c (known-head i l), rec-fields c, meant-of (content i) w s u a, once-of e got i s (t .0)) (heads v hw x (t .1))
-heads v (h-aux c hw) (c-row x) j = rw (rec-label c (known-heads .2), rec-fields c) (heads v hw x j)
-heads v (h-skip u hw) (c-row {r = r} x) j = rw (pick-no (same (drop 60 r) (name aux-end)) _ _ u) (heads v hw x j)
-heads v (h-back c hw) (c-row {r = r} x) j = rw (pick-yes (same (drop 60 r) (name aux-end)) _ _ (rec-name c), rec-fields c) (heads v hw x j)
-heads {e = e} {got = got} v (h-system k a b l p c u hw) (c-row {r = r} x) j =
+    rw (rec-label c (known-head i l), rec-fields c, meant-of (content i) w s u a, once-of e got i s (t .0)) (heads hw x (t .1))
+heads (h-aux c hw) (c-row x) j = rw (rec-label c (known-heads .2), rec-fields c) (heads hw x j)
+heads (h-skip u hw) (c-row {r = r} x) j = rw (pick-no (same (drop 60 r) (name aux-end)) _ _ u) (heads hw x j)
+heads (h-back c hw) (c-row {r = r} x) j = rw (pick-yes (same (drop 60 r) (name aux-end)) _ _ (rec-name c), rec-fields c) (heads hw x j)
+heads {e = e} {got = got} (h-system k a b l p c u hw) (c-row {r = r} x) j =
     let t = taken (15 + k) j p in
     let q : getD r 5 32 ≡ getD letters k 0 = cc (system-letter c) in
-    rw (rec-label c (known-heads .1), q, place-letter k l, on-system-of e got k c (t .0) u) (heads v hw x (t .1))
-heads {m} {e = e} {got = got} v (h-end c a f d g hw) (c-row {n} {r} {f = y} x) j =
-    ap (λ l. heading (m .header .version .code) plain e l (row n r y)) (full j a) ∙ end-row m e n y v c f d g (runs hw y x)
+    rw (rec-label c (known-heads .1), q, place-letter k l, on-system-of e got k c (t .0) u) (heads hw x (t .1))
+heads {m} {e = e} {got = got} (h-end c a f d g hw) (c-row {n} {r} {f = y} x) j =
+    ap (λ l. heading (m .header .version) plain e l (row n r y)) (full j a) ∙ end-row m e n y c f d g (runs hw y x)
 
 -- ---- what is read the rules write
 
--- the map set's version record has the code c
-abbrev Coded : ℕ → MapSet → Type 0
-Coded c m = m .header .version ≡ record { tenths = 11; kind = 73; code = c }
-
-pub record Headed (c : ℕ) (a : Mode) (e : ℤ) (got : Slots) (f : Feed) (m : MapSet) : Type 0 where
+pub record Headed (c : Version) (a : Mode) (e : ℤ) (got : Slots) (f : Feed) (m : MapSet) : Type 0 where
   pub rows : List (List ℕ)
   pub left : Slots
   pub carries : Carries f rows
-  pub coded : Coded c m
+  pub version : m .header .version ≡ c
   pub joined : Joins m got left
   pub heads : Heads m a e left rows
 
@@ -183,13 +180,13 @@ Earlier a e got r a′ e′ got′ =
     → (left : Slots) × Joins m got left × Heads m a e left (r ∷ rs)
 
 -- END OF HEADER stands where it may
-pub record Ends (c : ℕ) (got : Slots) (r : List ℕ) : Type 0 where
+pub record Ends (c : Version) (got : Slots) (r : List ℕ) : Type 0 where
   pub record-of : Rec header-end tt r
   pub complete : Complete starred got
   pub dimension : Dimension (made c got .model .dimension) (made c got .grid .heights)
   pub limits : Limits (made c got .times .maps) (made c got .grid)
 
-abbrev pub Fine : (c : ℕ) → Mode → ℤ → Slots → List ℕ → Turn → Type 0
+abbrev pub Fine : (c : Version) → Mode → ℤ → Slots → List ℕ → Turn → Type 0
 Fine c a e got r (more a′ e′ got′) = Got got′ × Earlier a e got r a′ e′ got′
 Fine c a e got r done = (a ≡ plain) × Ends c got r
 
@@ -237,7 +234,7 @@ module _ (r : List ℕ) (z : length r ≡ 80) (p : Printable r) where
       let y : v ≡ (getD r 5 32 ∷ [], (pos (w .0), (pos (w .1), tt))) = w .3 ∙ ap (λ l. (l, (pos (w .0), (pos (w .1), tt)))) (system-letter x) in
       record { stations = w .0; satellites = w .1; is = w .2; record-of = rw y at x; accepts = w .4 }) (system-yields v))
 
-module _ (c : ℕ) (e : ℤ) (got : Slots) (g : Got got) (r : List ℕ) (z : length r ≡ 80) (p : Printable r) where
+module _ (c : Version) (e : ℤ) (got : Slots) (g : Got got) (r : List ℕ) (z : length r ≡ 80) (p : Printable r) where
   same-left : {a a′ : Mode} {e′ : ℤ} → ((m : MapSet) (left : Slots) (rs : List (List ℕ)) → Heads m a′ e′ left rs → Heads m a e left (r ∷ rs)) → Fine c a e got r (more a′ e′ got)
   same-left k = (g, λ m left rs j hw. (left, j, k m left rs hw))
 
@@ -305,13 +302,13 @@ module _ (c : ℕ) (e : ℤ) (got : Slots) (g : Got got) (r : List ℕ) (z : len
       (λ q. y-ok (same-left (λ m left rs hw. h-skip q hw)))
 
 -- the map set that END OF HEADER and the maps make
-abbrev set-of : (c : ℕ) → Slots → Maps → MapSet
+abbrev set-of : (c : Version) → Slots → Maps → MapSet
 set-of c got ms = record { header = made c got; texts = made-texts got; maps = ms }
 
 abbrev begins : ℤ → Force
 begins e = record { exponent = e; epochs = []; rms = 0; height = 0 }
 
-module _ (c : ℕ) (e : ℤ) (got : Slots) (g : Got got) (n : ℕ) (r : List ℕ) (f : Feed) where
+module _ (c : Version) (e : ℤ) (got : Slots) (g : Got got) (n : ℕ) (r : List ℕ) (f : Feed) where
   headed-end : (w : List ℤ × Maps) → Ends c got r → Wrote (made c got) Between (begins e) 0 f w → Headed c plain e got (row n r f) (set-of c got (w .1))
   headed-end w x v =
       let t = rest-none got in
@@ -320,7 +317,7 @@ module _ (c : ℕ) (e : ℤ) (got : Slots) (g : Got got) (n : ℕ) (r : List ℕ
         rows = r ∷ y .0;
         left = t .0;
         carries = c-row (y .1);
-        coded = unfold made in refl;
+        version = unfold made in refl;
         joined = rw (says-made c got (g .sized) (g .fit) (x .complete)) (t .1);
         heads = h-end (x .record-of) (t .2) (made-filled c got) (x .dimension) (x .limits) (y .2);
       }
@@ -335,11 +332,11 @@ module _ (c : ℕ) (e : ℤ) (got : Slots) (g : Got got) (n : ℕ) (r : List ℕ
       yields-map
       (λ m v.
       let t = b m (v .left) (v .rows) (v .joined) (v .heads) in
-      record { rows = r ∷ v .rows; left = t .0; carries = c-row (v .carries); coded = v .coded; joined = t .1; heads = t .2 })
+      record { rows = r ∷ v .rows; left = t .0; carries = c-row (v .carries); version = v .version; joined = t .1; heads = t .2 })
       (ih a′ e′ got′ l)
   turned a s ih done (q, x) = rw q (amap-yields _ (yields-map (λ w v. headed-end w x v) (written (made c got) f s Between (begins e) 0)))
 
-pub headed : (c : ℕ) (f : Feed) → Sized f → (a : Mode) (e : ℤ) (got : Slots) → Got got → Yields (Headed c a e got f) (heading c a e got f)
+pub headed : (c : Version) (f : Feed) → Sized f → (a : Mode) (e : ℤ) (got : Slots) → Got got → Yields (Headed c a e got f) (heading c a e got f)
 unfolding heading short
 headed c (over n) s a e got g = y-no
 headed c (bad w) s a e got g = y-no

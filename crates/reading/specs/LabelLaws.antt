@@ -30,7 +30,7 @@ both-true : (a b : Bool) → (a && b) ≡ true → (a ≡ true) × (b ≡ true)
 both-true true b e = (refl, e)
 both-true false b e = let z : _≡_ {A = ℕ} 0 1 = cc in absurd (omega arith)
 
-held : (s : List ℕ) (a : ℕ) (n : List ℕ) → columns s a (length n) ≡ n → holds s a n ≡ true
+pub held : (s : List ℕ) (a : ℕ) (n : List ℕ) → columns s a (length n) ≡ n → holds s a n ≡ true
 held s a [] e = refl
 held s a (x ∷ n) e =
     let f : getD s a 32 ∷ columns s (suc a) (length n) ≡ x ∷ n = sym (columns-first s a (length n)) ∙ e in
@@ -40,7 +40,7 @@ nothing : (s : List ℕ) (a : ℕ) → columns s a 0 ≡ []
 unfolding columns
 nothing s a = refl
 
-holding : (s : List ℕ) (a : ℕ) (n : List ℕ) → holds s a n ≡ true → columns s a (length n) ≡ n
+pub holding : (s : List ℕ) (a : ℕ) (n : List ℕ) → holds s a n ≡ true → columns s a (length n) ≡ n
 holding s a [] e = nothing s a
 holding s a (x ∷ n) e =
     let b = both-true (eqb (getD s a 32) x) (holds s (suc a) n) e in
@@ -114,7 +114,7 @@ module _ (s : List ℕ) where
 -- ---- a line's label
 
 module _ (line : List ℕ) (fits : length line ≤ 80) where
-  label-columns : columns line 60 20 ≡ drop 60 (pad line)
+  pub label-columns : columns line 60 20 ≡ drop 60 (pad line)
   unfolding pad
   label-columns =
       columns-padded line 60 20 (omega arith) fits ∙ take-all 20 (drop 60 (pad line)) (simp (length-drop, length-append, length-replicate) (omega arith))

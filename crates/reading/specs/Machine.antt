@@ -6,6 +6,7 @@ use mathlib.Core.List.{List, [], _++_}
 use lib.IntN.{ℤ, negsuc}
 use mathlib.Core.Option.{Option, none, some}
 use Rattle.kit.specs.Answer.{Answer, ok, refused, bind, amap, get}
+use Rattle.mapset.specs.declared.Version.{Version}
 use Rattle.mapset.specs.declared.Header.{Header}
 use Rattle.mapset.specs.MapSet.{MapSet}
 use Rattle.layout.specs.Labels.{Label, version, description, comment, system, exponent, aux-start, aux-end, header-end, epoch, block, file-end, head, start, end}
@@ -14,14 +15,14 @@ use Rattle.reading.specs.Feed.{Fault, fault, Why, on-line, Feed, over, b
 use Rattle.reading.specs.Fields.{label, cells}
 use Rattle.reading.specs.Maps.{Todo, misplaced, loose, on-comment, on-exponent, on-start, on-end, on-epoch, on-block, on-file, taken, step, short, finish, on-row, run}
 use Rattle.reading.specs.Head.{made, made-texts, Turn, more, done, head-step, heading}
-use Rattle.reading.specs.Read.{nothing-yet, code-of, begin}
+use Rattle.reading.specs.Read.{nothing-yet, version-of, begin}
 use Rattle.reading.specs.declared.Place.{Place}
 use Rattle.reading.specs.declared.Place.the-variants.{Ended, Between, Early, Inside}
 
 -- before the version record; in the header; in the maps
 pub data State : Type 0 where
   first : State
-  header : (c : ℕ) → Mode → ℤ → Slots → State
+  header : (c : Version) → Mode → ℤ → Slots → State
   maps : (h : Header) (q : Place) (p : Force) (c : ℕ) → State
 
 abbrev pub Out : State → Type 0
@@ -40,7 +41,7 @@ pub record Move (s : State) : Type 0 where
   pub back : Out to → Out s
 
 -- where a record of the header leads
-abbrev pub turn : (c : ℕ) (a : Mode) (e : ℤ) (got : Slots) → Turn → Move (header c a e got)
+abbrev pub turn : (c : Version) (a : Mode) (e : ℤ) (got : Slots) → Turn → Move (header c a e got)
 turn c a e got (more a′ e′ got′) = record { to = header c a′ e′ got′; back = λ m. m }
 turn c a e got done =
     record {
@@ -50,7 +51,7 @@ turn c a e got done =
 
 -- what a row does
 unfoldable pub on-row-of : (s : State) → List ℕ → Answer Fault (Move s)
-on-row-of first r = amap (λ c. record { to = header c plain (negsuc 0) nothing-yet; back = λ m. m }) (code-of r)
+on-row-of first r = amap (λ c. record { to = header c plain (negsuc 0) nothing-yet; back = λ m. m }) (version-of r)
 on-row-of (header c a e got) r = amap (turn c a e got) (head-step c a e got r)
 on-row-of (maps h q p zero) r = amap (λ x. record { to = maps h (x .to) (x .force) (x .due); back = λ w. ([], x .back (w .0) (w .1)) }) (step h q p r)
 on-row-of (maps h q p (suc c)) r = amap (λ zs. record { to = maps h q p (suc c - 16); back = λ w. (zs ++ w .0, w .1) }) (cells 1 (on-row (suc c)) r)
@@ -115,7 +116,7 @@ through n g j k (refused w) e = refl
 
 pub from-row : (s : State) (n : ℕ) (r : List ℕ) (f : Feed) → from s (row n r f) ≡ bind (on-line n (on-row-of s r)) (λ x. amap (x .back) (from (x .to) f))
 unfolding from begin heading run on-row-of
-from-row first n r f = through n _ _ _ (code-of r) (λ c. sym (amap-id (heading c plain (negsuc 0) nothing-yet f)))
+from-row first n r f = through n _ _ _ (version-of r) (λ c. sym (amap-id (heading c plain (negsuc 0) nothing-yet f)))
 from-row (header c a e got) n r f = through n _ _ _ (head-step c a e got r) by
   where
     by : (t : Turn) → elim t as (λ x. Answer Why MapSet) [

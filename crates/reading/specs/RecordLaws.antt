@@ -22,7 +22,7 @@ use Rattle.mapset.specs.declared.Kind.{Kind}
 use Rattle.mapset.specs.declared.Kind.the-variants.{Tec, Rms, Height}
 use Rattle.mapset.specs.Header.{Content, count, tenths, epoch as an-epoch, axis, program, mapping, observables, system as a-system, Written}
 use Rattle.layout.specs.Text.{Printable}
-use Rattle.layout.specs.Records.{Item, I, F, X, A, U, Vals, Fields, f-end, f-int, f-tenths, f-blank, f-text, f-unread, Cells, c-blank, c-value}
+use Rattle.layout.specs.Records.{Item, I, F, D, X, A, U, Vals, Fields, f-end, f-int, f-tenths, f-thousandths, f-blank, f-text, f-unread, Cells, c-blank, c-value}
 use Rattle.layout.specs.Labels.{Label, version, description, comment, system, exponent, aux-start, aux-end, header-end, epoch, block, file-end, head, start, end, name, items, content, layout, labels, Rec, rec}
 use Rattle.reading.specs.Feed.{Fault}
 use Rattle.reading.specs.Fields.{lookup, label, number, blank, scan, fields, cells}
@@ -61,6 +61,8 @@ scan-of (f-int {w} bs {rest = rest} s h) c =
     rw (take-at bs rest w (spells-width s), drop-at bs rest w (spells-width s), read-made s, scan-of h (c + w))
 scan-of (f-tenths {w} bs {rest = rest} s h) c =
     rw (take-at bs rest w (spells-width s), drop-at bs rest w (spells-width s), read-made s, scan-of h (c + w))
+scan-of (f-thousandths {w} bs {rest = rest} s h) c =
+    rw (take-at bs rest w (spells-width s), drop-at bs rest w (spells-width s), read-made s, scan-of h (c + w))
 scan-of (f-blank {w} {rest = rest} h) c =
     rw (take-at (replicate w 32) rest w (length-replicate w 32), drop-at (replicate w 32) rest w (length-replicate w 32))
     (blank-of (replicate w 32) c _ (blank-spaces w) ∙ scan-of h (c + w))
@@ -71,6 +73,7 @@ unfoldable pub size : List Item → ℕ
 size [] = 0
 size (I w ∷ is) = w + size is
 size (F w ∷ is) = w + size is
+size (D w ∷ is) = w + size is
 size (X w ∷ is) = w + size is
 size (A w ∷ is) = w + size is
 size (U w ∷ is) = w + size is
@@ -80,6 +83,7 @@ unfolding size
 length-fields f-end = refl
 length-fields (f-int bs {rest = rest} s h) = let i = length-fields h in let e = spells-width s in simp length-append (omega arith)
 length-fields (f-tenths bs {rest = rest} s h) = let i = length-fields h in let e = spells-width s in simp length-append (omega arith)
+length-fields (f-thousandths bs {rest = rest} s h) = let i = length-fields h in let e = spells-width s in simp length-append (omega arith)
 length-fields (f-blank {w} {rest = rest} h) = let i = length-fields h in simp (length-append, length-replicate) (omega arith)
 length-fields (f-text bs {rest = rest} e h) = let i = length-fields h in simp length-append (omega arith)
 length-fields (f-unread bs {rest = rest} e h) = let i = length-fields h in simp length-append (omega arith)
@@ -95,6 +99,9 @@ module _ (w : ℕ) (bs : List ℕ) (l : w ≤ length bs) {is : List Item} {vs : 
   cut-tenths : {z : ℤ} → readField form.F1 (take w bs) ≡ Number z → Fields (F w ∷ is) (z, vs) bs
   cut-tenths e = rw take-append-drop at (f-tenths (take w bs) (cut-field form.F1 w bs l e) h)
 
+  cut-thousandths : {z : ℤ} → readField form.F3 (take w bs) ≡ Number z → Fields (D w ∷ is) (z, vs) bs
+  cut-thousandths e = rw take-append-drop at (f-thousandths (take w bs) (cut-field form.F3 w bs l e) h)
+
   cut-blank : All Blank (take w bs) → Fields (X w ∷ is) vs bs
   cut-blank a =
       let p : replicate w 32 ≡ take w bs = ap (λ n. replicate n 32) (sym (length-take-le w bs l)) ∙ sym (spaces-blank (take w bs) a) in
@@ -109,7 +116,7 @@ module _ (w : ℕ) (bs : List ℕ) (l : w ≤ length bs) {is : List Item} {vs : 
 rest-size : (w s : ℕ) (bs : List ℕ) → length bs ≡ w + s → length (drop w bs) ≡ s
 rest-size w s bs z = simp length-drop (omega arith)
 
-scan-yields : (c : ℕ) (is : List Item) (bs : List ℕ) → length bs ≡ size is → Yields (λ vs. Fields is vs bs) (scan c is bs)
+pub scan-yields : (c : ℕ) (is : List Item) (bs : List ℕ) → length bs ≡ size is → Yields (λ vs. Fields is vs bs) (scan c is bs)
 unfolding scan size
 scan-yields c [] [] z = y-ok f-end
 scan-yields c [] (b ∷ bs) z = absurd (omega arith)
@@ -117,6 +124,8 @@ scan-yields c (I w ∷ is) bs z =
     number-yields _ c (λ v e. amap-yields _ (yields-map (λ vs h. cut-int w bs (omega arith) h e) (scan-yields (c + w) is (drop w bs) (rest-size w (size is) bs z))))
 scan-yields c (F w ∷ is) bs z =
     number-yields _ c (λ v e. amap-yields _ (yields-map (λ vs h. cut-tenths w bs (omega arith) h e) (scan-yields (c + w) is (drop w bs) (rest-size w (size is) bs z))))
+scan-yields c (D w ∷ is) bs z =
+    number-yields _ c (λ v e. amap-yields _ (yields-map (λ vs h. cut-thousandths w bs (omega arith) h e) (scan-yields (c + w) is (drop w bs) (rest-size w (size is) bs z))))
 scan-yields c (X w ∷ is) bs z =
     blank-yields _ c (λ a. yields-map (λ vs h. cut-blank w bs (omega arith) h a) (scan-yields (c + w) is (drop w bs) (rest-size w (size is) bs z)))
 scan-yields c (A w ∷ is) bs z =
@@ -264,14 +273,16 @@ abbrev pub AllWritten : (is : List Item) → Vals is → Type 0
 AllWritten [] vs = Unit {0}
 AllWritten (I w ∷ is) vs = AllWritten is (vs .1)
 AllWritten (F w ∷ is) vs = AllWritten is (vs .1)
+AllWritten (D w ∷ is) vs = AllWritten is (vs .1)
 AllWritten (X w ∷ is) vs = AllWritten is vs
 AllWritten (A w ∷ is) vs = Written w (vs .0) × AllWritten is (vs .1)
 AllWritten (U w ∷ is) vs = AllWritten is vs
 
-fields-written : {is : List Item} {vs : Vals is} {bs : List ℕ} → Fields is vs bs → Printable bs → AllWritten is vs
+pub fields-written : {is : List Item} {vs : Vals is} {bs : List ℕ} → Fields is vs bs → Printable bs → AllWritten is vs
 fields-written f-end p = tt
 fields-written (f-int bs {rest = rest} s h) p = fields-written h (all-behind _ bs rest p)
 fields-written (f-tenths bs {rest = rest} s h) p = fields-written h (all-behind _ bs rest p)
+fields-written (f-thousandths bs {rest = rest} s h) p = fields-written h (all-behind _ bs rest p)
 fields-written (f-blank {w} {rest = rest} h) p = fields-written h (all-behind _ (replicate w 32) rest p)
 fields-written (f-text bs {rest = rest} e h) p = ((e, all-front _ bs rest p), fields-written h (all-behind _ bs rest p))
 fields-written (f-unread bs {rest = rest} e h) p = fields-written h (all-behind _ bs rest p)

@@ -12,6 +12,7 @@ use lib.ListN.{length, take, drop, getD}
 use Rattle.kit.specs.Answer.{Answer, ok, refused, bind, amap, all-dec, All, pick-yes, pick-no, Yields, y-ok, y-no, yields, amap-yields}
 use Rattle.kit.specs.Range.{Within, within?}
 use Rattle.forms.specs.Columns.{Blank}
+use Rattle.mapset.specs.declared.Version.{Version}
 use Rattle.mapset.specs.declared.Header.{Header}
 use Rattle.layout.specs.Text.{Printable, Clean, pad}
 use Rattle.layout.specs.Layout.{Force, Slots, Mode}
@@ -19,7 +20,7 @@ use Rattle.reading.specs.Feed.{Fault, Why, why, on-line, over, bad, row,
 use Rattle.reading.specs.Maps.{short}
 use Rattle.reading.specs.Head.{Turn, more, done}
 use Rattle.reading.specs.LineLaws.{feed-blank, feed-row}
-use Rattle.reading.specs.Blame.{Blames, blamed, amap-blames, late, Later, First, cells-blame, step-blames, head-step-blames, code-blames}
+use Rattle.reading.specs.Blame.{Blames, blamed, amap-blames, late, Later, First, cells-blame, step-blames, head-step-blames, version-blames}
 use Rattle.reading.specs.Machine.{State, first, header, maps, Out, turn, from, Move, on-row-of, from-bad, Over, from-over, from-row, amap-id}
 use Rattle.reading.specs.declared.Place.{Place}
 
@@ -50,7 +51,7 @@ NumberIn (maps h q p c) f = Later f
 
 row-blames : (s : State) (r : List ℕ) → Blames (NumberIn s) (on-row-of s r)
 unfolding on-row-of
-row-blames first r = amap-blames _ (code-blames r)
+row-blames first r = amap-blames _ (version-blames r)
 row-blames (header c a e got) r = amap-blames _ (head-step-blames c e got r a)
 row-blames (maps h q p zero) r = amap-blames _ (step-blames h p r q)
 row-blames (maps h q p (suc c)) r = amap-blames _ (cells-blame 1 _ r)
@@ -78,7 +79,7 @@ always : {W A : Type 0} {Q : A → Type 0} (x : Answer W A) → ((a : A) → Q a
 always (ok a) f = y-ok (f a)
 always (refused w) f = y-no
 
-in-header : {c : ℕ} {a : Mode} {e : ℤ} {got : Slots} → ¬ (header c a e got ≡ first)
+in-header : {c : Version} {a : Mode} {e : ℤ} {got : Slots} → ¬ (header c a e got ≡ first)
 in-header q = let z : _≡_ {A = ℕ} 0 1 = cc in omega arith
 
 in-maps : {h : Header} {q : Place} {p : Force} {c : ℕ} → ¬ (maps h q p c ≡ first)

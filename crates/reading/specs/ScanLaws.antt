@@ -16,7 +16,7 @@ use Rattle.forms.specs.ColumnLaws.{columns-padded}
 use Rattle.forms.specs.declared.Found.{Found}
 use Rattle.forms.specs.declared.Found.the-variants.{At, Nowhere}
 use Rattle.layout.specs.Text.{pad}
-use Rattle.layout.specs.Records.{Item, I, F, X, A, U, Vals}
+use Rattle.layout.specs.Records.{Item, I, F, D, X, A, U, Vals}
 use Rattle.reading.specs.Feed.{Fault, fault}
 use Rattle.reading.specs.Fields.{number, blanks, blank, scan}
 
@@ -67,6 +67,7 @@ abbrev pub scanned : ℕ → (is : List Item) → List ℕ → Answer Fault (Val
 scanned a [] line = ok tt
 scanned a (I w ∷ is) line = number (readField form.I (columns line a w)) (suc a) (λ z. amap (λ vs. (z, vs)) (scanned (a + w) is line))
 scanned a (F w ∷ is) line = number (readField form.F1 (columns line a w)) (suc a) (λ z. amap (λ vs. (z, vs)) (scanned (a + w) is line))
+scanned a (D w ∷ is) line = number (readField form.F3 (columns line a w)) (suc a) (λ z. amap (λ vs. (z, vs)) (scanned (a + w) is line))
 scanned a (X w ∷ is) line = unless (further (suc a) (firstNotBlank (columns line a w))) (scanned (a + w) is line)
 scanned a (A w ∷ is) line = amap (λ vs. (columns line a w, vs)) (scanned (a + w) is line)
 scanned a (U w ∷ is) line = scanned (a + w) is line
@@ -75,6 +76,7 @@ abbrev width : List Item → ℕ
 width [] = 0
 width (I w ∷ is) = w + width is
 width (F w ∷ is) = w + width is
+width (D w ∷ is) = w + width is
 width (X w ∷ is) = w + width is
 width (A w ∷ is) = w + width is
 width (U w ∷ is) = w + width is
@@ -95,6 +97,8 @@ module _ (line : List ℕ) (fits : length line ≤ 80) where
       ap₂ (λ (bs : List ℕ) (x : Answer Fault (Vals is)). number (readField form.I bs) (suc a) (λ z. amap (λ vs. (z, vs)) x)) (column-run a w (omega arith)) (later w is a (scan-is is (a + w) (omega arith)))
   scan-is (F w ∷ is) a h =
       ap₂ (λ (bs : List ℕ) (x : Answer Fault (Vals is)). number (readField form.F1 bs) (suc a) (λ z. amap (λ vs. (z, vs)) x)) (column-run a w (omega arith)) (later w is a (scan-is is (a + w) (omega arith)))
+  scan-is (D w ∷ is) a h =
+      ap₂ (λ (bs : List ℕ) (x : Answer Fault (Vals is)). number (readField form.F3 bs) (suc a) (λ z. amap (λ vs. (z, vs)) x)) (column-run a w (omega arith)) (later w is a (scan-is is (a + w) (omega arith)))
   scan-is (X w ∷ is) a h =
       ap₂ (λ (bs : List ℕ) (x : Answer Fault (Vals is)). blank bs (suc a) x) (column-run a w (omega arith)) (later w is a (scan-is is (a + w) (omega arith)))
       ∙ blank-first (columns line a w) (suc a) (scanned (a + w) is line)

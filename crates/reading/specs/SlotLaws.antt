@@ -11,10 +11,11 @@ use lib.Seq.{getD-set-same, getD-set-other, getD-drop}
 use Rattle.kit.specs.Answer.{All}
 use Rattle.mapset.specs.declared.Counted.{Counted}
 use Rattle.mapset.specs.declared.System.{System}
+use Rattle.mapset.specs.declared.Version.{Version}
 use Rattle.mapset.specs.declared.Header.{Header}
 use Rattle.mapset.specs.declared.Texts.{Texts}
 use Rattle.mapset.specs.Grid.{Line}
-use Rattle.mapset.specs.Header.{Content, count, tenths, epoch as an-epoch, axis, program, mapping, observables, system as a-system, contents, starred, Said, number, along, words, counts, Accepts, a-count, a-tenths, a-epoch, a-axis, a-program, a-mapping, a-observables, a-system as accepts-system, if-stands, counted, of-system, says, Filled, Fillers, VersionRules}
+use Rattle.mapset.specs.Header.{Content, count, tenths, epoch as an-epoch, axis, program, mapping, observables, system as a-system, contents, starred, Said, number, along, words, counts, Accepts, a-count, a-tenths, a-epoch, a-axis, a-program, a-mapping, a-observables, a-system as accepts-system, if-stands, counted, of-system, says, Filled, Fillers}
 use Rattle.layout.specs.Labels.{content}
 use Rattle.layout.specs.Layout.{Slots}
 use Rattle.reading.specs.Head.{Complete, number-in, axis-in, words-in, counted-in, system-in, made, made-texts}
@@ -111,10 +112,10 @@ back-counted c f = counted-back (c .stands) (c .count) f
 back-system : (s : System) → Filled (s .stands) (s .stations) × Filled (s .stands) (s .satellites) → system-in (of-system s) ≡ s
 back-system s f = system-back (s .stands) (s .stations) (s .satellites) f
 
-pub made-says : (h : Header) (t : Texts) → VersionRules (h .version) → Fillers h → made (h .version .code) (says h t) ≡ h
+pub made-says : (h : Header) (t : Texts) → Fillers h → made (h .version) (says h t) ≡ h
 unfolding made
-made-says h t v f = λ i. record {
-  version = record { tenths = sym (v .tenths) i; kind = sym (v .kind) i; code = h .version .code };
+made-says h t f = λ i. record {
+  version = h .version;
   times = h .times;
   model = h .model;
   grid = h .grid;
@@ -200,7 +201,7 @@ says-system : (o : Option Said) → Fit a-system o → of-system (system-in o) �
 says-system none fit-no = refl
 says-system (some s) (fit (accepts-system a b)) = refl
 
-module _ (c : ℕ) (got : Slots) (z : length got ≡ 22) (f : FitAll got) (w : Complete starred got) where
+module _ (c : Version) (got : Slots) (z : length got ≡ 22) (f : FitAll got) (w : Complete starred got) where
   pub says-made : says (made c got) (made-texts got) ≡ got
   unfolding made made-texts
   says-made =
@@ -244,7 +245,7 @@ system-filled (some (along a)) = (refl, refl)
 system-filled (some (words ws)) = (refl, refl)
 system-filled (some (counts a b)) = (tt, tt)
 
-pub made-filled : (c : ℕ) (got : Slots) → Fillers (made c got)
+pub made-filled : (c : Version) (got : Slots) → Fillers (made c got)
 unfolding made
 made-filled c got =
     record {

@@ -17,13 +17,13 @@ use Rattle.mapset.specs.Decisions.{×₃-dec, ×₄-dec, end?, step?, multiple?
 use Rattle.mapset.specs.declared.System.{System}
 use Rattle.mapset.specs.MapSet.{Block, MapSet}
 use Rattle.layout.specs.Text.{pad}
-use Rattle.layout.specs.Labels.{bytes, name}
+use Rattle.layout.specs.Labels.{version, bytes, name}
 use Rattle.layout.specs.Layout.{Makes}
-use Rattle.reading.specs.Feed.{why, on-line, front, opens?, split, feed}
+use Rattle.reading.specs.Feed.{fault, why, on-line, front, opens?, split, feed}
 use Rattle.reading.specs.Fields.{lookup, label, number, blank, scan, fields, cells}
 use Rattle.reading.specs.Maps.{on-date, exponent?, kind?, true?, after?, implies?, in-time?, height?, loose, on-comment, on-exponent, start-tec, start-other, start-map, on-start, end-map, on-end as on-map-end, epoch-tec, epoch-other, on-epoch, open-block, on-block, on-file, taken, step, finish, run, short}
 use Rattle.reading.specs.Head.{meant, place, none?, complete?, made, made-texts, once, on-end, at-head, head-step, heading}
-use Rattle.reading.specs.Read.{code-of, begin, read}
+use Rattle.reading.specs.Read.{versioned, version-of, begin, read}
 use Rattle.reading.specs.Exact.{made-read}
 
 abbrev pub lines : List String → List ℕ
@@ -54,7 +54,7 @@ two-faults =
     ∷ []
 
 pub eight-before-seven : read (lines two-faults) ≡ refused (why 8 15 0)
-unfolding two-faults read begin feed split front opens? pad pick ×-dec ⊎-dec ¬-dec all-dec same sames need bind amap get ℕ-discrete decLe decLt int? le? lt? between? within? natural? dated second isLeap monthDays yearDays sum readField numberOf formed? ×₃-dec ×₄-dec end? step? multiple? together? limits? dimension? name on-line lookup label number blank scan fields on-date short meant place none? complete? made once on-end at-head head-step heading code-of
+unfolding two-faults read begin feed split front opens? pad pick ×-dec ⊎-dec ¬-dec all-dec same sames need bind amap get ℕ-discrete decLe decLt int? le? lt? between? within? natural? dated second isLeap monthDays yearDays sum readField numberOf formed? ×₃-dec ×₄-dec end? step? multiple? together? limits? dimension? name on-line lookup label number blank scan fields on-date short meant place none? complete? made once on-end at-head head-step heading versioned version-of
 eight-before-seven = refl
 
 -- a small text: one TEC map and its RMS map, of two rows and three columns
@@ -129,7 +129,7 @@ small-set =
     }
 
 pub small-read : read (lines small-text) ≡ ok small-set
-unfolding small-text small-set read begin feed split front opens? pad pick ×-dec ⊎-dec ¬-dec all-dec same sames need bind amap get ℕ-discrete decLe decLt int? le? lt? between? within? natural? dated second isLeap monthDays yearDays sum readField numberOf formed? ×₃-dec ×₄-dec end? step? multiple? together? limits? dimension? follows? name on-line lookup label number blank scan fields cells on-date exponent? kind? true? after? implies? in-time? height? loose on-comment on-exponent start-tec start-other start-map on-start end-map on-map-end epoch-tec epoch-other on-epoch open-block on-block on-file taken step finish run short meant place none? complete? made made-texts once on-end at-head head-step heading code-of
+unfolding small-text small-set read begin feed split front opens? pad pick ×-dec ⊎-dec ¬-dec all-dec same sames need bind amap get ℕ-discrete decLe decLt int? le? lt? between? within? natural? dated second isLeap monthDays yearDays sum readField numberOf formed? ×₃-dec ×₄-dec end? step? multiple? together? limits? dimension? follows? name on-line lookup label number blank scan fields cells on-date exponent? kind? true? after? implies? in-time? height? loose on-comment on-exponent start-tec start-other start-map on-start end-map on-map-end epoch-tec epoch-other on-epoch open-block on-block on-file taken step finish run short meant place none? complete? made made-texts once on-end at-head head-step heading versioned version-of
 small-read = refl
 
 pub small-made : Makes small-set (lines small-text)
@@ -200,7 +200,7 @@ two-set =
     }
 
 pub two-read : read (lines two-text) ≡ ok two-set
-unfolding two-text two-set read begin feed split front opens? pad pick ×-dec ⊎-dec ¬-dec all-dec same sames need bind amap get ℕ-discrete decLe decLt int? le? lt? between? within? natural? dated second isLeap monthDays yearDays sum readField numberOf formed? ×₃-dec ×₄-dec end? step? multiple? together? limits? dimension? follows? name on-line lookup label number blank scan fields cells on-date exponent? kind? true? after? implies? in-time? height? loose on-comment on-exponent start-tec start-other start-map on-start end-map on-map-end epoch-tec epoch-other on-epoch open-block on-block on-file taken step finish run short meant place none? complete? made made-texts once on-end at-head head-step heading code-of
+unfolding two-text two-set read begin feed split front opens? pad pick ×-dec ⊎-dec ¬-dec all-dec same sames need bind amap get ℕ-discrete decLe decLt int? le? lt? between? within? natural? dated second isLeap monthDays yearDays sum readField numberOf formed? ×₃-dec ×₄-dec end? step? multiple? together? limits? dimension? follows? name on-line lookup label number blank scan fields cells on-date exponent? kind? true? after? implies? in-time? height? loose on-comment on-exponent start-tec start-other start-map on-start end-map on-map-end epoch-tec epoch-other on-epoch open-block on-block on-file taken step finish run short meant place none? complete? made made-texts once on-end at-head head-step heading versioned version-of
 two-read = refl
 
 -- a text with half a degree in its axes and in its block's opening, as these lines spell it
@@ -245,10 +245,24 @@ full-text =
 
 -- `.5` is accepted, and means what `0.5` means
 pub bare-read : (s : MapSet) × (read (lines bare-text) ≡ ok s) × (read (lines full-text) ≡ ok s)
-unfolding half-text bare-text full-text read begin feed split front opens? pad pick ×-dec ⊎-dec ¬-dec all-dec same sames need bind amap get ℕ-discrete decLe decLt int? le? lt? between? within? natural? dated second isLeap monthDays yearDays sum readField numberOf formed? ×₃-dec ×₄-dec end? step? multiple? together? limits? dimension? follows? name on-line lookup label number blank scan fields cells on-date exponent? kind? true? after? implies? in-time? height? loose on-comment on-exponent start-tec start-other start-map on-start end-map on-map-end epoch-tec epoch-other on-epoch open-block on-block on-file taken step finish run short meant place none? complete? made made-texts once on-end at-head head-step heading code-of
+unfolding half-text bare-text full-text read begin feed split front opens? pad pick ×-dec ⊎-dec ¬-dec all-dec same sames need bind amap get ℕ-discrete decLe decLt int? le? lt? between? within? natural? dated second isLeap monthDays yearDays sum readField numberOf formed? ×₃-dec ×₄-dec end? step? multiple? together? limits? dimension? follows? name on-line lookup label number blank scan fields cells on-date exponent? kind? true? after? implies? in-time? height? loose on-comment on-exponent start-tec start-other start-map on-start end-map on-map-end epoch-tec epoch-other on-epoch open-block on-block on-file taken step finish run short meant place none? complete? made made-texts once on-end at-head head-step heading versioned version-of
 bare-read = (_, refl, refl)
 
 -- the digit after the point is not left out: 6 at the field's first column
 pub no-digit : read (lines (half-text "      .5    .5    .5                                        LAT1 / LAT2 / DLAT" "      -.    .0    .5                                        LON1 / LON2 / DLON" "")) ≡ refused (why 6 14 3)
-unfolding half-text read begin feed split front opens? pad pick ×-dec ⊎-dec ¬-dec all-dec same sames need bind amap get ℕ-discrete decLe decLt int? le? lt? between? within? natural? dated second isLeap monthDays yearDays sum readField numberOf formed? ×₃-dec ×₄-dec end? step? multiple? together? limits? dimension? follows? name on-line lookup label number blank scan fields cells on-date exponent? kind? true? after? implies? in-time? height? loose on-comment on-exponent start-tec start-other start-map on-start end-map on-map-end epoch-tec epoch-other on-epoch open-block on-block on-file taken step finish run short meant place none? complete? made made-texts once on-end at-head head-step heading code-of
+unfolding half-text read begin feed split front opens? pad pick ×-dec ⊎-dec ¬-dec all-dec same sames need bind amap get ℕ-discrete decLe decLt int? le? lt? between? within? natural? dated second isLeap monthDays yearDays sum readField numberOf formed? ×₃-dec ×₄-dec end? step? multiple? together? limits? dimension? follows? name on-line lookup label number blank scan fields cells on-date exponent? kind? true? after? implies? in-time? height? loose on-comment on-exponent start-tec start-other start-map on-start end-map on-map-end epoch-tec epoch-other on-epoch open-block on-block on-file taken step finish run short meant place none? complete? made made-texts once on-end at-head head-step heading versioned version-of
 no-digit = refl
+
+-- ---- versions: GPS and GLO stand under 1.0 and not under 1.1; the version is told before the type, the type before the code
+
+abbrev version-row : String → List ℕ
+version-row s = bytes s ++ name version
+
+pub versions-read : (version-of (version-row "     1.0            IONOSPHERE MAPS     GPS                 ") ≡ ok (record { tenths = 10; kind = 73; code = 9 }))
+    × (version-of (version-row "     1.0            IONOSPHERE MAPS     GLO                 ") ≡ ok (record { tenths = 10; kind = 73; code = 10 }))
+    × (version-of (version-row "     1.0            IONOSPHERE MAPS     MIX                 ") ≡ ok (record { tenths = 10; kind = 73; code = 6 }))
+    × (version-of (version-row "     1.1            IONOSPHERE MAPS     GPS                 ") ≡ refused (fault 3 41))
+    × (version-of (version-row "     1.2            GEODESY             GPS                 ") ≡ refused (fault 3 1))
+    × (version-of (version-row "     1.1            GEODESY             GPS                 ") ≡ refused (fault 3 21))
+unfolding pick ×-dec ⊎-dec all-dec same sames need bind amap get ℕ-discrete decLe decLt within? natural? readField numberOf formed? name number blank scan fields place versioned version-of
+versions-read = (refl, refl, refl, refl, refl, refl)

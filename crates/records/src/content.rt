@@ -132,7 +132,7 @@ pub fn system_record(line: &[u8]) -> Two
 }
 
 // Whether z is one of low to high.
-fn natural(z: i32, low: u32, high: u32) -> bool
+pub fn natural(z: i32, low: u32, high: u32) -> bool
     ensures { λ r. ⌜ r ≡ truth (natural? low high z) ⌝ }
 {
     if mapset::axes::less(z, 0) {
@@ -146,7 +146,7 @@ fn natural(z: i32, low: u32, high: u32) -> bool
 }
 
 // A natural as such: at most 31 bits are left of it.
-fn unsigned(z: i32) -> u32
+pub fn unsigned(z: i32) -> u32
     ensures { λ r. ⌜ r ≡ natAbs z ⌝ }
 {
     mapset::axes::size(z) as u32

@@ -1,3 +1,3 @@
 -- What the code answers of the version record, by what `reading` says of it.
-pub mod Version
+pub mod Told
 pub mod VersionLaws

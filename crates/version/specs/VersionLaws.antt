@@ -7,11 +7,8 @@ use Prim.Native.Nat.{ℕ, suc, _≤_, _<_}
 use native.Mathlib.Omega.{arith}
 use lib.Dec.{eqb}
 use lib.ListN.{length, getD, drop}
-use lib.IntN.{ℤ, pos}
+use lib.IntN.{ℤ}
 use Rattle.kit.specs.Answer.{Answer, ok, refused, need, need-yes, need-no, bind, amap, get, pick, pick-yes, pick-no, same}
-use Rattle.kit.specs.Integer.{int?, between?}
-use Rattle.kit.specs.Parts.{up, dn, eq-parts, parts-le, le-parts}
-use Rattle.kit.specs.Truth.{truth, truth-same}
 use Rattle.forms.specs.Form as form
 use Rattle.forms.specs.Read.{readField}
 use Rattle.forms.specs.Columns.{columns}
@@ -27,19 +24,10 @@ use Rattle.reading.specs.Feed.{Fault, fault}
 use Rattle.reading.specs.Fields.{number, fields}
 use Rattle.reading.specs.LabelLaws.{placed, placed-yes, placed-no, place-is, named, version-number}
 use Rattle.reading.specs.Head.{place, next}
-use Rattle.reading.specs.Read.{code-of}
+use Rattle.reading.specs.Read.{versioned, version-of}
 use Rattle.reading.specs.ScanLaws.{unless, blank-to, read-is}
 use Rattle.records.specs.Records.{version-in, alone-in}
-use Rattle.version.specs.Version.{judged-in}
 use Rattle.records.specs.RecordLaws.{version-is}
-
--- ---- 1.1
-
-pub exactly : (n v : ℤ) → truth (between? n n v) ≡ truth (int? v n)
-exactly n v =
-    truth-same (between? n n v) (int? v n)
-    (λ b. eq-parts v n (omega (arith, parts-le n v (b .from), parts-le v n (b .to))))
-    (λ e. record { from = le-parts n v (omega (arith, ap up e, ap dn e)); to = le-parts v n (omega (arith, ap up e, ap dn e)) })
 
 -- ---- the type, in column 21
 
@@ -94,34 +82,32 @@ module _ (line : List ℕ) (k : ℕ) (e : k ≡ place-of line 40 codes) where
   in-codes : k ≡ placed (columns line 40 3) codes
   in-codes = e ∙ place-is line 40 3 codes tt
 
-  pub code-known : k < 9 → place same (columns line 40 3) codes ≡ some k
+  pub code-known : k < 11 → place same (columns line 40 3) codes ≡ some k
   code-known h = found (columns line 40 3) codes (rw in-codes at h) ∙ ap some (sym in-codes)
 
-  pub code-unknown : 9 ≤ k → place same (columns line 40 3) codes ≡ none
+  pub code-unknown : 11 ≤ k → place same (columns line 40 3) codes ≡ none
   code-unknown h = lost (columns line 40 3) codes (rw in-codes at h)
 
 -- ---- the record
 
-code-by : {A : Type 0} (z : Field) (f : Found) (t u : List ℕ) (k : ℤ → List ℕ → List ℕ → Answer Fault A)
+version-by : {A : Type 0} (z : Field) (f : Found) (t u : List ℕ) (k : ℤ → List ℕ → List ℕ → Answer Fault A)
     → bind {B = ℤ × (List ℕ × (List ℕ × Unit {0}))} (number z 1 (λ x. amap (λ vs. (x, vs)) (unless {A = List ℕ × (List ℕ × Unit {0})} f (amap (λ vs. (t, vs)) (amap (λ vs. (u, vs)) (ok tt)))))) (λ v. k (v .0) (v .1 .0) (v .1 .1 .0))
     ≡ bind (alone-in z f) (λ x. k x t u)
 unfolding bind amap number
-code-by (Number z) (At c) t u k = refl
-code-by (Number z) Nowhere t u k = refl
-code-by Bad f t u k = refl
+version-by (Number z) (At c) t u k = refl
+version-by (Number z) Nowhere t u k = refl
+version-by Bad f t u k = refl
 
 module _ (line : List ℕ) (fits : length line ≤ 80) where
-  pub not-version : ¬ (number-of line ≡ 0) → code-of (pad line) ≡ refused (fault 3 61)
-  unfolding code-of
+  pub not-version : ¬ (number-of line ≡ 0) → version-of (pad line) ≡ refused (fault 3 61)
+  unfolding version-of
   not-version n = need-no (same (drop 60 (pad line)) (name version)) (fault 3 61) _ (λ e. n (version-number line fits e))
 
-  pub is-version : number-of line ≡ 0 → code-of (pad line) ≡ bind (version-in (pad line)) (judged-in line)
-  unfolding code-of fields blank-to judged-in
+  pub is-version : number-of line ≡ 0 → version-of (pad line) ≡ bind (version-in (pad line)) (λ z. versioned z (columns line 20 1) (columns line 40 3))
+  unfolding version-of fields blank-to
   is-version e =
       let n : drop 60 (pad line) ≡ name version = named line fits (omega arith) ∙ (unfold names in rw e refl) in
       need-yes (same (drop 60 (pad line)) (name version)) (fault 3 61) _ n
-      ∙ ap (λ x. bind x (λ v. need (int? (v .0) (pos 11)) (fault 3 1) (need (same (v .1 .0) (73 ∷ [])) (fault 3 21) (get (place same (v .1 .1 .0) codes) (fault 3 41) ok))))
-      (read-is line fits (layout version) (omega arith))
-      ∙ code-by (readField form.F1 (columns line 0 8)) (blank-to line 8 20) (columns line 20 1) (columns line 40 3)
-      (λ z t u. need (int? z (pos 11)) (fault 3 1) (need (same t (73 ∷ [])) (fault 3 21) (get (place same u codes) (fault 3 41) ok)))
-      ∙ ap (λ x. bind x (judged-in line)) (sym (version-is line fits))
+      ∙ ap (λ x. bind x (λ v. versioned (v .0) (v .1 .0) (v .1 .1 .0))) (read-is line fits (layout version) (omega arith))
+      ∙ version-by (readField form.F1 (columns line 0 8)) (blank-to line 8 20) (columns line 20 1) (columns line 40 3) versioned
+      ∙ ap (λ x. bind x (λ z. versioned z (columns line 20 1) (columns line 40 3))) (sym (version-is line fits))

@@ -14,11 +14,12 @@ use Rattle.forms.specs.Form as form
 use Rattle.forms.specs.Show.{showField}
 use Rattle.mapset.specs.declared.Kind.{Kind}
 use Rattle.mapset.specs.declared.Kind.the-variants.{Tec, Rms, Height}
+use Rattle.mapset.specs.declared.Version.{Version}
 use Rattle.mapset.specs.declared.Header.{Header}
 use Rattle.mapset.specs.Grid.{rows}
 use Rattle.mapset.specs.Header.{Content, count, tenths, epoch as an-epoch, axis, program, mapping, observables, system as a-system, Said, says}
 use Rattle.mapset.specs.MapSet.{Block, TecMap, OtherMap, MapSet}
-use Rattle.layout.specs.Records.{Item, I, F, X, A, U, Vals}
+use Rattle.layout.specs.Records.{Item, I, F, D, X, A, U, Vals}
 use Rattle.layout.specs.Labels.{Label, version, exponent, header-end, epoch, block, file-end, head, system, start, end, bytes, name, items, content, layout, codes, letters}
 use Rattle.layout.specs.Layout.{Date, Slots, systems, node}
 use Rattle.reading.specs.Head.{number-in, axis-in, words-in, system-in}
@@ -30,6 +31,7 @@ unfoldable pub columns-of : (is : List Item) → Vals is → List ℕ
 columns-of [] v = []
 columns-of (I w ∷ is) v = showField form.I w (v .0) ++ columns-of is (v .1)
 columns-of (F w ∷ is) v = showField form.W1 w (v .0) ++ columns-of is (v .1)
+columns-of (D w ∷ is) v = showField form.F3 w (v .0) ++ columns-of is (v .1)
 columns-of (X w ∷ is) v = replicate w 32 ++ columns-of is v
 columns-of (A w ∷ is) v = v .0 ++ columns-of is (v .1)
 columns-of (U w ∷ is) v = replicate w 32 ++ columns-of is v
@@ -38,9 +40,9 @@ unfoldable pub row-of : (l : Label) → Vals (layout l) → List ℕ
 row-of l v = columns-of (layout l) v ++ name l
 
 -- the version record has `IONOSPHERE MAPS` in columns 21 to 35
-unfoldable pub version-row : ℕ → List ℕ
-version-row c =
-    (showField form.W1 8 (pos 11) ++ (replicate 12 32 ++ (bytes "IONOSPHERE MAPS     " ++ (getD codes c [] ++ replicate 17 32)))) ++ name version
+unfoldable pub version-row : Version → List ℕ
+version-row v =
+    (showField form.W1 8 (pos (v .tenths)) ++ (replicate 12 32 ++ (bytes "IONOSPHERE MAPS     " ++ (getD codes (v .code) [] ++ replicate 17 32)))) ++ name version
 
 -- the date of a second
 unfoldable pub date-of : ℕ → Epoch
@@ -148,7 +150,7 @@ map-rows m =
 -- ---- the text
 
 unfoldable pub canon-rows : MapSet → List (List ℕ)
-canon-rows m = version-row (m .header .version .code) ∷ head-rows order (says (m .header) (m .texts)) (row-of header-end tt ∷ map-rows m)
+canon-rows m = version-row (m .header .version) ∷ head-rows order (says (m .header) (m .texts)) (row-of header-end tt ∷ map-rows m)
 
 -- a line ends at its last non-blank byte
 unfoldable pub trimmed : List ℕ → List ℕ

@@ -12,12 +12,14 @@ use Rattle.kit.specs.Lists.{all-append, all-at, below}
 use Rattle.kit.specs.Truth.{decided}
 use Rattle.kit.specs.Range.{Within, within?}
 use Rattle.forms.specs.Form as form
-use Rattle.forms.specs.Show.{showField}
+use Rattle.forms.specs.Show.{showField, Room}
 use Rattle.forms.specs.ShowLaws.{show-spells, written-spells}
 use Rattle.calendar.specs.Calendar.{end as after-2199}
 use Rattle.mapset.specs.declared.Kind.the-variants.{Rms, Height}
-use Rattle.mapset.specs.Header.{count, epoch as an-epoch, axis, Said, number, along, a-count, a-epoch, a-axis, says}
+use Rattle.mapset.specs.Header.{count, epoch as an-epoch, axis, Said, number, along, a-count, a-epoch, a-axis, VersionRules, says}
+use Rattle.mapset.specs.SoundLaws.{takes-known}
 use Rattle.mapset.specs.declared.Axis.{Axis}
+use Rattle.mapset.specs.declared.Version.{Version}
 use Rattle.mapset.specs.Grid.{Line, AxisRules}
 use Rattle.mapset.specs.MapSet.{TecMap, OtherMap, MapSet}
 use Rattle.layout.specs.Text.{Printable}
@@ -83,45 +85,47 @@ known-version : Known version
 unfolding lookup name pick same sames ℕ-discrete
 known-version = refl
 
-code-length : (c : ℕ) → c < 9 → length (getD codes c []) ≡ 3
-code-length c h = below (λ c. length (getD codes c []) ≡ 3) 9 (refl, (refl, (refl, (refl, (refl, (refl, (refl, (refl, (refl, tt))))))))) c h
+code-length : (c : ℕ) → c < 11 → length (getD codes c []) ≡ 3
+code-length c h = below (λ c. length (getD codes c []) ≡ 3) 11 (refl, (refl, (refl, (refl, (refl, (refl, (refl, (refl, (refl, (refl, (refl, tt))))))))))) c h
 
 code-print : (c : ℕ) → Printable (getD codes c [])
 unfolding all-dec within? ×-dec decLe
 code-print c = all-at Printable codes c [] (decided (all-dec (λ l. all-dec (within? 32 126) l) codes)) tt
 
-version-fields : (c : ℕ) → c < 9 → Fields (layout version) (pos 11, (73 ∷ [], (getD codes c [], tt))) (showField form.W1 8 (pos 11) ++ (replicate 12 32 ++ (bytes "IONOSPHERE MAPS     " ++ (getD codes c [] ++ replicate 17 32))))
-version-fields c h =
-    f-tenths (showField form.W1 8 (pos 11)) (written-spells (omega arith, omega arith))
-    (f-blank (f-text (bytes "I") refl (f-unread (bytes "ONOSPHERE MAPS     ") refl (f-text (getD codes c []) (code-length c h) (f-unread (replicate 17 32) refl f-end)))))
-
-eleven-print : Printable (showField form.W1 8 (pos 11))
-eleven-print = spells-print (show-spells {fm = form.W1} {w = 8} {z = pos 11} (omega arith, omega arith))
-
-version-is : (c : ℕ) → c < 9 → Rec version (pos 11, (73 ∷ [], (getD codes c [], tt))) (version-row c)
-unfolding version-row
-version-is c h = rec (version-fields c h)
+abbrev first-columns : Version → List ℕ
+first-columns v =
+    showField form.W1 8 (pos (v .tenths)) ++ (replicate 12 32 ++ (bytes "IONOSPHERE MAPS     " ++ (getD codes (v .code) [] ++ replicate 17 32)))
 
 maps-print : Printable (bytes "IONOSPHERE MAPS     ")
 unfolding all-dec within? ×-dec decLe
 maps-print = decided (all-dec (within? 32 126) (bytes "IONOSPHERE MAPS     "))
 
-abbrev first-columns : ℕ → List ℕ
-first-columns c = showField form.W1 8 (pos 11) ++ (replicate 12 32 ++ (bytes "IONOSPHERE MAPS     " ++ (getD codes c [] ++ replicate 17 32)))
+module _ (v : Version) (w : VersionRules v) where
+  tenths-room : Room form.W1 8 (pos (v .tenths))
+  tenths-room = (omega (arith, w .tenths .1), omega (arith, w .tenths .1))
 
-first-print : (c : ℕ) → Printable (first-columns c)
-first-print c =
-    let end-of : List ℕ = getD codes c [] ++ replicate 17 32 in
-    let text : List ℕ = bytes "IONOSPHERE MAPS     " ++ end-of in
-    all-append (Within 32 126) (showField form.W1 8 (pos 11)) (replicate 12 32 ++ text) eleven-print
-    (all-append (Within 32 126) (replicate 12 32) text (spaces 12)
-    (all-append (Within 32 126) (bytes "IONOSPHERE MAPS     ") end-of maps-print (all-append (Within 32 126) (getD codes c []) (replicate 17 32) (code-print c) (spaces 17))))
+  version-fields : Fields (layout version) (pos (v .tenths), (73 ∷ [], (getD codes (v .code) [], tt))) (first-columns v)
+  version-fields =
+      f-tenths (showField form.W1 8 (pos (v .tenths))) (written-spells tenths-room)
+      (f-blank (f-text (bytes "I") refl (f-unread (bytes "ONOSPHERE MAPS     ") refl (f-text (getD codes (v .code) []) (code-length (v .code) (takes-known (w .code))) (f-unread (replicate 17 32) refl f-end)))))
 
-version-good : (c : ℕ) → c < 9 → GoodRow (version-row c)
-unfolding version-row
-version-good c h =
-    rec-good known-version (version-is c h) (rec-length version known-version (version-fields c h))
-    (all-append (Within 32 126) (first-columns c) (name version) (first-print c) (name-print version known-version))
+  version-is : Rec version (pos (v .tenths), (73 ∷ [], (getD codes (v .code) [], tt))) (version-row v)
+  unfolding version-row
+  version-is = rec version-fields
+
+  first-print : Printable (first-columns v)
+  first-print =
+      let end-of : List ℕ = getD codes (v .code) [] ++ replicate 17 32 in
+      let text : List ℕ = bytes "IONOSPHERE MAPS     " ++ end-of in
+      all-append (Within 32 126) (showField form.W1 8 (pos (v .tenths))) (replicate 12 32 ++ text) (spells-print (show-spells tenths-room))
+      (all-append (Within 32 126) (replicate 12 32) text (spaces 12)
+      (all-append (Within 32 126) (bytes "IONOSPHERE MAPS     ") end-of maps-print (all-append (Within 32 126) (getD codes (v .code) []) (replicate 17 32) (code-print (v .code)) (spaces 17))))
+
+  version-good : GoodRow (version-row v)
+  unfolding version-row
+  version-good =
+      rec-good known-version version-is (rec-length version known-version version-fields)
+      (all-append (Within 32 126) (first-columns v) (name version) first-print (name-print version known-version))
 
 -- ---- what the header's rules give
 
@@ -162,7 +166,7 @@ module _ (m : MapSet) (f : Formed m) where
   -- every row has 80 printable columns, one of them not blank
   pub rows-good : All GoodRow (canon-rows m)
   unfolding canon-rows
-  rows-good = (version-good (m .header .version .code) (f .header .version .code), header-put .1)
+  rows-good = (version-good (m .header .version) (f .header .version), header-put .1)
 
   -- ---- canonical text is made from its map set
   pub canon-made : Makes m (canon m)
@@ -171,7 +175,7 @@ module _ (m : MapSet) (f : Formed m) where
       let h = header-put in
       let v = f .header .version in
       let rs : List (List ℕ) = canon-rows m in
-      makes (rows-of v (version-is (m .header .version .code) (v .code)) (h .0)) (laid-out _ (version-good (m .header .version .code) (v .code), h .1)) (ended-by-lf _)
+      makes (rows-of v (version-is (m .header .version) v) (h .0)) (laid-out _ (version-good (m .header .version) v, h .1)) (ended-by-lf _)
 
   -- and so is read as that map set again
   pub canon-read : read (canon m) ≡ ok m

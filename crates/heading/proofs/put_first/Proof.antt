@@ -1,16 +1,16 @@
 -- `heading::put_first` meets its contract.
 use native.Mathlib.Omega.{arith}
 use borrow.Author.Needs.{needs}
+use Rattle.mapset.specs.SoundLaws.{takes-known}
 use Rattle.rows.specs.PutLaws.{room-first, room-next, put-next}
 use Rattle.heading.specs.Header.{first-rows}
 use Rattle.heading.proofs.put_first.Statement.{statement}
 use Rattle.heading.proofs.put_first.Tie as tie
 
-cast-version-row : tie.Need-cast-version-row
-cast-version-row c = search needs
-
 version-row-requires : tie.Need-version-row-requires
-version-row-requires c κs = search needs
+version-row-requires c κs =
+    let v = c .before .pre .0 .0 in
+    (omega (arith, v .0 .1), takes-known (v .1 .1))
 
 program-row-requires : tie.Need-program-row-requires
 program-row-requires c κs = search needs
@@ -21,7 +21,7 @@ slice-aggregate-put-line c = search needs
 put-line-requires : tie.Need-put-line-requires
 unfolding first-rows
 put-line-requires c κs =
-    let s = c .before .before .before .before .before .before in
+    let s = c .before .before .before .before .before in
     let m0 = s .pre .1 in
     rw (c .before .before .before .version-row .ensures) (room-first m0)
 
@@ -31,7 +31,7 @@ slice-aggregate-put-line-2 c = search needs
 put-line-requires-2 : tie.Need-put-line-requires-2
 unfolding first-rows
 put-line-requires-2 c κs =
-    let s = c .before .before .before .before .before .before .before .before .before .before .before in
+    let s = c .before .before .before .before .before .before .before .before .before .before in
     let m0 = s .pre .1 in
     let p1 = rw (c .before .before .before .before .before .before .before .before .version-row .ensures) at (c .before .before .before .before .put-line .ensures) in
     let m1 = room-next m0 p1 in
@@ -40,7 +40,7 @@ put-line-requires-2 c κs =
 put-dated-requires : tie.Need-put-dated-requires
 unfolding first-rows
 put-dated-requires c κs =
-    let s = c .before .before .before .before .before .before .before .before .before .before .before .before .before .before .before in
+    let s = c .before .before .before .before .before .before .before .before .before .before .before .before .before .before in
     let m0 = s .pre .1 in
     let p1 = rw (c .before .before .before .before .before .before .before .before .before .before .before .before .version-row .ensures) at (c .before .before .before .before .before .before .before .before .put-line .ensures) in
     let m1 = room-next m0 p1 in
@@ -51,7 +51,7 @@ put-dated-requires c κs =
 put-dated-requires-2 : tie.Need-put-dated-requires-2
 unfolding first-rows
 put-dated-requires-2 c κs =
-    let s = c .before .before .before .before .before .before .before .before .before .before .before .before .before .before .before .before .before .before .before in
+    let s = c .before .before .before .before .before .before .before .before .before .before .before .before .before .before .before .before .before .before in
     let m0 = s .pre .1 in
     let p1 = rw (c .before .before .before .before .before .before .before .before .before .before .before .before .before .before .before .before .version-row .ensures) at (c .before .before .before .before .before .before .before .before .before .before .before .before .put-line .ensures) in
     let m1 = room-next m0 p1 in
@@ -64,7 +64,7 @@ put-dated-requires-2 c κs =
 put-count-requires : tie.Need-put-count-requires
 unfolding first-rows
 put-count-requires c κs =
-    let s = c .before .before .before .before .before .before .before .before .before .before .before .before .before .before .before .before .before .before .before .before .before .before .before in
+    let s = c .before .before .before .before .before .before .before .before .before .before .before .before .before .before .before .before .before .before .before .before .before .before in
     let m0 = s .pre .1 in
     let p1 = rw (c .before .before .before .before .before .before .before .before .before .before .before .before .before .before .before .before .before .before .before .before .version-row .ensures) at (c .before .before .before .before .before .before .before .before .before .before .before .before .before .before .before .before .put-line .ensures) in
     let m1 = room-next m0 p1 in
@@ -79,7 +79,7 @@ put-count-requires c κs =
 put-count-requires-2 : tie.Need-put-count-requires-2
 unfolding first-rows
 put-count-requires-2 c κs =
-    let s = c .before .before .before .before .before .before .before .before .before .before .before .before .before .before .before .before .before .before .before .before .before .before .before .before .before .before .before in
+    let s = c .before .before .before .before .before .before .before .before .before .before .before .before .before .before .before .before .before .before .before .before .before .before .before .before .before .before in
     let m0 = s .pre .1 in
     let p1 = rw (c .before .before .before .before .before .before .before .before .before .before .before .before .before .before .before .before .before .before .before .before .before .before .before .before .version-row .ensures) at (c .before .before .before .before .before .before .before .before .before .before .before .before .before .before .before .before .before .before .before .before .put-line .ensures) in
     let m1 = room-next m0 p1 in
@@ -99,7 +99,7 @@ same-length c = search needs
 returns : tie.Need-returns
 unfolding first-rows
 returns c =
-    let s = c .before .before .before .before .before .before .before .before .before .before .before .before .before .before .before .before .before .before .before .before .before .before .before .before .before .before .before .before .before .before in
+    let s = c .before .before .before .before .before .before .before .before .before .before .before .before .before .before .before .before .before .before .before .before .before .before .before .before .before .before .before .before .before in
     let m0 = s .pre .1 in
     let p1 = rw (c .before .before .before .before .before .before .before .before .before .before .before .before .before .before .before .before .before .before .before .before .before .before .before .before .before .before .before .version-row .ensures) at (c .before .before .before .before .before .before .before .before .before .before .before .before .before .before .before .before .before .before .before .before .before .before .before .put-line .ensures) in
     let m1 = room-next m0 p1 in
@@ -118,7 +118,6 @@ pub put-first-spec : {M : Type 1} → statement M
 put-first-spec =
     tie.close
     (tie.spec
-    cast-version-row
     version-row-requires
     program-row-requires
     slice-aggregate-put-line

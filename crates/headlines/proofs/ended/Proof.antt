@@ -22,7 +22,7 @@ refuse-requires c κs = search needs
 returns : tie.Need-returns
 returns c =
     let a = c .before .before .before .args in
-    c .refuse .ensures ∙ sym (lacking (a .s) (a .code) (truth-false _ (sym (c .before .before .complete .ensures) ∙ not-true _ (c .before .if1 .taken))))
+    c .refuse .ensures ∙ sym (lacking (a .s) (a .version) (truth-false _ (sym (c .before .before .complete .ensures) ∙ not-true _ (c .before .if1 .taken))))
 
 header-of-requires : tie.Need-header-of-requires
 header-of-requires c κs = search needs
@@ -42,7 +42,7 @@ returns-2 c =
     let d = l .before in
     let h = d .before .before .before .before in
     let a = h .before .before .before .args in
-    c .refuse2 .ensures ∙ sym (disagreeing (a .s) (a .code) (h .header-of .result) (h .header-of .ensures) (truth-true _ (sym (h .before .before .complete .ensures) ∙ not-false _ (h .before .if1 .left)))
+    c .refuse2 .ensures ∙ sym (disagreeing (a .s) (a .version) (h .header-of .result) (h .header-of .ensures) (truth-true _ (sym (h .before .before .complete .ensures) ∙ not-false _ (h .before .if1 .left)))
     (truth-false _ (sym (d .dimension-agrees .ensures) ∙ not-true _ (c .before .if2 .taken))))
 
 refuse-requires-3 : tie.Need-refuse-requires-3
@@ -54,7 +54,7 @@ returns-3 c =
     let d = l .before in
     let h = d .before .before .before .before in
     let a = h .before .before .before .args in
-    c .refuse3 .ensures ∙ sym (too-large (a .s) (a .code) (h .header-of .result) (h .header-of .ensures) (truth-true _ (sym (h .before .before .complete .ensures) ∙ not-false _ (h .before .if1 .left)))
+    c .refuse3 .ensures ∙ sym (too-large (a .s) (a .version) (h .header-of .result) (h .header-of .ensures) (truth-true _ (sym (h .before .before .complete .ensures) ∙ not-false _ (h .before .if1 .left)))
     (truth-true _ (sym (d .dimension-agrees .ensures) ∙ not-false _ (c .before .before .if2 .left))) (truth-false _ (sym (l .limits-hold .ensures) ∙ not-true _ (c .before .if3 .taken))))
 
 returns-4 : tie.Need-returns-4
@@ -63,7 +63,7 @@ returns-4 c =
     let d = l .before in
     let h = d .before .before .before .before in
     let a = h .before .before .before .args in
-    sym (all-well (a .s) (a .code) (h .header-of .result) (h .header-of .ensures) (truth-true _ (sym (h .before .before .complete .ensures) ∙ not-false _ (h .before .if1 .left)))
+    sym (all-well (a .s) (a .version) (h .header-of .result) (h .header-of .ensures) (truth-true _ (sym (h .before .before .complete .ensures) ∙ not-false _ (h .before .if1 .left)))
     (truth-true _ (sym (d .dimension-agrees .ensures) ∙ not-false _ (c .before .if2 .left))) (truth-true _ (sym (l .limits-hold .ensures) ∙ not-false _ (c .if3 .left))))
 
 pub ended-spec : {M : Type 1} → statement M

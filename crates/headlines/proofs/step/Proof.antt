@@ -21,7 +21,7 @@ returns : tie.Need-returns
 returns c =
     let l = c .before .before in
     let a = l .before .before .args in
-    c .in-aux .ensures ∙ aux-is (a .s) (a .code) (a .line .now) (l .before .before .pre) (c .before .if1 .taken) (l .label-of .result) (l .label-of .ensures)
+    c .in-aux .ensures ∙ aux-is (a .s) (a .version) (a .line .now) (l .before .before .pre) (c .before .if1 .taken) (l .label-of .result) (l .label-of .ensures)
 
 refuse-requires : tie.Need-refuse-requires
 refuse-requires c κs = search needs
@@ -30,7 +30,7 @@ returns-2 : tie.Need-returns-2
 returns-2 c =
     let l = c .before .before .before in
     let a = l .before .before .args in
-    c .refuse .ensures ∙ sym (unknown-is (a .s) (a .code) (a .line .now) (l .before .before .pre) (c .before .before .if1 .left) (rw (l .label-of .ensures) at (c .before .if2 .taken)))
+    c .refuse .ensures ∙ sym (unknown-is (a .s) (a .version) (a .line .now) (l .before .before .pre) (c .before .before .if1 .left) (rw (l .label-of .ensures) at (c .before .if2 .taken)))
 
 by-label-requires : tie.Need-by-label-requires
 by-label-requires c κs = search needs
@@ -39,7 +39,7 @@ returns-3 : tie.Need-returns-3
 returns-3 c =
     let l = c .before .before .before in
     let a = l .before .before .args in
-    c .by-label .ensures ∙ sym (known-is (a .s) (a .code) (a .line .now) (l .before .before .pre) (c .before .before .if1 .left) (l .label-of .result) (l .label-of .ensures) (omega arith))
+    c .by-label .ensures ∙ sym (known-is (a .s) (a .version) (a .line .now) (l .before .before .pre) (c .before .before .if1 .left) (l .label-of .result) (l .label-of .ensures) (omega arith))
 
 pub step-spec : {M : Type 1} → statement M
 step-spec =

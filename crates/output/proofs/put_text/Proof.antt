@@ -24,7 +24,7 @@ module _ (s : tie.Start) where
   a = six (now (s .args .tec)) (now (s .args .rms)) (now (s .args .height)) (now (s .args .exponents)) (now (s .args .epochs)) (now (s .args .marks))
 
   abbrev head-of : List (List ℕ)
-  head-of = version-row (s .args .header .version .code) ∷ head-rows order (says (s .args .header) (s .args .texts)) (row-of header-end tt ∷ [])
+  head-of = version-row (s .args .header .version) ∷ head-rows order (says (s .args .header) (s .args .texts)) (row-of header-end tt ∷ [])
 
   begins : Leads (now (s .args .out)) (s .args .at) (canon-rows (nested (s .args .header) (s .args .texts) a)) (now (s .args .out)) (s .args .at) (head-of ++ all-rows (s .args .header) a)
   begins = leads-same leads-self (canon-are (s .args .header) a (sound-long (s .args .header) (s .args .texts) a (s .pre .0 .sound)) (s .pre .0 .sound .room .epochs) (s .args .texts))

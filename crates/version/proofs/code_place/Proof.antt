@@ -14,10 +14,10 @@ use Rattle.version.proofs.code_place.Lts as lts
 use Rattle.version.proofs.has_code.Reads as has-code-reads
 
 abbrev Inv-loop : tie.InvT-loop
-Inv-loop line k₀ k = (k ≤ 9) × (k + place-of line 40 (drop k codes) ≡ place-of line 40 codes)
+Inv-loop line k₀ k = (k ≤ 11) × (k + place-of line 40 (drop k codes) ≡ place-of line 40 codes)
 
 abbrev μ-loop : tie.MeasureT-loop
-μ-loop line k₀ k = 9 - k
+μ-loop line k₀ k = 11 - k
 
 loop-holds : tie.Need-loop-holds Inv-loop μ-loop
 loop-holds c = (search needs, omega arith)
@@ -45,7 +45,7 @@ loop-again c =
       omega (arith, l .inv .1, place-of-next (a .line .now) 40 codes (l .k) (omega arith) (sym (c .before .has-code .ensures) ∙ c .if1 .left)),
     )
 
-no-more : (s : List ℕ) (k : ℕ) → k ≤ 9 → 9 ≤ k → k + place-of s 40 (drop k codes) ≡ place-of s 40 codes → _≡_ {A = ℕ} 9 (place-of s 40 codes)
+no-more : (s : List ℕ) (k : ℕ) → k ≤ 11 → 11 ≤ k → k + place-of s 40 (drop k codes) ≡ place-of s 40 codes → _≡_ {A = ℕ} 11 (place-of s 40 codes)
 no-more s k h g i =
     let n : length codes ≤ k = g in
     omega (arith, rw (drop-of-length-le codes n) at i)

@@ -14,7 +14,7 @@ use Rattle.version.proofs.has_code.Reads as reads
 use Rattle.version.proofs.has_code.Lts as lts
 use Rattle.fields.proofs.byte_at.Reads as byte-at-reads
 
-code-length : (k : ℕ) → k < 9 → length (getD codes k []) ≡ 3
+code-length : (k : ℕ) → k < 11 → length (getD codes k []) ≡ 3
 code-length k h = eqb→eq _ _ (every-at (λ (l : List ℕ). eqb (length l) 3) codes tt k h)
 
 byte-at-requires : tie.Need-byte-at-requires

@@ -23,12 +23,12 @@ use Rattle.gathered.proofs.nothing.Reads as nothing-reads
 
 -- the answer from the start is the answer from here
 abbrev Inv-loop : tie.InvT-loop
-Inv-loop text from passed code s₀ at₀ n₀ s at n =
+Inv-loop text from passed version s₀ at₀ n₀ s at n =
     (at ≤ length text) × (n ≤ at) × Got (slots-of s)
-    × (heading code plain (negsuc 0) nothing-yet (feed (suc passed) (split (drop from text))) ≡ from-state code s text at n)
+    × (heading version plain (negsuc 0) nothing-yet (feed (suc passed) (split (drop from text))) ≡ from-state version s text at n)
 
 abbrev μ-loop : tie.MeasureT-loop
-μ-loop text from passed code s₀ at₀ n₀ s at n = length text - at
+μ-loop text from passed version s₀ at₀ n₀ s at n = length text - at
 
 nothing-requires : tie.Need-nothing-requires Inv-loop μ-loop
 nothing-requires c κs = tt
@@ -54,8 +54,8 @@ returns c =
     let l = p .before in
     let a = l .before .before .before .args in
     let o = c .before .before .onward .given in
-    let q : Stops (a .text .now) (a .code) (l .loop .s) (l .loop .at) (l .loop .n) (p .pass .result .state) (o .0 .0) =
-    subst (λ (x : Onward). Passes (a .text .now) (a .code) (l .loop .s) (l .loop .at) (l .loop .n) x (p .pass .result .state)) (o .1) (p .pass .ensures) in
+    let q : Stops (a .text .now) (a .version) (l .loop .s) (l .loop .at) (l .loop .n) (p .pass .result .state) (o .0 .0) =
+    subst (λ (x : Onward). Passes (a .text .now) (a .version) (l .loop .s) (l .loop .at) (l .loop .n) x (p .pass .result .state)) (o .1) (p .pass .ensures) in
     hands _ (a .text .now) (o .0 .0) (texts-of (p .pass .result .state)) (c .handed .result) (c .handed .ensures .0) (c .handed .ensures .1) (l .loop .inv .3 ∙ q .same) (q .sound)
 
 enum-known-onward-2 : tie.Need-enum-known-onward-2 Inv-loop μ-loop
@@ -66,12 +66,12 @@ onward-goes : (c : tie.After-known-told2 Inv-loop μ-loop) →
     let p = c .before .before .before .before in
     let l = p .before in
     let a = l .before .before .before .args in
-    Goes (a .text .now) (a .code) (l .loop .s) (l .loop .at) (l .loop .n) (p .pass .result .state) (c .before .onward2 .given .0 .0) (c .before .onward2 .given .0 .1 .0)
+    Goes (a .text .now) (a .version) (l .loop .s) (l .loop .at) (l .loop .n) (p .pass .result .state) (c .before .onward2 .given .0 .0) (c .before .onward2 .given .0 .1 .0)
 onward-goes c =
     let p = c .before .before .before .before in
     let l = p .before in
     let a = l .before .before .before .args in
-    subst (λ (x : Onward). Passes (a .text .now) (a .code) (l .loop .s) (l .loop .at) (l .loop .n) x (p .pass .result .state)) (c .before .onward2 .given .1) (p .pass .ensures)
+    subst (λ (x : Onward). Passes (a .text .now) (a .version) (l .loop .s) (l .loop .at) (l .loop .n) x (p .pass .result .state)) (c .before .onward2 .given .1) (p .pass .ensures)
 
 loop-less : tie.Need-loop-less Inv-loop μ-loop
 loop-less c = omega (arith, onward-goes c .ahead, onward-goes c .within)

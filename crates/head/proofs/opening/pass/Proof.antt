@@ -59,14 +59,14 @@ returns : tie.Need-returns
 returns c =
     let r = c .before .before .before .before in
     let a = r .before .before .args in
-    stops-over (a .text .now) (a .code) (a .s) (a .from) (a .passed) (c .before .before .n .given .0 .0) (c .line-after .result) (subst (Leads (a .text .now) (a .from) (a .passed)) (c .before .before .n .given .1) (r .row-from .ensures)) (c .line-after .ensures)
+    stops-over (a .text .now) (a .version) (a .s) (a .from) (a .passed) (c .before .before .n .given .0 .0) (c .line-after .result) (subst (Leads (a .text .now) (a .from) (a .passed)) (c .before .before .n .given .1) (r .row-from .ensures)) (c .line-after .ensures)
 
 returns-2 : tie.Need-returns-2
 returns-2 c =
     let r = c .before .before .before in
     let a = r .before .before .args in
     let e = c .before .number .given in
-    stops-bad (a .text .now) (a .code) (a .s) (a .from) (a .passed) (e .0 .0) (e .0 .1 .0) (e .0 .1 .1 .0) (subst (Leads (a .text .now) (a .from) (a .passed)) (e .1) (r .row-from .ensures))
+    stops-bad (a .text .now) (a .version) (a .s) (a .from) (a .passed) (e .0 .0) (e .0 .1 .0) (e .0 .1 .1 .0) (subst (Leads (a .text .now) (a .from) (a .passed)) (e .1) (r .row-from .ensures))
 
 returns-3 : tie.Need-returns-3
 returns-3 c =
@@ -75,7 +75,7 @@ returns-3 c =
     let a = k .before .before .before .before .before .args in
     let e : toZ w32 (ofZ w32 (a .s .exponent)) ≡ a .s .exponent = search needs in
     rw (c .led-to .ensures)
-    (leads-on (a .text .now) (a .code) (a .s) (a .from) (a .passed) _ _ _ _ (led k) (k .before .before .before .before .before .pre .2) (p .step .result .next) (p .step .result .state) _ e (p .step .ensures))
+    (leads-on (a .text .now) (a .version) (a .s) (a .from) (a .passed) _ _ _ _ (led k) (k .before .before .before .before .before .pre .2) (p .step .result .next) (p .step .result .state) _ e (p .step .ensures))
 
 pub pass-spec : {M : Type 1} → statement M
 pass-spec =

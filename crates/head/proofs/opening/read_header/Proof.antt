@@ -3,10 +3,10 @@ use native.Mathlib.Omega.{arith}
 use Prim.Native.Nat.{_+_}
 use mathlib.Core.Path.{subst}
 use lib.ListN.{length-take, length-drop}
-use Rattle.version.specs.Version.{toldCoded}
+use Rattle.version.specs.Told.{toldVersioned}
 use Rattle.head.specs.Opened.{Leads, LeadsRow, blank-texts}
 use Rattle.head.specs.declared.Headed.the-variants.{Refused}
-use Rattle.head.specs.OpenedLaws.{hands, first-over, first-bad, first-no, first-coded, continues}
+use Rattle.head.specs.OpenedLaws.{hands, first-over, first-bad, first-no, first-versioned, continues}
 use borrow.Author.Needs.{needs}
 use Rattle.head.proofs.opening.read_header.Statement.{statement}
 use Rattle.head.proofs.opening.read_header.Tie as tie
@@ -16,7 +16,7 @@ use Rattle.head.proofs.opening.header_from.Reads as header-from-reads
 use Rattle.head.proofs.opening.line_after.Reads as line-after-reads
 use Rattle.head.proofs.opening.refusal.Reads as refusal-reads
 use Rattle.head.proofs.opening.row_from.Reads as row-from-reads
-use Rattle.version.proofs.version_code.Reads as version-code-reads
+use Rattle.version.proofs.version_of.Reads as version-of-reads
 
 -- the row that was found
 led : (c : tie.After-known-told3) → let a = c .before .before .before .before .before .args in LeadsRow (a .text .now) 0 0 (c .before .start .given .0 .0) (c .before .start .given .0 .1 .0) (c .before .start .given .0 .1 .1 .0) (c .before .start .given .0 .1 .1 .1 .0)
@@ -45,17 +45,17 @@ refusal-requires-2 c κs = search needs
 enum-known-start : tie.Need-enum-known-start
 enum-known-start c = search needs
 
-sub-version-code : tie.Need-sub-version-code
-sub-version-code c = omega (arith, led c .inside)
+sub-version-of : tie.Need-sub-version-of
+sub-version-of c = omega (arith, led c .inside)
 
-part-version-code-start : tie.Need-part-version-code-start
-part-version-code-start c = omega (arith, led c .inside, led c .whole)
+part-version-of-start : tie.Need-part-version-of-start
+part-version-of-start c = omega (arith, led c .inside, led c .whole)
 
-part-version-code-end : tie.Need-part-version-code-end
-part-version-code-end c = omega (arith, led c .inside, led c .whole)
+part-version-of-end : tie.Need-part-version-of-end
+part-version-of-end c = omega (arith, led c .inside, led c .whole)
 
-version-code-requires : tie.Need-version-code-requires
-version-code-requires c κs = let f = led (c .before) .fits in simp (length-take, length-drop) (omega arith)
+version-of-requires : tie.Need-version-of-requires
+version-of-requires c κs = let f = led (c .before) .fits in simp (length-take, length-drop) (omega arith)
 
 enum-known-number-2 : tie.Need-enum-known-number-2
 enum-known-number-2 c = search needs
@@ -66,8 +66,8 @@ add-refusal c = omega (arith, led (c .before .before .before .before .before) .p
 refusal-requires-3 : tie.Need-refusal-requires-3
 refusal-requires-3 c κs = search needs
 
-enum-known-code : tie.Need-enum-known-code
-enum-known-code c = search needs
+enum-known-version : tie.Need-enum-known-version
+enum-known-version c = search needs
 
 add-header-from : tie.Need-add-header-from
 add-header-from c = omega (arith, led (c .before .before .before .before .before) .passed, led (c .before .before .before .before .before) .ahead, led (c .before .before .before .before .before) .within)
@@ -100,7 +100,7 @@ returns-3 c =
     let t = k .before .before .before .before .before .args .text .now in
     let m = k .before .start .given .0 .1 .1 .1 .0 in
     hands _ t (Refused (n .number2 .given .0 .0) (m + 1) (n .number2 .given .0 .1 .0)) blank-texts (c .refusal3 .result) (c .refusal3 .ensures .0) (c .refusal3 .ensures .1)
-    (first-no t _ _ _ m (led k) (n .number2 .given .0 .0) (n .number2 .given .0 .1 .0) (ap toldCoded (sym (n .number2 .given .1)) ∙ v .version-code .ensures) blank-texts) tt
+    (first-no t _ _ _ m (led k) (n .number2 .given .0 .0) (n .number2 .given .0 .1 .0) (ap toldVersioned (sym (n .number2 .given .1)) ∙ v .version-of .ensures) blank-texts) tt
 
 returns-4 : tie.Need-returns-4
 returns-4 c =
@@ -108,7 +108,7 @@ returns-4 c =
     let v = n .before .before in
     let k = v .before .before in
     let t = k .before .before .before .before .before .args .text .now in
-    continues _ _ t (c .header-from .result) (first-coded t _ _ _ _ (led k) (n .code .given .0 .0) (ap toldCoded (sym (n .code .given .1)) ∙ v .version-code .ensures)) (c .header-from .ensures)
+    continues _ _ t (c .header-from .result) (first-versioned t _ _ _ _ (led k) (n .version .given .0 .0) (ap toldVersioned (sym (n .version .given .1)) ∙ v .version-of .ensures)) (c .header-from .ensures)
 
 pub read-header-spec : {M : Type 1} → statement M
 read-header-spec =
@@ -121,14 +121,14 @@ read-header-spec =
     enum-known-number
     refusal-requires-2
     enum-known-start
-    sub-version-code
-    part-version-code-start
-    part-version-code-end
-    version-code-requires
+    sub-version-of
+    part-version-of-start
+    part-version-of-end
+    version-of-requires
     enum-known-number-2
     add-refusal
     refusal-requires-3
-    enum-known-code
+    enum-known-version
     add-header-from
     header-from-requires
     returns

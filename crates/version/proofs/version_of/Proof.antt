@@ -5,10 +5,10 @@ use mir.Val.{SFits}
 use mir.Facts.{toZ-ofZ}
 use Rattle.version.specs.VersionLaws.{not-version, is-version}
 use borrow.Author.Needs.{needs}
-use Rattle.version.proofs.version_code.Statement.{statement}
-use Rattle.version.proofs.version_code.Tie as tie
-use Rattle.version.proofs.version_code.Reads as reads
-use Rattle.version.proofs.version_code.Lts as lts
+use Rattle.version.proofs.version_of.Statement.{statement}
+use Rattle.version.proofs.version_of.Tie as tie
+use Rattle.version.proofs.version_of.Reads as reads
+use Rattle.version.proofs.version_of.Lts as lts
 use Rattle.records.proofs.content.version_record.Reads as version-record-reads
 use Rattle.version.proofs.judged.Reads as judged-reads
 use Rattle.labels.proofs.label_of.Reads as label-of-reads
@@ -49,8 +49,8 @@ returns-3 c =
     let f : SFits w32 (c .before .before .version .given .0 .0) = search needs in
     rw (is-version (l .before .before .args .line .now) (l .before .before .pre) (sym (l .label-of .ensures) ∙ v .before .if1 .left), sym (v .version-record .ensures), c .before .before .version .given .1) (rw (toZ-ofZ f) at (c .judged .ensures))
 
-pub version-code-spec : {M : Type 1} → statement M
-version-code-spec =
+pub version-of-spec : {M : Type 1} → statement M
+version-of-spec =
     tie.close
     (tie.spec
     label-of-requires

@@ -1,0 +1,2 @@
+-- What crosses to other languages of the biases.
+pub mod BiasesExported
