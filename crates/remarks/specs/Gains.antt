@@ -4,10 +4,10 @@ use mathlib.Core.Option.{Option, none, some}
 use mathlib.Core.List.{List, [], _∷_, _++_}
 use Prim.Native.Nat.{ℕ, zero, suc, _-_}
 use native.Mathlib.Omega.{arith}
-use native.Mathlib.Decide.{ℕ-discrete, decLe}
+use native.Mathlib.Decide.{ℕ-discrete}
 use lib.IntN.{ℤ, negsuc}
-use lib.ListN.{length, getD, set, drop}
-use Rattle.kit.specs.Answer.{Answer, ok, refused, need, bind, pick, same, pick-yes, pick-no, pick-elim, Yields, y-ok, y-no, need-yields, get-yields, bind-yields, amap-yields, pick-yields, yields-map}
+use lib.ListN.{getD, set, drop}
+use Rattle.kit.specs.Answer.{Answer, ok, refused, same, pick-yes, pick-no, pick-elim, Yields, y-ok, y-no, need-yields, get-yields, bind-yields, amap-yields, pick-yields, yields-map}
 use Rattle.mapset.specs.declared.Kind.{Kind}
 use Rattle.mapset.specs.declared.Kind.the-variants.{Tec, Rms, Height}
 use Rattle.calendar.specs.declared.Taken.{Taken}

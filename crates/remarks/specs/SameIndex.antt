@@ -2,12 +2,12 @@
 use mathlib.Core.Path.{_≡_, refl, sym, ap, subst, _∙_}
 use mathlib.Core.Logic.{_⊎_, inl, inr, ⊎-elim}
 use mathlib.Core.List.{List, [], _∷_}
-use Prim.Native.Nat.{ℕ, zero, suc, _+_, _*_}
+use Prim.Native.Nat.{ℕ, suc, _+_, _*_}
 use native.Mathlib.Omega.{arith}
 use native.Mathlib.Decide.{ℕ-discrete}
 use lib.IntN.{ℤ, negsuc}
 use lib.ListN.{length, drop, replicate}
-use Rattle.kit.specs.Answer.{Answer, ok, refused, amap, All, pick, ×-dec, all-dec, yields}
+use Rattle.kit.specs.Answer.{Answer, ok, refused, amap, All, ×-dec, all-dec, yields}
 use Rattle.forms.specs.Columns.{Blank}
 use Rattle.mapset.specs.Grid.{columns}
 use Rattle.mapset.specs.declared.Header.{Header}
