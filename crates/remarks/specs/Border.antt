@@ -1,9 +1,8 @@
--- Where `nothing-from-remarks` ends: the bias reader reads what stands in an aux block, and so tells apart two texts that differ only in their remarks.
+-- Where remarks begin to matter: to the bias reader, which reads what stands in an aux block; and to an index, where a remark makes its line longer.
 use mathlib.Core.Path.{_≡_, refl, sym, ap, _∙_}
 use mathlib.Core.Logic.{inl, inr}
 use mathlib.Core.List.{List, [], _∷_, map}
 use Prim.Native.Nat.{ℕ, zero, suc}
-use Prim.Native.String.{String}
 use native.Mathlib.Omega.{arith}
 use native.Mathlib.Decide.{ℕ-discrete, decLe, decLt}
 use lib.IntN.{ℤ, pos, negsuc}
@@ -16,6 +15,7 @@ use Rattle.days.specs.Years.{isLeap, monthDays, yearDays}
 use Rattle.days.specs.Sums.{sum}
 use Rattle.calendar.specs.Calendar.{dated, second}
 use Rattle.forms.specs.Read.{readField, numberOf, formed?}
+use Rattle.mapset.specs.MapSet.{MapSet}
 use Rattle.mapset.specs.Decisions.{×₃-dec, ×₄-dec, end?, step?, multiple?, together?, limits?, dimension?, follows?}
 use Rattle.layout.specs.Text.{pad}
 use Rattle.layout.specs.Labels.{aux-start, aux-end, name}
@@ -25,13 +25,17 @@ use Rattle.reading.specs.Maps.{on-date, exponent?, kind?, true?, after?, implie
 use Rattle.reading.specs.Head.{meant, place, none?, complete?, made, made-texts, once, on-end, at-head, head-step, heading}
 use Rattle.reading.specs.Read.{versioned, version-of, begin, read}
 use Rattle.reading.specs.Vectors.{lines}
+use Rattle.areas.specs.Scan.{or-else, second-of, brought, body, events}
+use Rattle.lines.specs.Cuts.{cuts}
+use Rattle.index.specs.Found.{clean?, blank?}
+use Rattle.index.specs.Made.{placed, placed-from, opened, maps-of, positions-of}
 use Rattle.biases.specs.Biases.{Biases}
 use Rattle.biases.specs.Rules.{title, of-satellite, of-station}
 use Rattle.biases.specs.Read.{role, system-of, satellite-meant, station-meant, satellite-of, station-of, same-satellite?, same-station?, new, new-satellite, new-station, on-role, gather, biases}
 use Rattle.remarks.specs.Remarks.{Bears, inside, Reworded, Remarked}
 use Rattle.remarks.specs.Likes.{Like, like-length}
 use Rattle.remarks.specs.Nothing.{nothing-from-remarks}
-use Rattle.remarks.specs.Pairs.{like?, like-at, rest, with-remarks, wet}
+use Rattle.remarks.specs.Pairs.{like?, like-at, rest, with-remarks, wet, bias, one}
 
 -- a satellite's bias, and another one
 unfoldable pub below : List ℕ
@@ -81,3 +85,17 @@ biases-differ = (
       let z : negsuc 1233 ∷ [] ≡ pos 1234 ∷ [] = ap told-biases (sym (biases-told .0) ∙ e ∙ biases-told .1) in
       let y : _≡_ {A = ℕ} 0 1 = cc in omega arith,
 )
+
+-- ---- a line that is longer by one blank is read the same, and moves the blocks behind it: the length in `Remarked` counts
+
+unfoldable pub longer : List ℕ
+longer = lines (with-remarks "rain over the north                                         COMMENT " bias [])
+
+pub moved :
+    (m : MapSet)
+    × (read one ≡ ok m)
+    × (read longer ≡ ok m)
+    × (positions-of (m .header) (placed-from one 0) ≡ 1560 ∷ 0 ∷ 0 ∷ [])
+    × (positions-of (m .header) (placed-from longer 0) ≡ 1561 ∷ 0 ∷ 0 ∷ [])
+unfolding one longer rest read begin feed split front opens? pad pick ×-dec ⊎-dec ¬-dec all-dec same sames need bind amap get ℕ-discrete decLe decLt int? le? lt? between? within? natural? dated second isLeap monthDays yearDays sum readField numberOf formed? ×₃-dec ×₄-dec end? step? multiple? together? limits? dimension? follows? name on-line lookup label number blank blanks scan fields cells on-date exponent? kind? true? after? implies? in-time? height? loose on-comment on-exponent start-tec start-other start-map on-start end-map on-map-end epoch-tec epoch-other on-epoch open-block on-block on-file taken step finish run short meant place none? complete? made made-texts once on-end at-head head-step heading versioned version-of cuts clean? blank? placed opened maps-of positions-of or-else second-of brought body events
+moved = (_, refl, refl, refl, refl)

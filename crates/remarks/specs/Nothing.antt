@@ -1,21 +1,28 @@
 -- Document 02, Ask 9: nothing from the remarks. And `Remarked` is reflexive, symmetric and transitive.
 use mathlib.Core.Path.{_≡_, refl, sym, ap, _∙_}
 use mathlib.Core.Logic.{inl, inr, ⊎-elim}
+use mathlib.Core.Option.{Option, none, some}
 use mathlib.Core.List.{List, []}
 use Prim.Native.Nat.{ℕ, suc, min}
 use native.Mathlib.Omega.{arith}
-use lib.IntN.{ℤ}
+use lib.IntN.{ℤ, negsuc}
 use lib.ListN.{length, take, drop, getD, length-take}
 use lib.Seq.{take-length}
+use Rattle.kit.specs.Answer.{Answer, ok, refused}
+use Rattle.mapset.specs.Grid.{columns}
+use Rattle.mapset.specs.MapSet.{MapSet}
 use Rattle.mapset.specs.Areas.{Areas}
 use Rattle.layout.specs.Text.{pad}
-use Rattle.reading.specs.Feed.{split}
+use Rattle.reading.specs.Feed.{Why, split, feed}
 use Rattle.reading.specs.Maps.{short}
-use Rattle.reading.specs.Read.{read}
+use Rattle.reading.specs.Read.{begin, read}
 use Rattle.reading.specs.Machine.{first, from}
 use Rattle.reading.specs.RefusalLaws.{Fine}
 use Rattle.reading.specs.Refusals.{reads, Faultless}
-use Rattle.outcome.specs.Outcome.{outcome, outcome-of, comes}
+use Rattle.areas.specs.Flat.{areas}
+use Rattle.lines.specs.Cuts.{cuts}
+use Rattle.needs.specs.Needs.{first-short}
+use Rattle.outcome.specs.Outcome.{accepted, outcome, outcome-of, comes}
 use Rattle.outcome.specs.Measures.{Measures}
 use Rattle.outcome.specs.Once.{needs-once}
 use Rattle.outcome.specs.declared.Measured.{Measured}
@@ -24,10 +31,19 @@ use Rattle.outcome.specs.declared.ReadOut.{ReadOut}
 use Rattle.crossing.specs.Own.{too-short, unless}
 use Rattle.crossing.specs.ReadExported.{crossed, crosses, read-crossed}
 use Rattle.crossing.specs.NeedsExported.{NeedsCross, area-short, answered, ionex-needs-once}
+use Rattle.index.specs.Index.{Entries, entries}
+use Rattle.index.specs.Made.{placed-from, positions-of, entries-of, fronts}
+use Rattle.index.proofs.FoundLaws.{cuts-split}
+use Rattle.making.specs.Making.{needed-and-lent, with-room, made-of, made}
+use Rattle.making.specs.Once.{Indexes, index-once}
+use Rattle.indexcrossing.specs.IndexExported as index
+use Rattle.indexcrossing.specs.IndexExported.{index-crossed}
 use Rattle.remarks.specs.Remarks.{Remark, commented, inside, Reworded, Close, Remarked}
 use Rattle.remarks.specs.Likes.{close-back, like, like-back, like-printable, pad-tail, Likes, like-lines, likes-length, likes-at}
 use Rattle.remarks.specs.Same as at
 use Rattle.remarks.specs.Same.{RemarkAt, same}
+use Rattle.remarks.specs.Gains.{gained}
+use Rattle.remarks.specs.SameIndex.{like-cuts, same-gains, positions-by, positions-gained}
 
 -- ---- from the text's first line on
 
@@ -88,6 +104,43 @@ module _ (t t′ : List ℕ) (r : Remarked t t′) where
 
   pub nothing-crosses-needed : (n p : List ℕ) {j k : ℕ} {u v x y : List ℕ} → NeedsCross t n p j u x → NeedsCross t′ n p k v y → (j ≡ k) × ((u ≡ v) × (x ≡ y))
   nothing-crosses-needed n p a b = ionex-needs-once t n p a (crosses-needed n p b)
+
+  -- ---- of an index
+
+  -- its positions, where the text is accepted
+  same-positions : (m : MapSet) → read t ≡ ok m → positions-of (m .header) (placed-from t 0) ≡ positions-of (m .header) (placed-from t′ 0)
+  unfolding read from
+  same-positions m e =
+      let C : ℕ = columns (m .header .grid) in
+      let g : gained C first (negsuc 0) (placed-from t 0) ≡ gained C first (negsuc 0) (placed-from t′ 0) =
+      same-gains C (cuts t) (cuts t′) first (negsuc 0) 1 0 (like-cuts t t′ (like t t′ (r .as-long) (r .close)))
+      (λ k. rw (cuts-split t, cuts-split t′) (⊎-elim inl (λ x. inr (from-first (split t) k (x .0), x .1)) (r .reworded k)))
+      m refl (ap (λ ls. begin (feed 1 ls)) (cuts-split t) ∙ e) in
+      positions-gained (m .header) (placed-from t 0) ∙ ap (positions-by (m .header)) g ∙ sym (positions-gained (m .header) (placed-from t′ 0))
+
+  -- the same answer, header record and texts, and the same in the areas, whatever was lent
+  pub nothing-in-index : (l : Entries) → made t l ≡ made t′ l
+  unfolding made-of with-room
+  nothing-in-index l = by (read t) refl ∙ ap (λ x. made-of x t′ l) nothing-from-remarks
+    where
+      by : (x : Answer Why MapSet) → read t ≡ x → made-of x t l ≡ made-of x t′ l
+      by (refused w) e = refl
+      by (ok m) e =
+          let p : entries-of m t ≡ entries-of m t′ = ap (λ o. entries o (areas m .exponents) (areas m .marks)) (same-positions m e) in
+          ap (λ a. with-room m t l (first-short 1 (needed-and-lent a l))) p ∙ room m p (first-short 1 (needed-and-lent (entries-of m t′) l))
+        where
+          room : (m : MapSet) → entries-of m t ≡ entries-of m t′ → (o : Option (ℕ × ℕ)) → with-room m t l o ≡ with-room m t′ l o
+          room m p none = ap (λ a. record { told = accepted (m .header); texts = m .texts; entries = fronts a l }) p
+          room m p (some s) = refl
+
+  -- so of two calls of `make_index`
+  pub nothing-to-indexes : (l : Entries) (a b : ReadOut) (l′ l″ : Entries) → Indexes t l a l′ → Indexes t′ l b l″ → (a ≡ b) × (l′ ≡ l″)
+  nothing-to-indexes l a b l′ l″ p q = index-once t l a b l′ l″ p (q ∙ sym (nothing-in-index l))
+
+  -- and of `ionex_index`
+  pub nothing-crosses-index : (l : Entries) (h : List ℤ) (x p : List ℕ) → index-crossed t l h x p ≡ index-crossed t′ l h x p
+  unfolding index-crossed
+  nothing-crosses-index l h x p = ap (λ o. unless (too-short (length h) (length x) (length p) 2) (index.crosses o h x p) (λ k. index.crossed k l h x p)) (nothing-in-index l)
 
 -- ---- the relation
 
