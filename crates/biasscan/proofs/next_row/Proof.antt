@@ -2,7 +2,7 @@
 use mathlib.Core.Path.{_≡_, refl, sym, ap, subst, _∙_}
 use native.Mathlib.Omega.{arith}
 use lib.ListN.{length-take, length-drop}
-use Rattle.head.specs.Opened.{Leads, LeadsRow}
+use Rattle.lines.specs.Leads.{Leads, LeadsRow}
 use Rattle.biases.specs.declared.Role.the-variants.{Last, Skipped}
 use Rattle.biasscan.specs.TurnLaws.{halts-over, halts-bad, on-row, on-satellite, on-station}
 use borrow.Author.Needs.{needs}

@@ -4,19 +4,13 @@ use Prim.Native.Nat.{_+_}
 use mathlib.Core.Path.{subst}
 use lib.ListN.{length-take, length-drop}
 use Rattle.version.specs.Told.{toldVersioned}
-use Rattle.head.specs.Opened.{Leads, LeadsRow, blank-texts}
+use Rattle.lines.specs.Leads.{Leads, LeadsRow}
+use Rattle.head.specs.Opened.{blank-texts}
 use Rattle.head.specs.declared.Headed.the-variants.{Refused}
 use Rattle.head.specs.OpenedLaws.{hands, first-over, first-bad, first-no, first-versioned, continues}
 use borrow.Author.Needs.{needs}
 use Rattle.head.proofs.opening.read_header.Statement.{statement}
 use Rattle.head.proofs.opening.read_header.Tie as tie
-use Rattle.head.proofs.opening.read_header.Reads as reads
-use Rattle.head.proofs.opening.read_header.Lts as lts
-use Rattle.head.proofs.opening.header_from.Reads as header-from-reads
-use Rattle.head.proofs.opening.line_after.Reads as line-after-reads
-use Rattle.head.proofs.opening.refusal.Reads as refusal-reads
-use Rattle.head.proofs.opening.row_from.Reads as row-from-reads
-use Rattle.version.proofs.version_of.Reads as version-of-reads
 
 -- the row that was found
 led : (c : tie.After-known-told3) → let a = c .before .before .before .before .before .args in LeadsRow (a .text .now) 0 0 (c .before .start .given .0 .0) (c .before .start .given .0 .1 .0) (c .before .start .given .0 .1 .1 .0) (c .before .start .given .0 .1 .1 .1 .0)

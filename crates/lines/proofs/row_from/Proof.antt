@@ -6,15 +6,12 @@ use native.Mathlib.Numerals.{add-one}
 use borrow.Author.Needs.{needs}
 use lib.ListN.{length, drop, drop-of-length-le}
 use Rattle.reading.specs.Feed.{why, over, bad, split, feed}
 use Rattle.lines.specs.Lines.{Skips, Rows}
 use Rattle.lines.proofs.Parts.{stands, skip-in, row-in, row-end}
 use Rattle.lines.specs.declared.Line.the-variants.{Over, Bad, Skip, Row}
-use Rattle.head.specs.OpenedLaws.{Reach, skipped, leads}
-use Rattle.head.proofs.opening.row_from.Statement.{statement}
-use Rattle.head.proofs.opening.row_from.Tie as tie
-use Rattle.head.proofs.opening.row_from.Reads as reads
-use Rattle.head.proofs.opening.row_from.Lts as lts
-use Rattle.lines.proofs.line_in.Reads as line-in-reads
+use Rattle.lines.proofs.Reaching.{Reach, skipped, leads}
+use Rattle.lines.proofs.row_from.Statement.{statement}
+use Rattle.lines.proofs.row_from.Tie as tie
 
 abbrev Inv-loop : tie.InvT-loop
 Inv-loop text from passed at₀ n₀ at n = Reach text from passed at n
