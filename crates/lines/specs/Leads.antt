@@ -10,6 +10,11 @@ use Rattle.reading.specs.Feed.{why, over, bad, row, split, feed}
 use Rattle.lines.specs.declared.NextRow.{NextRow}
 use Rattle.lines.specs.declared.NextRow.the-variants as NextRow
 
+-- there is none: the text ends after m lines
+pub record LeadsOver (t : List ℕ) (at n m : ℕ) : Type 0 where
+  pub few : m ≤ length t
+  pub on : feed (suc n) (split (drop at t)) ≡ over (suc m)
+
 -- it stands from start to end, after m lines; the next line starts at next
 pub record LeadsRow (t : List ℕ) (at n start end next m : ℕ) : Type 0 where
   pub after : at ≤ start
@@ -24,7 +29,7 @@ pub record LeadsRow (t : List ℕ) (at n start end next m : ℕ) : Type 0 where
 
 -- `Leads t at n r`: r is what comes after n lines, from the line that starts at `at` on
 abbrev pub Leads : List ℕ → ℕ → ℕ → NextRow → Type 0
-Leads t at n (NextRow.Over m) = feed (suc n) (split (drop at t)) ≡ over (suc m)
+Leads t at n (NextRow.Over m) = LeadsOver t at n m
 Leads t at n (NextRow.Bad k l c) = feed (suc n) (split (drop at t)) ≡ bad (why k l c)
 Leads t at n (NextRow.Row start end next m) = LeadsRow t at n start end next m
 

@@ -53,7 +53,7 @@ returns : tie.Need-returns
 returns c =
     let r = c .before .before .before .before in
     let a = r .before .before .args in
-    stops-over (a .text .now) (a .version) (a .s) (a .from) (a .passed) (c .before .before .n .given .0 .0) (c .line-after .result) (subst (Leads (a .text .now) (a .from) (a .passed)) (c .before .before .n .given .1) (r .row-from .ensures)) (c .line-after .ensures)
+    stops-over (a .text .now) (a .version) (a .s) (a .from) (a .passed) (c .before .before .n .given .0 .0) (c .line-after .result) (subst (Leads (a .text .now) (a .from) (a .passed)) (c .before .before .n .given .1) (r .row-from .ensures) .on) (c .line-after .ensures)
 
 returns-2 : tie.Need-returns-2
 returns-2 c =

@@ -75,7 +75,7 @@ returns c =
     let r = n .before .before in
     let t = r .before .before .args .text .now in
     hands _ t (Refused 10 (c .before .line-after .result) 0) blank-texts (c .refusal .result) (c .refusal .ensures .0) (c .refusal .ensures .1)
-    (first-over t (n .n .given .0 .0) _ (subst (Leads t 0 0) (n .n .given .1) (r .row-from .ensures)) (c .before .line-after .ensures) blank-texts) tt
+    (first-over t (n .n .given .0 .0) _ (subst (Leads t 0 0) (n .n .given .1) (r .row-from .ensures) .on) (c .before .line-after .ensures) blank-texts) tt
 
 returns-2 : tie.Need-returns-2
 returns-2 c =
