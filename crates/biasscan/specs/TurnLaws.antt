@@ -15,8 +15,7 @@ use Rattle.layout.specs.Text.{pad}
 use Rattle.reading.specs.Feed.{Fault, why, Feed, over, bad, row, split, feed}
 use Rattle.reading.specs.Maps.{short}
 use Rattle.reading.specs.LabelLaws.{label-columns}
-use Rattle.head.specs.Opened.{LeadsRow}
-use Rattle.head.specs.OpenedLaws.{after-all}
+use Rattle.lines.specs.Leads.{LeadsRow, after-all}
 use Rattle.biases.specs.Biases.{Biases, SameStation}
 use Rattle.biases.specs.Rules.{of-satellite, of-station, Stands}
 use Rattle.biases.specs.Read.{role, satellite-of, station-of, same-station?, gather}

@@ -17,8 +17,7 @@ use biases::Satellite;
 use biases::Station;
 use biaslines::SatelliteSaid;
 use biaslines::StationSaid;
-use head::Ahead;
-use head::opening;
+use lines::NextRow;
 
 // What the next row is: refused with 01's number, line and column; END OF HEADER; a row that is skipped, with the place after it, where
 // the next line starts and how many lines were passed; a satellite's or a station's, with where it starts and ends, and the same.
@@ -72,10 +71,10 @@ pub fn next_row(text: &[u8], at: usize, lines: u64, place: Place) -> Turn
     requires { ⌜ (at ≤ length (now text)) × (lines ≤ at) ⌝ }
     ensures { λ r. ⌜ turns.Turns (now (text .entry)) at lines place r ⌝ }
 {
-    match opening::row_from(text, at, lines) {
-        Ahead::Over(n) => Turn::Stop(10, opening::line_after(n), 0),
-        Ahead::Bad(number, line, column) => Turn::Stop(number, line, column),
-        Ahead::Line(start, end, next, n) => {
+    match lines::row_from(text, at, lines) {
+        NextRow::Over(n) => Turn::Stop(10, lines::line_after(n), 0),
+        NextRow::Bad(number, line, column) => Turn::Stop(number, line, column),
+        NextRow::Row(start, end, next, n) => {
             match biaslines::role_of(place, &text[start..end]) {
                 Role::Last => Turn::Last,
                 Role::Skipped(to) => Turn::Skip(to, next, n + 1),

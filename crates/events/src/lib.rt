@@ -4,15 +4,12 @@ ghost use mathlib.Core.List.{[]};
 ghost use Prim.Native.Nat.{_≤_, _<_};
 ghost use lib.ListN.{length};
 ghost use lib.IntN.{natAbs};
-ghost use Rattle.calendar.specs.Calendar.{dated};
 ghost use Rattle.layout.specs.Text.{pad};
 ghost use Rattle.layout.specs.Layout.{Other};
-ghost use Rattle.areas.specs.Scan.{now as now-of, goes, on-start, on-epoch, exponent-in, second-of, epoch-in};
+ghost use Rattle.areas.specs.Scan.{now as now-of, goes, on-start, on-epoch, exponent-in, epoch-in};
 ghost use Rattle.events.specs.Brings.{told, Goes, Opened, Takes};
-use calendar::Taken;
-use forms::Field;
-use forms::Found;
-use forms::Row;
+use maprecords::Dated;
+use maprecords::One;
 use mapset::Kind;
 
 // Kind and number of the last map that began, how many of its blocks are done, the exponent in force, and how many TEC maps have their epoch.
@@ -40,17 +37,14 @@ pub struct Brought {
 
 // ---- What a row holds
 
-// I6,54X: EXPONENT and START.
+// The number of EXPONENT and START.
 pub fn whole_in(line: &[u8]) -> i32
     requires { ⌜ length (now line) ≤ 80 ⌝ }
     ensures { λ r. ⌜ r ≡ exponent-in (pad (now (line .entry))) ⌝ }
 {
-    match fields::int_at(line, 0, 6) {
-        Field::Bad => 0,
-        Field::Number(z) => match fields::first_not_blank(line, 6, 60) {
-            Found::At(_) => 0,
-            Found::Nowhere => z,
-        },
+    match maprecords::one_number(line) {
+        One::Wrong(_) => 0,
+        One::Number(z) => z,
     }
 }
 
@@ -61,30 +55,14 @@ fn number_in(line: &[u8]) -> usize
     mapset::axes::size(whole_in(line)) as usize
 }
 
-fn second_of(year: i32, month: i32, day: i32, hour: i32, minute: i32, second: i32) -> u64
-    ensures { λ r. ⌜ r ≡ second-of (dated year month day hour minute second) ⌝ }
-{
-    match calendar::take(year, month, day, hour, minute, second) {
-        Taken::At(t) => t,
-        Taken::Wrong(_) => 0,
-    }
-}
-
-// 6I6,24X: EPOCH OF CURRENT MAP.
+// The second of EPOCH OF CURRENT MAP.
 fn epoch_in(line: &[u8]) -> u64
     requires { ⌜ length (now line) ≤ 80 ⌝ }
     ensures { λ r. ⌜ r ≡ epoch-in (pad (now (line .entry))) ⌝ }
 {
-    match fields::six_numbers(line) {
-        Row::Wrong(_) => 0,
-        Row::Six(year, month, day, hour, minute, second) => match fields::first_not_blank(
-            line,
-            36,
-            60,
-        ) {
-            Found::At(_) => 0,
-            Found::Nowhere => second_of(year, month, day, hour, minute, second),
-        },
+    match maprecords::epoch_in(line) {
+        Dated::Refused(_, _) => 0,
+        Dated::At(t) => t,
     }
 }
 

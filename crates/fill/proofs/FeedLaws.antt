@@ -5,7 +5,6 @@ use Prim.Native.Nat.{ℕ, zero, suc, _+_, _-_, _≤_}
 use native.Mathlib.Decide.{ℕ-discrete, decLe}
 use native.Mathlib.Omega.{arith}
 use lib.ListN.{length, take, drop}
-use lib.Seq.{drop-drop}
 use lib.IntN.{ℤ}
 use Rattle.kit.specs.Answer.{Answer, ok, refused, bind, amap, pick, all-dec, Yields, y-ok, y-no, bind-yields, amap-yields, yields-map}
 use Rattle.kit.specs.Range.{within?}
@@ -13,10 +12,9 @@ use Rattle.layout.specs.Text.{pad}
 use Rattle.reading.specs.Feed.{Fault, Why, why, on-line, Feed, over, bad, row, bad-column, split, feed}
 use Rattle.reading.specs.Fields.{cells}
 use Rattle.reading.specs.Maps.{short, on-row}
-use Rattle.lines.specs.Lines.{Stands, Skips, Rows}
+use Rattle.lines.specs.Leads.{LeadsOver, LeadsRow}
 use Rattle.values.specs.Values.{Okay}
 use Rattle.blocks.specs.Blocks.{values}
-use Rattle.lines.specs.declared.Line.the-variants.{Over, Bad}
 use Rattle.areas.specs.Scan.{Now, or-else, values-ahead, brought}
 use Rattle.fill.specs.Rows.{rows-of, rows-from, Valued}
 
@@ -35,28 +33,20 @@ rows-numbered n m (l ∷ ls) = by (decLe (length l) 80) (all-dec (within? 32 126
     by (yes p) (no q) g ih = refl
     by (no p) e g ih = refl
 
--- ---- line by line
+-- ---- row by row
 
 module _ (t : List ℕ) (at : ℕ) where
-  pub rows-over : Stands (drop at t) Over → rows-from t at ≡ []
+  pub rows-over : {m : ℕ} → LeadsOver t at 0 m → rows-from t at ≡ []
   unfolding rows-of
-  rows-over h = ap rows-of (h 1)
+  rows-over h = ap rows-of (h .on)
 
-  pub rows-bad : {k c : ℕ} → Stands (drop at t) (Bad k c) → rows-from t at ≡ []
+  pub rows-bad : {k l c : ℕ} → feed 1 (split (drop at t)) ≡ bad (why k l c) → rows-from t at ≡ []
   unfolding rows-of
-  rows-bad h = ap rows-of (h 1)
+  rows-bad h = ap rows-of h
 
-  moved : (n next : ℕ) → rows-of (feed n (split (drop next (drop at t)))) ≡ rows-from t (at + next)
-  moved n next = rows-numbered n 1 _ ∙ ap (λ (l : List ℕ). rows-of (feed 1 (split l))) (drop-drop next at t)
-
-  pub rows-skip : (next : ℕ) → Skips (drop at t) next → rows-from t at ≡ rows-from t (at + next)
-  rows-skip next h = ap rows-of (h .on 1) ∙ moved 2 next
-
-  pub rows-row : (w next : ℕ) → Rows (drop at t) w next → rows-from t at ≡ pad (take (at + w - at) (drop at t)) ∷ rows-from t (at + next)
+  pub rows-row : {start end next m : ℕ} → LeadsRow t at 0 start end next m → rows-from t at ≡ pad (take (end - start) (drop start t)) ∷ rows-from t next
   unfolding rows-of
-  rows-row w next h =
-      let e : w ≡ at + w - at = omega arith in
-      ap rows-of (h .on 1) ∙ (λ i. pad (take (e i) (drop at t)) ∷ moved 2 next i)
+  rows-row {start} {end} {next} {m} h = ap rows-of (h .on) ∙ ap (λ rs. pad (take (end - start) (drop start t)) ∷ rs) (rows-numbered (suc (suc m)) 1 (split (drop next t)))
 
 -- ---- the values of a block
 

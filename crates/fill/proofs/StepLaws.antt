@@ -1,20 +1,19 @@
--- From one line to the next.
+-- From one row to the next.
 use mathlib.Core.Path.{_≡_, refl, sym, ap, _∙_}
 use mathlib.Core.List.{List, []}
-use Prim.Native.Nat.{ℕ, _+_, _-_, _≤_, _<_}
+use Prim.Native.Nat.{ℕ, _-_, _≤_, _<_}
 use native.Mathlib.Omega.{arith}
 use lib.ListN.{length, take, drop, drop-of-length-le}
 use Rattle.layout.specs.Text.{pad}
 use Rattle.reading.specs.Feed.{split, feed}
-use Rattle.lines.specs.Lines.{Skips, Rows}
-use Rattle.lines.proofs.Parts.{skip-in, row-in}
+use Rattle.lines.specs.Leads.{LeadsRow}
 use Rattle.fill.specs.Rows.{rows-of, rows-from}
 use Rattle.events.specs.Brings.{Takes}
 use Rattle.fill.specs.Scan.{Turned, passed, taken}
 use Rattle.events.specs.declared.State.{State}
 use Rattle.events.specs.declared.Event.{Event}
 use Rattle.events.specs.declared.Event.the-variants.{Nothing}
-use Rattle.fill.proofs.FeedLaws.{rows-skip, rows-row}
+use Rattle.fill.proofs.FeedLaws.{rows-row}
 
 -- behind the text there are no rows
 pub rows-end : (t : List ℕ) (at : ℕ) → length t ≤ at → rows-from t at ≡ []
@@ -25,9 +24,6 @@ module _ (t : List ℕ) (at : ℕ) (s : State) (inside : at < length t) where
   pub over-turned : rows-from t at ≡ [] → Turned t at s (record { at = length t; event = Nothing; state = s })
   over-turned e = passed inside (omega arith) (e ∙ sym (rows-end t (length t) (omega arith))) refl refl
 
-  pub skip-turned : (next : ℕ) → Skips (drop at t) next → Turned t at s (record { at = at + next; event = Nothing; state = s })
-  skip-turned next h = let a = h .ahead in passed (omega arith) (skip-in t at (omega arith) next h) (rows-skip t at next h) refl refl
-
-  pub row-turned : (w next : ℕ) → Rows (drop at t) w next → (ev : Event) (s′ : State) → Takes s (pad (take (at + w - at) (drop at t))) ev s′
-      → Turned t at s (record { at = at + next; event = ev; state = s′ })
-  row-turned w next h ev s′ k = taken _ (row-in t at (omega arith) w next h) (rows-row t at w next h) k
+  pub row-turned : {start end next m : ℕ} → LeadsRow t at 0 start end next m → (ev : Event) (s′ : State) → Takes s (pad (take (end - start) (drop start t))) ev s′
+      → Turned t at s (record { at = next; event = ev; state = s′ })
+  row-turned h ev s′ k = taken _ (h .within) (rows-row t at h) k

@@ -11,9 +11,9 @@ use Rattle.fill.specs.declared.Step.{Step}
 use Rattle.events.specs.declared.Event.{Event}
 use Rattle.events.specs.declared.Event.the-variants.{Nothing}
 
--- ---- from one line to the next
+-- ---- from one row to the next
 
--- the next turn of the scan: either lines that hand on nothing are passed, or a row is taken
+-- the next turn of the scan: either there is no row, or one is taken
 pub data Turned (t : List ℕ) (at : ℕ) (s : State) (r : Step) : Type 0 where
   passed : at < r .at → r .at ≤ length t → rows-from t at ≡ rows-from t (r .at) → r .event ≡ Nothing → r .state ≡ s → Turned t at s r
   taken : (x : List ℕ) → r .at ≤ length t → rows-from t at ≡ x ∷ rows-from t (r .at) → Takes s x (r .event) (r .state) → Turned t at s r

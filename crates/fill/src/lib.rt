@@ -13,7 +13,7 @@ ghost use Rattle.fill.specs.Filled.{Readable, Enough, Filled};
 ghost use Rattle.fill.specs.Scan.{Turned, Resumes, Resumed};
 use events::Event;
 use events::State;
-use lines::Line;
+use lines::NextRow;
 use mapset::Kind;
 pub use stores::Size;
 
@@ -26,7 +26,7 @@ fn put_block(text: &[u8], at: usize, from: usize, columns: usize, area: &mut [i3
     blocks::fill_block(text, at, 0, &mut area[from..e])
 }
 
-// ---- From one line to the next
+// ---- From one row to the next
 
 // Where the next line starts, what was brought, and where the scan then stands.
 pub struct Step {
@@ -39,29 +39,23 @@ fn step_at(text: &[u8], at: usize, s: State) -> Step
     requires { ⌜ (at < length (now text)) × ((s .tecs < 9223372036854775808) × (s .done < 9223372036854775808)) ⌝ }
     ensures { λ r. ⌜ Turned (now (text .entry)) at s r ⌝ }
 {
-    match lines::line_in(&text[at..]) {
-        Line::Over => Step {
+    match lines::row_from(text, at, 0) {
+        NextRow::Over(_) => Step {
             at: text.len(),
             event: Event::Nothing,
             state: s,
         },
-        Line::Bad(_, _) => Step {
+        NextRow::Bad(_, _, _) => Step {
             at: text.len(),
             event: Event::Nothing,
             state: s,
         },
-        Line::Skip(next) => Step {
-            at: at + next,
-            event: Event::Nothing,
-            state: s,
-        },
-        Line::Row(width, next) => {
-            let e = at + width;
-            let b = events::brought_by(s, &text[at..e]);
+        NextRow::Row(start, end, next, _) => {
+            let b = events::brought_by(s, &text[start..end]);
             let event = b.event;
             let state = b.state;
             Step {
-                at: at + next,
+                at: next,
                 event,
                 state,
             }

@@ -22,32 +22,11 @@ use Rattle.gathered.specs.Got.{slots-of, texts-of, mode}
 use Rattle.gathered.specs.declared.State.{State}
 use Rattle.gathered.specs.declared.Next.{Next}
 use Rattle.gathered.specs.declared.Next.the-variants as Next
-use Rattle.head.specs.declared.Ahead.{Ahead}
-use Rattle.head.specs.declared.Ahead.the-variants as Ahead
 use Rattle.head.specs.declared.Headed.{Headed}
 use Rattle.head.specs.declared.Headed.the-variants.{Refused, Accepted}
 use Rattle.head.specs.declared.Onward.{Onward}
 use Rattle.head.specs.declared.Onward.the-variants as Onward
 use Rattle.head.specs.declared.HeaderRead.{HeaderRead}
-
--- ---- the next row of a text, after n lines, from a line's start on
-
--- it stands from start to end, after m lines; the next line starts at next
-pub record LeadsRow (t : List ℕ) (at n start end next m : ℕ) : Type 0 where
-  pub after : at ≤ start
-  pub inside : start ≤ end
-  pub fits : end - start ≤ 80
-  pub whole : end ≤ length t
-  pub ahead : start < next
-  pub behind : end ≤ next
-  pub within : next ≤ length t
-  pub passed : m ≤ start
-  pub on : feed (suc n) (split (drop at t)) ≡ row (suc m) (pad (take (end - start) (drop start t))) (feed (suc (suc m)) (split (drop next t)))
-
-abbrev pub Leads : List ℕ → ℕ → ℕ → Ahead → Type 0
-Leads t at n (Ahead.Over m) = feed (suc n) (split (drop at t)) ≡ over (suc m)
-Leads t at n (Ahead.Bad k l c) = feed (suc n) (split (drop at t)) ≡ bad (why k l c)
-Leads t at n (Ahead.Line start end next m) = LeadsRow t at n start end next m
 
 -- ---- an accepted header
 

@@ -20,7 +20,7 @@ use Rattle.mapset.specs.Grid.{Line, AxisRules}
 use Rattle.mapset.specs.Header.{count, axis, Said, a-count, a-axis, starred}
 use Rattle.layout.specs.Text.{pad, Printable}
 use Rattle.layout.specs.Layout.{Slots, Mode, plain}
-use Rattle.lines.specs.Lines.{Skips, Rows}
+use Rattle.lines.specs.Leads.{LeadsRow, after-all}
 use Rattle.reading.specs.Feed.{Fault, fault, Why, why, on-line, Feed, over, bad, row, split, feed}
 use Rattle.reading.specs.LineLaws.{Sized, sized}
 use Rattle.reading.specs.Maps.{short, run}
@@ -30,54 +30,13 @@ use Rattle.reading.specs.SlotLaws.{Fit, fit-no, fit, fit-none, complete-at}
 use Rattle.reading.specs.Read.{nothing-yet, version-of, begin, read}
 use Rattle.reading.specs.HeadLaws.{Got, Ends, fine-step}
 use Rattle.gathered.specs.Got.{slots-of, texts-of, mode, Went, went, ended, gone, toldNext, stepped}
-use Rattle.head.specs.Opened.{LeadsRow, HeaderFits, Sound, opened, Goes, Stops, Passes, onward, beside, Opens}
+use Rattle.head.specs.Opened.{HeaderFits, Sound, opened, Goes, Stops, Passes, onward, beside, Opens}
 use Rattle.gathered.specs.declared.State.{State}
 use Rattle.gathered.specs.declared.Next.{Next}
 use Rattle.gathered.specs.declared.Next.the-variants as Next
 use Rattle.head.specs.declared.HeaderRead.{HeaderRead}
 use Rattle.head.specs.declared.Headed.{Headed}
 use Rattle.head.specs.declared.Headed.the-variants.{Refused, Accepted}
-
--- ---- from line to line
-
--- the lines from `from` to `at` were blank
-pub record Reach (t : List ℕ) (from passed at n : ℕ) : Type 0 where
-  pub after : from ≤ at
-  pub within : at ≤ length t
-  pub few : n ≤ at
-  pub same : feed (suc passed) (split (drop from t)) ≡ feed (suc n) (split (drop at t))
-
-module _ (t : List ℕ) (from passed at n : ℕ) (z : Reach t from passed at n) where
-  pub skipped : (next : ℕ) → at + next ≤ length t → Skips (drop at t) next → Reach t from passed (at + next) (n + 1)
-  skipped next w k =
-      let a = k .ahead in
-      let b = z .after in
-      let c = z .few in
-      record {
-        after = omega arith;
-        within = w;
-        few = omega arith;
-        same = z .same ∙ k .on (suc n) ∙ (λ i. feed (suc (sym (add-one n) i)) (split (drop-drop next at t i)));
-      }
-
-  pub leads : (w next : ℕ) → at + w ≤ length t → at + next ≤ length t → Rows (drop at t) w next → LeadsRow t from passed at (at + w) (at + next) n
-  leads w next u v k =
-      let a = k .ahead in
-      let b = z .after in
-      let c = z .few in
-      let f = k .fits in
-      let e : at + w - at ≡ w = omega arith in
-      record {
-        after = omega arith;
-        inside = omega arith;
-        fits = omega arith;
-        whole = u;
-        ahead = omega arith;
-        behind = omega (arith, k .inside);
-        within = v;
-        passed = omega arith;
-        on = z .same ∙ k .on (suc n) ∙ (λ i. row (suc n) (pad (take (sym e i) (drop at t))) (feed (suc (suc n)) (split (drop-drop next at t i))));
-      }
 
 -- ---- a row by what the step tells
 
@@ -140,10 +99,6 @@ header-fits c got r g x =
     }
 
 -- ---- no row
-
--- the number that refusal 10 tells after n lines
-abbrev pub after-all : ℕ → ℕ
-after-all n = pick (decLe (suc n) 18446744073709551615) (suc n) 18446744073709551615
 
 module _ (t : List ℕ) (c : Version) (s : State) (at n : ℕ) where
   pub stops-over : (m l : ℕ) → feed (suc n) (split (drop at t)) ≡ over (suc m) → l ≡ after-all m → Stops t c s at n s (Refused 10 l 0)

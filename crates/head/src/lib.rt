@@ -5,14 +5,6 @@ use mapset::Texts;
 
 pub mod opening;
 
-// The next row of a text: none, after so many lines; or a line that is refused, with 01's number, its own and a column; or where it
-// starts and ends, where the next line starts, and how many lines came before.
-pub enum Ahead {
-    Over(u64),
-    Bad(u64, u64, u64),
-    Line(usize, usize, usize, u64),
-}
-
 // Refused with 01's number, a line and a column; or accepted: the header record, the exponent in force, where the next line starts,
 // and how many lines were passed.
 pub enum Headed {

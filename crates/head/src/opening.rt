@@ -1,65 +1,25 @@
 // The header of a text, from its start to END OF HEADER.
 ghost use mathlib.Core.Path.{_≡_};
 ghost use Prim.Native.Nat.{suc, _≤_};
-ghost use native.Mathlib.Decide.{decLe};
 ghost use lib.ListN.{length, drop};
 ghost use lib.IntN.{negsuc};
-ghost use Rattle.kit.specs.Answer.{pick};
 ghost use Rattle.layout.specs.Layout.{plain};
 ghost use Rattle.reading.specs.Feed.{split, feed};
 ghost use Rattle.reading.specs.Head.{heading};
 ghost use Rattle.reading.specs.HeadLaws.{Got};
 ghost use Rattle.reading.specs.Read.{nothing-yet, read};
 ghost use Rattle.gathered.specs.Got.{slots-of, texts-of};
-ghost use Rattle.head.specs.Opened.{Leads, Passes, onward, blank-texts, beside, Opens};
-use super::Ahead;
+ghost use Rattle.head.specs.Opened.{Passes, onward, blank-texts, beside, Opens};
 use super::Headed;
 use super::HeaderRead;
 use super::Onward;
 use super::Passed;
 use gathered::Next;
 use gathered::State;
-use lines::Line;
+use lines::NextRow;
 use mapset::Texts;
 use mapset::Version;
 use version::Versioned;
-
-// The next line that is not blank.
-pub fn row_from(text: &[u8], from: usize, passed: u64) -> Ahead
-    requires { ⌜ (from ≤ length (now text)) × (passed ≤ from) ⌝ }
-    ensures { λ r. ⌜ Leads (now (text .entry)) from passed r ⌝ }
-{
-    let mut at = from;
-    let mut n = passed;
-    while at < text.len() {
-        match lines::line_in(&text[at..]) {
-            Line::Over => {
-                return Ahead::Over(n);
-            }
-            Line::Bad(number, column) => {
-                return Ahead::Bad(number, n + 1, column);
-            }
-            Line::Row(width, next) => {
-                return Ahead::Line(at, at + width, at + next, n);
-            }
-            Line::Skip(next) => {
-                at += next;
-                n += 1;
-            }
-        }
-    }
-    Ahead::Over(n)
-}
-
-// The number of the line after n lines; a line number is at most 18,446,744,073,709,551,615.
-pub fn line_after(n: u64) -> u64
-    ensures { λ r. ⌜ r ≡ pick (decLe (suc n) 18446744073709551615) (suc n) 18446744073709551615 ⌝ }
-{
-    if n < 18446744073709551615 {
-        return n + 1;
-    }
-    18446744073709551615
-}
 
 // What a row leads to, by what it does to the header: the next line starts at `next`, after n lines.
 fn led_to(turn: Next, exponent: i32, next: usize, n: u64) -> Onward
@@ -77,16 +37,16 @@ fn pass(s: State, version: Version, text: &[u8], from: usize, passed: u64) -> Pa
     requires { ⌜ (from ≤ length (now text)) × (passed ≤ from) × Got (slots-of s) ⌝ }
     ensures { λ r. ⌜ Passes (now (text .entry)) version s from passed (r .onward) (r .state) ⌝ }
 {
-    match row_from(text, from, passed) {
-        Ahead::Over(n) => Passed {
-            onward: Onward::Stop(Headed::Refused(10, line_after(n), 0)),
+    match lines::row_from(text, from, passed) {
+        NextRow::Over(n) => Passed {
+            onward: Onward::Stop(Headed::Refused(10, lines::line_after(n), 0)),
             state: s,
         },
-        Ahead::Bad(number, line, column) => Passed {
+        NextRow::Bad(number, line, column) => Passed {
             onward: Onward::Stop(Headed::Refused(number, line, column)),
             state: s,
         },
-        Ahead::Line(start, end, next, n) => {
+        NextRow::Row(start, end, next, n) => {
             let r = headlines::step(s, version, &text[start..end]);
             let turn = r.next;
             let t = r.state;
@@ -180,10 +140,10 @@ fn refusal(number: u64, line: u64, column: u64) -> HeaderRead
 pub fn read_header(text: &[u8]) -> HeaderRead
     ensures { λ r. ⌜ Opens (read (now (text .entry))) (now (text .entry)) r ⌝ }
 {
-    match row_from(text, 0, 0) {
-        Ahead::Over(n) => refusal(10, line_after(n), 0),
-        Ahead::Bad(number, line, column) => refusal(number, line, column),
-        Ahead::Line(start, end, next, n) => match version::version_of(&text[start..end]) {
+    match lines::row_from(text, 0, 0) {
+        NextRow::Over(n) => refusal(10, lines::line_after(n), 0),
+        NextRow::Bad(number, line, column) => refusal(number, line, column),
+        NextRow::Row(start, end, next, n) => match version::version_of(&text[start..end]) {
             Versioned::Refused(number, column) => refusal(number, n + 1, column),
             Versioned::As(version) => header_from(text, next, n + 1, version),
         },

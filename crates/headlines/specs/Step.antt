@@ -10,12 +10,13 @@ use Rattle.kit.specs.Answer.{Answer, ok, refused, need, bind, amap}
 use Rattle.mapset.specs.declared.Version.{Version}
 use Rattle.mapset.specs.Header.{system as a-system, starred, Said}
 use Rattle.mapset.specs.Decisions.{dimension?, limits?}
-use Rattle.layout.specs.Labels.{content, letters}
+use Rattle.layout.specs.Labels.{exponent, content, letters}
 use Rattle.layout.specs.Layout.{Slots, plain, aux}
 use Rattle.reading.specs.Feed.{Fault, fault}
+use Rattle.reading.specs.Fields.{fields}
 use Rattle.reading.specs.Maps.{missing, exponent?}
 use Rattle.reading.specs.Head.{place, none?, complete?, made, made-texts, on-end}
-use Rattle.records.specs.Records.{int-in, system-in, entry}
+use Rattle.records.specs.Records.{system-in, entry}
 use Rattle.gathered.specs.Got.{slots-of, mode, Went, went, ended, gone, kept}
 use Rattle.gathered.specs.declared.State.{State}
 
@@ -33,7 +34,7 @@ fresh s i x = need (none? (getD (slots-of s) i none)) (fault 5 61) (kept s i x)
 
 -- EXPONENT
 unfoldable pub exponent-in : State → List ℕ → Answer Fault Went
-exponent-in s r = bind (int-in r) (λ z. need (exponent? z) (fault 7 1) (ok (went (mode (s .aux)) z (slots-of s))))
+exponent-in s r = bind (fields exponent r) (λ v. need (exponent? (v .0)) (fault 7 1) (ok (went (mode (s .aux)) (v .0) (slots-of s))))
 
 -- a place, where it is below n
 abbrev pub if-below : ℕ → ℕ → Option ℕ

@@ -26,7 +26,7 @@ use Rattle.reading.specs.LabelLaws.{label-known, label-unknown, named, aux-numb
 use Rattle.reading.specs.Maps.{missing, exponent?}
 use Rattle.reading.specs.Head.{more, done, place, none?, Complete, complete?, made, once, on-system, on-end, at-head, head-step}
 use Rattle.reading.specs.ScanLaws.{unless, blank-to}
-use Rattle.records.specs.Records.{int-in, system-in, entry}
+use Rattle.records.specs.Records.{system-in, entry}
 use Rattle.gathered.specs.Got.{said, slot, slots-of, texts-of, mode, went, ended, gone, kept, stepped}
 use Rattle.records.specs.Tables.{action, place-at}
 use Rattle.records.specs.RecordLaws.{blank-says, bind-amap, bind-same}
@@ -143,12 +143,11 @@ letter-is s line j b e f = ap (system-at s (pad line)) (f ∙ ap (λ (x : ℕ). 
 
 module _ (s : State) (c : Version) (r : List ℕ) (shut : s .aux ≡ false) where
   exponent-is : amap (gone c (slots-of s)) (at-head c (s .exponent) (slots-of s) exponent r) ≡ exponent-in s r
-  unfolding at-head exponent-in int-in
+  unfolding at-head exponent-in
   exponent-is =
       amap-bind (gone c (slots-of s)) (fields exponent r) _
       ∙ bind-same (fields exponent r) _ _ (λ v. amap-need (gone c (slots-of s)) (exponent? (v .0)) (fault 7 1) _
       ∙ ap (need (exponent? (v .0)) (fault 7 1)) (gone-more s c shut (v .0) (slots-of s)))
-      ∙ sym (bind-amap _ _ (fields exponent r))
 
   system-is : (o : Option ℕ) → amap (gone c (slots-of s)) (on-system (s .exponent) (slots-of s) r o) ≡ system-at s r o
   unfolding on-system system-at system-in entry fields

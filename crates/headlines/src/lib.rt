@@ -20,9 +20,9 @@ use forms::Found;
 use gathered::Next;
 use gathered::State;
 use gathered::Stepped;
+use maprecords::One;
 use mapset::Version;
 use mapset::axes;
-use records::One;
 use records::Two;
 use records::content;
 
@@ -175,7 +175,7 @@ fn at_exponent(s: State, line: &[u8]) -> Stepped
     requires { ⌜ length (now line) ≤ 80 ⌝ }
     ensures { λ r. ⌜ told r ≡ exponent-in s (pad (now (line .entry))) ⌝ }
 {
-    match content::int_record(line) {
+    match maprecords::one_number(line) {
         One::Wrong(column) => gathered::refuse(s, 6, column),
         One::Number(z) => {
             if axes::between(-3, 0, z) {

@@ -2,3 +2,4 @@
 pub mod Cuts
 pub mod Lines
 pub mod Quick
+pub mod Leads

@@ -1,9 +1,10 @@
 // The lines of a text.
 ghost use mathlib.Core.Path.{_≡_};
-ghost use Prim.Native.Nat.{_<_};
+ghost use Prim.Native.Nat.{_<_, _≤_};
 ghost use lib.ListN.{length};
 ghost use Rattle.lines.specs.Lines.{passing, not-lf?, printable?, blank?, Spans, look-of, Stands};
 ghost use Rattle.lines.specs.Quick.{Sixteen, Ahead};
+ghost use Rattle.lines.specs.Leads.{Leads, after-all};
 
 // A line's bytes, without the CR before its LF, and where the next line starts.
 pub struct Span {
@@ -24,6 +25,14 @@ pub enum Line {
     Bad(u64, u64),
     Skip(usize),
     Row(usize, usize),
+}
+
+// The next row of a text: none, after so many lines; or a line that is refused, with 01's number, its own and a column; or where it
+// starts and ends, where the next line starts, and how many lines came before.
+pub enum NextRow {
+    Over(u64),
+    Bad(u64, u64, u64),
+    Row(usize, usize, usize, u64),
 }
 
 fn before_lf(text: &[u8]) -> usize
@@ -182,4 +191,41 @@ pub fn line_in(text: &[u8]) -> Line
         return Line::Row(w, w + 1);
     }
     Line::Skip(w + 1)
+}
+
+// The next row, from a line's start on, where so many lines are passed: blank lines are skipped.
+pub fn row_from(text: &[u8], from: usize, passed: u64) -> NextRow
+    requires { ⌜ (from ≤ length (now text)) × (passed ≤ from) ⌝ }
+    ensures { λ r. ⌜ Leads (now (text .entry)) from passed r ⌝ }
+{
+    let mut at = from;
+    let mut n = passed;
+    while at < text.len() {
+        match line_in(&text[at..]) {
+            Line::Over => {
+                return NextRow::Over(n);
+            }
+            Line::Bad(number, column) => {
+                return NextRow::Bad(number, n + 1, column);
+            }
+            Line::Row(width, next) => {
+                return NextRow::Row(at, at + width, at + next, n);
+            }
+            Line::Skip(next) => {
+                at += next;
+                n += 1;
+            }
+        }
+    }
+    NextRow::Over(n)
+}
+
+// The number of the line after n lines; a line number is at most 18,446,744,073,709,551,615.
+pub fn line_after(n: u64) -> u64
+    ensures { λ r. ⌜ r ≡ after-all n ⌝ }
+{
+    if n < 18446744073709551615 {
+        return n + 1;
+    }
+    18446744073709551615
 }

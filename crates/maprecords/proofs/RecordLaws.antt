@@ -19,30 +19,20 @@ use Rattle.forms.specs.declared.Triple.the-variants.{Three, Amiss}
 use Rattle.forms.specs.declared.Row.{Row}
 use Rattle.forms.specs.declared.Row.the-variants.{Six, Wrong}
 use Rattle.layout.specs.Text.{pad}
-use Rattle.layout.specs.Records.{Vals, I, X}
+use Rattle.layout.specs.Records.{X}
 use Rattle.layout.specs.Labels.{exponent, epoch, block, file-end, layout}
 use Rattle.layout.specs.Layout.{Date}
 use Rattle.reading.specs.Feed.{Fault, fault}
 use Rattle.reading.specs.Fields.{number, fields}
 use Rattle.reading.specs.Maps.{date, on-date}
 use Rattle.reading.specs.ScanLaws.{blank-to, unless, read-is}
-use Rattle.maprecords.specs.Records.{numbers-of}
+use Rattle.maprecords.specs.Records.{one-of, numbers-of}
 
 -- ---- one number
 
-abbrev pub one-of : Field → Found → Answer Fault (Vals (layout exponent))
-one-of z f = number z 1 (λ x. unless f (ok (x, tt)))
-
-one-by : (z : Field) (f : Found) → number z 1 (λ x. amap (λ vs. (x, vs)) (unless f (ok tt))) ≡ one-of z f
-unfolding amap number
-one-by (Number z) (At c) = refl
-one-by (Number z) Nowhere = refl
-one-by Bad f = refl
-
-module _ (line : List ℕ) (fits : length line ≤ 80) where
-  pub one-is : fields exponent (pad line) ≡ one-of (readField form.I (columns line 0 6)) (blank-to line 6 60)
-  unfolding fields blank-to
-  one-is = read-is line fits (I 6 ∷ X 54 ∷ []) (omega arith) ∙ one-by (readField form.I (columns line 0 6)) (blank-to line 6 60)
+pub one-is : (line : List ℕ) → length line ≤ 80 → fields exponent (pad line) ≡ one-of (readField form.I (columns line 0 6)) (blank-to line 6 60)
+unfolding fields blank-to
+one-is line fits = read-is line fits (layout exponent) (omega arith)
 
 -- ---- nothing but blanks
 
@@ -100,15 +90,6 @@ opening-is line fits =
 -- ---- what the code finds, one arm after the other
 
 module _ (line : List ℕ) (fits : length line ≤ 80) where
-  pub one-bad : readField form.I (columns line 0 6) ≡ Bad → refused (fault 6 1) ≡ fields exponent (pad line)
-  one-bad e = sym (one-is line fits ∙ rw e (unfold number in refl))
-
-  pub one-wrong : {z : ℤ} {c : ℕ} → readField form.I (columns line 0 6) ≡ Number z → blank-to line 6 60 ≡ At c → refused (fault 6 c) ≡ fields exponent (pad line)
-  one-wrong e f = sym (one-is line fits ∙ rw (e, f) (unfold number in refl))
-
-  pub one-fine : {z : ℤ} → readField form.I (columns line 0 6) ≡ Number z → blank-to line 6 60 ≡ Nowhere → ok (z, tt) ≡ fields exponent (pad line)
-  one-fine e f = sym (one-is line fits ∙ rw (e, f) (unfold number in refl))
-
   pub date-wrong : {c : ℕ} → sixOf line ≡ Wrong c → refused (fault 6 c) ≡ bind (fields epoch (pad line)) (λ d. on-date (date d) ok)
   date-wrong e = sym (date-is line fits ∙ rw e)
 

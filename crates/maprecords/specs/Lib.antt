@@ -1,2 +1,2 @@
--- What the code says of the maps' records.
+-- What the code says of records.
 pub mod Records

@@ -1,4 +1,4 @@
-// What the records of the maps hold.
+// Records that stand in the header and in the maps, and those of the maps: their columns 1 to 60, cut once for every scan.
 ghost use mathlib.Core.Path.{_≡_};
 ghost use Prim.Native.Nat.{_≤_};
 ghost use lib.ListN.{length};
@@ -9,7 +9,7 @@ ghost use Rattle.layout.specs.Labels as L;
 ghost use Rattle.reading.specs.Fields as R;
 ghost use Rattle.reading.specs.Maps.{date, on-date};
 ghost use Rattle.reading.specs.ScanLaws.{blank-to};
-ghost use Rattle.maprecords.specs.Records.{told-one, told-dated, told-opening, numbers-of};
+ghost use Rattle.maprecords.specs.Records.{told-one, told-dated, told-opening, one-of, numbers-of};
 ghost use Rattle.forms.specs.Form.{F1};
 ghost use Rattle.forms.specs.Read.{readField};
 ghost use Rattle.forms.specs.Columns.{columns};
@@ -38,18 +38,25 @@ pub enum Opening {
     Wrong(u64),
 }
 
-// I6,54X: EXPONENT, and each START and END.
+// z, where the columns after the first a and up to e are blank.
+pub fn alone(z: Field, line: &[u8], a: usize, e: usize) -> One
+    ensures { λ r. ⌜ told-one r ≡ one-of z (blank-to (now (line .entry)) a e) ⌝ }
+{
+    match z {
+        Field::Bad => One::Wrong(1),
+        Field::Number(x) => match fields::first_not_blank(line, a, e) {
+            Found::At(column) => One::Wrong(column as u64),
+            Found::Nowhere => One::Number(x),
+        },
+    }
+}
+
+// I6,54X: EXPONENT, each START and END, and counts of the header.
 pub fn one_number(line: &[u8]) -> One
     requires { ⌜ length (now line) ≤ 80 ⌝ }
     ensures { λ r. ⌜ told-one r ≡ R.fields L.exponent (pad (now (line .entry))) ⌝ }
 {
-    match fields::int_at(line, 0, 6) {
-        Field::Bad => One::Wrong(1),
-        Field::Number(z) => match fields::first_not_blank(line, 6, 60) {
-            Found::At(column) => One::Wrong(column as u64),
-            Found::Nowhere => One::Number(z),
-        },
-    }
+    alone(fields::int_at(line, 0, 6), line, 6, 60)
 }
 
 fn second_of(year: i32, month: i32, day: i32, hour: i32, minute: i32, second: i32) -> Dated
@@ -61,7 +68,7 @@ fn second_of(year: i32, month: i32, day: i32, hour: i32, minute: i32, second: i3
     }
 }
 
-// 6I6,24X: EPOCH OF CURRENT MAP.
+// 6I6,24X: EPOCH OF CURRENT MAP, and the epochs of the header.
 pub fn epoch_in(line: &[u8]) -> Dated
     requires { ⌜ length (now line) ≤ 80 ⌝ }
     ensures { λ r. ⌜ told-dated r ≡ bind (R.fields L.epoch (pad (now (line .entry)))) (λ d. on-date (date d) ok) ⌝ }

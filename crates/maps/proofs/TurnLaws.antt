@@ -7,23 +7,22 @@ use native.Mathlib.Numerals.{add-one}
 use native.Mathlib.Omega.{arith}
 use lib.Dec.{ltb}
 use lib.IntN.{ℤ}
-use lib.ListN.{length, take, drop, set, length-set, length-drop, length-append}
-use lib.Seq.{drop-drop, length-take-le, take-suc-set}
+use lib.ListN.{length, take, drop, set, length-set, length-append}
+use lib.Seq.{length-take-le, take-suc-set}
 use Rattle.kit.specs.Answer.{Answer, ok, refused, bind, amap}
 use Rattle.mapset.specs.declared.Header.{Header}
 use Rattle.mapset.specs.MapSet.{Maps}
 use Rattle.layout.specs.Layout.{Force}
 use Rattle.layout.specs.Text.{pad}
-use Rattle.reading.specs.Feed.{Fault, Why, why, on-line, split, feed}
+use Rattle.reading.specs.Feed.{Fault, Why, why, on-line, bad, split, feed}
 use Rattle.reading.specs.Maps.{Todo, Next as Go-on, Step, short, finish, run, step}
 use Rattle.reading.specs.declared.Open.{Open}
 use Rattle.reading.specs.declared.Place.{Place}
 use Rattle.reading.specs.declared.Place.the-variants.{Ended, Between, Early, Inside}
-use Rattle.lines.specs.Lines.{Stands, Skips, Rows}
+use Rattle.lines.specs.Leads.{LeadsOver, LeadsRow}
 use Rattle.blocks.specs.Blocks.{values, Done, Judged}
 use Rattle.blocks.specs.RunLaws.{in-front, resumed, run-values}
 use Rattle.blocks.specs.declared.Block.{Block}
-use Rattle.lines.specs.declared.Line.the-variants.{Over, Bad}
 use Rattle.blocks.proofs.BlockLaws.{short-at}
 use Rattle.mapbounds.specs.Steps.{force-of, past-of, first-of, moved}
 use Rattle.maps.specs.Turns.{told, told-after, from, ended-with, grow, Room, Fits, After, Goes, Turned, Keeps, Running}
@@ -125,74 +124,66 @@ moved-go es (ok x) y e =
 moved-go es (refused f) y e = clash (cc)
 
 module _ (h : Header) (q : Place) (p : Past) (es : List ℕ) (t : List ℕ) (at n : ℕ) where
-  pub turn-over : Stands (drop at t) Over → from h q (force-of p es) 0 t at n ≡ ended-with q (force-of p es) (suc n)
+  pub turn-over : (m : ℕ) → LeadsOver t at n m → (m ≤ length t) × (from h q (force-of p es) 0 t at n ≡ ended-with q (force-of p es) (suc m))
   unfolding run
-  turn-over s = rw (s (suc n))
+  turn-over m s = (s .few, rw (s .on))
 
-  pub turn-bad : (k col : ℕ) → Stands (drop at t) (Bad k col) → from h q (force-of p es) 0 t at n ≡ Wrong k (n + 1) col
+  pub turn-bad : (k l col : ℕ) → feed (suc n) (split (drop at t)) ≡ bad (why k l col) → from h q (force-of p es) 0 t at n ≡ Wrong k l col
   unfolding run told-after
-  turn-bad k col s = rw (s (suc n), add-one)
+  turn-bad k l col s = rw s
 
-  module _ (inside : at ≤ length t) (small : n ≤ at) where
-    pub turn-skip : (next : ℕ) → Skips (drop at t) next → Goes h q p es t at n (at + next) (n + 1) (record { to = q; past = p; due = 0; push = Keep })
-    turn-skip next s =
-        let a = s .ahead in
-        let w : next ≤ length t - at = rw length-drop at (s .within) in
-        record { ahead = omega arith; within = omega arith; small = omega arith; on = rw (s .on (suc n), drop-drop, add-one); room = λ k. k }
+  module _ (start end next m : ℕ) (s : LeadsRow t at n start end next m) (v : Move) (is : v ≡ moved es (step h q (force-of p es) (pad (take (end - start) (drop start t))))) where
+    abbrev the-step : Step q
+    the-step = step h q (force-of p es) (pad (take (end - start) (drop start t)))
 
-    module _ (w next : ℕ) (s : Rows (drop at t) w next) (m : Move) (is : m ≡ moved es (step h q (force-of p es) (pad (take (at + w - at) (drop at t))))) where
-      abbrev the-step : Step q
-      the-step = step h q (force-of p es) (pad (take (at + w - at) (drop at t)))
+    seen-row : from h q (force-of p es) 0 t at n
+        ≡ told-after q (force-of p es) (bind (on-line (suc m) the-step) (λ x. amap (λ w. ([], x .back (w .0) (w .1))) (run h (x .to) (x .force) (x .due) (feed (suc (m + 1)) (split (drop next t))))))
+    unfolding run
+    seen-row = rw (s .on, add-one)
 
-      seen-row : from h q (force-of p es) 0 t at n
-          ≡ told-after q (force-of p es) (bind (on-line (suc n) the-step) (λ x. amap (λ w. ([], x .back (w .0) (w .1))) (run h (x .to) (x .force) (x .due) (feed (suc (n + 1)) (split (drop (at + next) t))))))
-      unfolding run
-      seen-row =
-          let e : at + w - at ≡ w = omega arith in
-          rw (s .on (suc n), drop-drop, e, add-one)
+    pub turn-stop : (k col : ℕ) → v ≡ Stop k col → from h q (force-of p es) 0 t at n ≡ Wrong k (m + 1) col
+    unfolding told-after bind on-line
+    turn-stop k col e =
+        let f = moved-stop es the-step k col (sym is ∙ e) in
+        seen-row ∙ rw (f .1 .0, f .1 .1 .0, f .1 .1 .1, add-one)
 
-      pub turn-stop : (k col : ℕ) → m ≡ Stop k col → from h q (force-of p es) 0 t at n ≡ Wrong k (n + 1) col
-      unfolding told-after bind on-line
-      turn-stop k col e =
-          let f = moved-stop es the-step k col (sym is ∙ e) in
-          seen-row ∙ rw (f .1 .0, f .1 .1 .0, f .1 .1 .1, add-one)
+    module _ (y : Next) (e : v ≡ Go y) where
+      the-same : Same es the-step y
+      the-same = moved-go es the-step y (sym is ∙ e)
 
-      module _ (y : Next) (e : m ≡ Go y) where
-        the-same : Same es the-step y
-        the-same = moved-go es the-step y (sym is ∙ e)
+      fair : Fair h q (force-of p es) (the-same .on)
+      fair = step-fair h q (force-of p es) _ (the-same .on) (the-same .is)
 
-        fair : Fair h q (force-of p es) (the-same .on)
-        fair = step-fair h q (force-of p es) _ (the-same .on) (the-same .is)
+      force-is : the-same .on .force ≡ force-of (y .past) (grow (y .push) es)
+      force-is =
+          let a = the-same in
+          let f = fair .epochs ∙ ap (λ (z : Push). grow z es) (a .push) in
+          λ i. force-of (a .past i) (f i)
 
-        force-is : the-same .on .force ≡ force-of (y .past) (grow (y .push) es)
-        force-is =
-            let a = the-same in
-            let f = fair .epochs ∙ ap (λ (z : Push). grow z es) (a .push) in
-            λ i. force-of (a .past i) (f i)
+      pub went : from h q (force-of p es) 0 t at n ≡ from h (y .to) (force-of (y .past) (grow (y .push) es)) (y .due) t next (m + 1)
+      unfolding bind on-line
+      went =
+          let a = the-same in
+          let g = feed (suc (m + 1)) (split (drop next t)) in
+          seen-row
+          ∙ ap (λ (z : Answer Fault (Go-on q)). told-after q (force-of p es) (bind (on-line (suc m) z) (λ x. amap (λ w. ([], x .back (w .0) (w .1))) (run h (x .to) (x .force) (x .due) g)))) (a .is)
+          ∙ told-back h q (force-of p es) (a .on) fair (run h (a .on .to) (a .on .force) (a .on .due) g)
+          ∙ (λ i. told-after (a .to i) (force-is i) (run h (a .to i) (force-is i) (a .due i) g))
 
-        pub went : from h q (force-of p es) 0 t at n ≡ from h (y .to) (force-of (y .past) (grow (y .push) es)) (y .due) t (at + next) (n + 1)
-        unfolding bind on-line
-        went =
-            let a = the-same in
-            let g = feed (suc (n + 1)) (split (drop (at + next) t)) in
-            seen-row
-            ∙ ap (λ (z : Answer Fault (Go-on q)). told-after q (force-of p es) (bind (on-line (suc n) z) (λ x. amap (λ w. ([], x .back (w .0) (w .1))) (run h (x .to) (x .force) (x .due) g)))) (a .is)
-            ∙ told-back h q (force-of p es) (a .on) fair (run h (a .on .to) (a .on .force) (a .on .due) g)
-            ∙ (λ i. told-after (a .to i) (force-is i) (run h (a .to i) (force-is i) (a .due i) g))
+      room : Room h q (length es) → Room h (y .to) (length (grow (y .push) es))
+      room k = subst (λ (z : Place). Room h z (length (grow (y .push) es))) (the-same .to) (subst (λ (z : Force). Room h (the-same .on .to) (length (z .epochs))) force-is (fair .room k))
 
-        room : Room h q (length es) → Room h (y .to) (length (grow (y .push) es))
-        room k = subst (λ (z : Place). Room h z (length (grow (y .push) es))) (the-same .to) (subst (λ (z : Force). Room h (the-same .on .to) (length (z .epochs))) force-is (fair .room k))
-
-        pub turn-go : (r : Turn) → After t (at + next) (n + 1) y r → Turned h q p es t at n r
-        turn-go (On at′ n′ z) b =
-            let a = s .ahead in
-            let d = b .1 in
-            let o = d .ahead in
-            let g : Goes h q p es t at n at′ n′ y =
-            record { ahead = omega arith; within = d .within; small = d .small; on = went ∙ after-good h (y .to) _ t (at + next) (n + 1) (y .due) d; room = room } in
-            subst (Goes h q p es t at n at′ n′) (sym (b .0)) g
-        turn-go (Halt k l col) b = went ∙ after-refused h (y .to) _ t (at + next) (n + 1) (y .due) b
-        turn-go Out b = absurd b
+      pub turn-go : (r : Turn) → After t next (m + 1) y r → Turned h q p es t at n r
+      turn-go (On at′ n′ z) b =
+          let a = s .ahead in
+          let f = s .after in
+          let d = b .1 in
+          let o = d .ahead in
+          let g : Goes h q p es t at n at′ n′ y =
+          record { ahead = omega arith; within = d .within; small = d .small; on = went ∙ after-good h (y .to) _ t next (m + 1) (y .due) d; room = room } in
+          subst (Goes h q p es t at n at′ n′) (sym (b .0)) g
+      turn-go (Halt k l col) b = went ∙ after-refused h (y .to) _ t next (m + 1) (y .due) b
+      turn-go (Out l) b = absurd b
 
 -- ---- the table of epochs
 

@@ -59,7 +59,7 @@ from h q p c t at n = told-after q p (run h q p c (feed (suc n) (split (drop at 
 abbrev pub ended-with : (q : Place) → Force → ℕ → Verdict
 ended-with q p n = told-after q p (finish q n)
 
--- ---- one line
+-- ---- one row
 
 -- the epochs after a record
 abbrev pub grow : Push → List ℕ → List ℕ
@@ -82,7 +82,7 @@ Fits (New e) k l = k < l
 abbrev pub After : List ℕ → ℕ → ℕ → Next → Turn → Type 0
 After t at n x (On at′ n′ y) = (y ≡ x) × Done t at n (x .due) at′ n′
 After t at n x (Halt k l col) = values (feed (suc n) (split (drop at t))) (x .due) ≡ refused (why k l col)
-After t at n x Out = ⊥
+After t at n x (Out m) = ⊥
 
 pub record Goes (h : Header) (q : Place) (p : Past) (es : List ℕ) (t : List ℕ) (at n at′ n′ : ℕ) (x : Next) : Type 0 where
   pub ahead : at < at′
@@ -94,7 +94,7 @@ pub record Goes (h : Header) (q : Place) (p : Past) (es : List ℕ) (t : List �
 abbrev pub Turned : Header → Place → Past → List ℕ → List ℕ → ℕ → ℕ → Turn → Type 0
 Turned h q p es t at n (On at′ n′ x) = Goes h q p es t at n at′ n′ x
 Turned h q p es t at n (Halt k l col) = from h q (force-of p es) 0 t at n ≡ Wrong k l col
-Turned h q p es t at n Out = from h q (force-of p es) 0 t at n ≡ ended-with q (force-of p es) (suc n)
+Turned h q p es t at n (Out m) = (m ≤ length t) × (from h q (force-of p es) 0 t at n ≡ ended-with q (force-of p es) (suc m))
 
 -- the table after an epoch is remembered, and how many it holds
 pub record Keeps (t : List ℕ) (k : ℕ) (x : Push) (u : List ℕ) (r : ℕ) : Type 0 where

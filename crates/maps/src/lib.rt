@@ -9,7 +9,7 @@ ghost use Rattle.reading.specs.Maps.{run};
 ghost use Rattle.mapbounds.specs.Steps.{force-of};
 ghost use Rattle.maps.specs.Turns.{told, ended-with, After, Turned, Fits, Keeps};
 use blocks::Block;
-use lines::Line;
+use lines::NextRow;
 use mapbounds::Move;
 use mapbounds::Next;
 use mapbounds::Past;
@@ -23,11 +23,12 @@ pub enum Verdict {
     Wrong(u64, u64, u64),
 }
 
-// A record, with the values of the block that it opens: on, to where, after how many lines; a refusal; or the text's end.
+// A record, with the values of the block that it opens: on, to where, after how many lines; a refusal; or the text's end, and after
+// how many lines.
 pub enum Turn {
     On(usize, u64, Next),
     Halt(u64, u64, u64),
-    Out,
+    Out(u64),
 }
 
 // The values that a record asks for, if any.
@@ -53,24 +54,13 @@ fn turn_at(
     requires { ⌜ ((at ≤ length (now text)) × (lines ≤ at)) × Limits (header .times .maps) (header .grid) ⌝ }
     ensures { λ r. ⌜ Turned header place past (now (epochs .entry)) (now (text .entry)) at lines r ⌝ }
 {
-    match lines::line_in(&text[at..]) {
-        Line::Over => Turn::Out,
-        Line::Bad(number, column) => Turn::Halt(number, lines + 1, column),
-        Line::Skip(next) => Turn::On(
-            at + next,
-            lines + 1,
-            Next {
-                to: place,
-                past: past,
-                due: 0,
-                push: Push::Keep,
-            },
-        ),
-        Line::Row(width, next) => {
-            let e = at + width;
-            match mapsteps::step(header, place, past, epochs, &text[at..e]) {
-                Move::Stop(number, column) => Turn::Halt(number, lines + 1, column),
-                Move::Go(x) => values_after(text, at + next, lines + 1, x),
+    match lines::row_from(text, at, lines) {
+        NextRow::Over(n) => Turn::Out(n),
+        NextRow::Bad(number, line, column) => Turn::Halt(number, line, column),
+        NextRow::Row(start, end, next, n) => {
+            match mapsteps::step(header, place, past, epochs, &text[start..end]) {
+                Move::Stop(number, column) => Turn::Halt(number, n + 1, column),
+                Move::Go(x) => values_after(text, next, n + 1, x),
             }
         }
     }
@@ -128,8 +118,8 @@ fn judge_with(
             Turn::Halt(number, line, column) => {
                 return Verdict::Wrong(number, line, column);
             }
-            Turn::Out => {
-                return finish_at(place, past, n);
+            Turn::Out(passed) => {
+                return finish_at(place, past, passed);
             }
             Turn::On(to, passed, next) => {
                 let push = next.push;

@@ -1,71 +1,60 @@
 -- What a record says, by the fields that the code reads.
-use mathlib.Core.Path.{_≡_, refl, sym, ap, ap₂, _∙_}
+use mathlib.Core.Path.{_≡_, refl, sym, ap, _∙_}
 use mathlib.Core.Bool.{true, false}
 use mathlib.Core.List.{List, [], _∷_}
-use Prim.Native.Nat.{ℕ, zero, suc, _+_, _-_, _≤_, _<_}
-use native.Mathlib.Nat.{suc-add, sub-zero}
-use native.Mathlib.Decide.{ℕ-discrete}
+use Prim.Native.Nat.{ℕ, _-_, _≤_, _<_}
 use native.Mathlib.Omega.{arith}
-use lib.ListN.{length, take, drop}
-use lib.Seq.{drop-drop, take-take, take-nil}
+use lib.ListN.{length, take}
 use lib.Dec.{leb}
 use lib.IntN.{ℤ, pos, negsuc, natAbs}
 use lib.Signed.{ltZ}
-use borrow.Author.Tests.{eq-eqb, ne-eqb, leb-true, leb-false}
-use Rattle.kit.specs.Answer.{Answer, ok, refused, need, need-yes, need-no, bind, amap, pick, pick-yes, pick-no, all-dec}
+use borrow.Author.Tests.{leb-true, leb-false}
+use Rattle.kit.specs.Answer.{Answer, ok, refused, need, bind, amap, pick}
 use Rattle.kit.specs.Range.{natural?}
 use Rattle.kit.specs.Truth.{truth, fails, tells}
 use Rattle.kit.specs.Parts.{lt-true, lt-false}
+use Rattle.calendar.specs.declared.Taken.{Taken}
+use Rattle.calendar.specs.declared.Taken.the-variants as Taken
 use Rattle.forms.specs.Form as form
 use Rattle.forms.specs.Read.{readField}
-use Rattle.forms.specs.Columns.{columns, further, firstNotBlank}
-use Rattle.forms.specs.ColumnLaws.{columns-padded}
-use Rattle.forms.specs.Rows.{threeAt, sixOf, numberOr}
+use Rattle.forms.specs.Columns.{columns}
+use Rattle.forms.specs.Rows.{threeAt, numberOr}
 use Rattle.forms.specs.declared.Field.{Field}
 use Rattle.forms.specs.declared.Field.the-variants.{Number, Bad}
 use Rattle.forms.specs.declared.Found.{Found}
 use Rattle.forms.specs.declared.Found.the-variants.{At, Nowhere}
 use Rattle.forms.specs.declared.Triple.{Triple}
 use Rattle.forms.specs.declared.Triple.the-variants.{Three, Amiss}
-use Rattle.forms.specs.declared.Row.{Row}
-use Rattle.forms.specs.declared.Row.the-variants.{Six, Wrong}
 use Rattle.mapset.specs.Grid.{Line}
 use Rattle.mapset.specs.declared.Axis.{Axis}
 use Rattle.mapset.specs.declared.axes.Judged.the-variants as J
 use Rattle.mapset.specs.Decisions.{end?, step?, together?}
 use Rattle.mapset.specs.Judged.{judged}
-use Rattle.mapset.specs.Header.{count, tenths, epoch as an-epoch, axis, program, mapping, observables, system as a-system, Said, along, words, counts}
+use Rattle.mapset.specs.Header.{count, tenths, epoch as an-epoch, axis, program, mapping, observables, system as a-system, Said, number as number-said, along, words, counts}
 use Rattle.layout.specs.Text.{pad}
-use Rattle.layout.specs.Records.{Item, I, F, X, A, U, Vals}
-use Rattle.layout.specs.Labels.{header-end, items}
+use Rattle.layout.specs.Records.{I, F, X, A}
+use Rattle.layout.specs.Labels.{exponent, epoch, header-end, items}
+use Rattle.layout.specs.Layout.{Date}
 use Rattle.reading.specs.Feed.{Fault, fault}
-use Rattle.reading.specs.Fields.{number, blanks, blank, scan, fields}
+use Rattle.reading.specs.Fields.{number, blank, scan, fields}
+use Rattle.reading.specs.Maps.{date, on-date}
 use Rattle.reading.specs.Head.{axis-of, meant}
 use Rattle.reading.specs.ScanLaws.{blank-to, unless, read-is}
-use Rattle.records.specs.Records.{int-in, tenths-in, version-in, system-in, axis-in, entry, toldHeard, first-of, alone-in, two-in, counts-after, ranged-in, judged-as}
+use Rattle.maprecords.specs.Records.{one-of}
+use Rattle.records.specs.Records.{tenths-in, version-in, system-in, axis-in, entry, toldHeard, first-of, two-in, counts-after, ranged-in, judged-as}
 use Rattle.records.specs.declared.Heard.{Heard}
 use Rattle.records.specs.declared.Heard.the-variants as Heard
 
 -- ---- the records of numbers
 
-one-by : (z : Field) (f : Found) → amap (λ (v : ℤ × Unit {0}). v .0) (number z 1 (λ x. amap (λ vs. (x, vs)) (unless f (ok tt)))) ≡ alone-in z f
-unfolding amap number
-one-by (Number z) (At c) = refl
-one-by (Number z) Nowhere = refl
-one-by Bad f = refl
-
 module _ (line : List ℕ) (fits : length line ≤ 80) where
-  pub int-is : int-in (pad line) ≡ alone-in (readField form.I (columns line 0 6)) (blank-to line 6 60)
-  unfolding int-in fields blank-to
-  int-is = ap (amap (λ v. v .0)) (read-is line fits (I 6 ∷ X 54 ∷ []) (omega arith)) ∙ one-by (readField form.I (columns line 0 6)) (blank-to line 6 60)
+  pub tenths-is : tenths-in (pad line) ≡ one-of (readField form.F1 (columns line 0 8)) (blank-to line 8 60)
+  unfolding tenths-in blank-to
+  tenths-is = read-is line fits (F 8 ∷ X 52 ∷ []) (omega arith)
 
-  pub tenths-is : tenths-in (pad line) ≡ alone-in (readField form.F1 (columns line 0 8)) (blank-to line 8 60)
-  unfolding tenths-in fields blank-to
-  tenths-is = ap (amap (λ v. v .0)) (read-is line fits (F 8 ∷ X 52 ∷ []) (omega arith)) ∙ one-by (readField form.F1 (columns line 0 8)) (blank-to line 8 60)
-
-  pub version-is : version-in (pad line) ≡ alone-in (readField form.F1 (columns line 0 8)) (blank-to line 8 20)
-  unfolding version-in fields blank-to
-  version-is = ap (amap (λ v. v .0)) (read-is line fits (F 8 ∷ X 12 ∷ []) (omega arith)) ∙ one-by (readField form.F1 (columns line 0 8)) (blank-to line 8 20)
+  pub version-is : version-in (pad line) ≡ one-of (readField form.F1 (columns line 0 8)) (blank-to line 8 20)
+  unfolding version-in blank-to
+  version-is = read-is line fits (F 8 ∷ X 12 ∷ []) (omega arith)
 
 -- three numbers between columns that must be blank
 abbrev pub three-of : Triple → Found → Answer Fault (ℤ × ℤ × ℤ)
@@ -134,9 +123,9 @@ unfolding bind amap
 bind-amap f g (ok a) = refl
 bind-amap f g (refused w) = refl
 
-pub count-says : (low high : ℕ) (r : List ℕ) → ranged-in low high (int-in r) ≡ entry (count low high) r
-unfolding ranged-in int-in entry meant fields
-count-says low high r = bind-amap _ _ _
+pub count-says : (low high : ℕ) (r : List ℕ) → ranged-in low high (fields exponent r) ≡ entry (count low high) r
+unfolding ranged-in entry meant fields
+count-says low high r = refl
 
 -- a number is told alike, whole or in tenths
 pub told-alike : (low high : ℕ) (h : Heard) → toldHeard (tenths low high) h ≡ toldHeard (count low high) h
@@ -145,35 +134,21 @@ told-alike low high (Heard.Refused n c) = refl
 
 pub tenths-says : (low high : ℕ) (r : List ℕ) → ranged-in low high (tenths-in r) ≡ entry (tenths low high) r
 unfolding ranged-in tenths-in entry meant
-tenths-says low high r = bind-amap _ _ _
+tenths-says low high r = refl
 
--- what six numbers say, after which the rest must be blank
-abbrev pub epoch-in : Row → Found → Answer Fault Said
-epoch-in (Wrong c) f = refused (fault 6 c)
-epoch-in (Six y m d h i s) f = unless f (meant an-epoch (y, (m, (d, (h, (i, (s, tt)))))))
+-- what a date says
+dates : (x : Answer Fault Date) → amap number-said (bind x (λ d. on-date (date d) ok)) ≡ bind x (meant an-epoch)
+unfolding bind amap meant
+dates (refused w) = refl
+dates (ok d) = on (date d)
+  where
+    on : (t : Taken) → amap number-said (on-date t ok) ≡ on-date t (λ s. ok (number-said s))
+    on (Taken.At s) = unfold on-date amap in refl
+    on (Taken.Wrong c) = unfold on-date amap in refl
 
-abbrev Date : Type 0
-Date = ℤ × (ℤ × (ℤ × (ℤ × (ℤ × (ℤ × Unit {0})))))
-
-epoch-by : (a b c d e g : Field) (f : Found)
-    → bind (number a 1 (λ y. amap (λ vs. (y, vs)) (number b 7 (λ m. amap (λ vs. (m, vs)) (number c 13 (λ x. amap (λ vs. (x, vs)) (number d 19 (λ h. amap (λ vs. (h, vs)) (number e 25 (λ i. amap (λ vs. (i, vs)) (number g 31 (λ s. amap (λ vs. (s, vs)) (unless f (ok tt)))))))))))))) (meant an-epoch)
-    ≡ epoch-in (numberOr a (Wrong 1) (λ y. numberOr b (Wrong 7) (λ m. numberOr c (Wrong 13) (λ x. numberOr d (Wrong 19) (λ h. numberOr e (Wrong 25) (λ i. numberOr g (Wrong 31) (λ s. Six y m x h i s))))))) f
-unfolding bind amap number
-epoch-by Bad b c d e g f = refl
-epoch-by (Number y) Bad c d e g f = refl
-epoch-by (Number y) (Number m) Bad d e g f = refl
-epoch-by (Number y) (Number m) (Number x) Bad e g f = refl
-epoch-by (Number y) (Number m) (Number x) (Number h) Bad g f = refl
-epoch-by (Number y) (Number m) (Number x) (Number h) (Number i) Bad f = refl
-epoch-by (Number y) (Number m) (Number x) (Number h) (Number i) (Number s) (At n) = refl
-epoch-by (Number y) (Number m) (Number x) (Number h) (Number i) (Number s) Nowhere = refl
-
-module _ (line : List ℕ) (fits : length line ≤ 80) where
-  pub epoch-says : epoch-in (sixOf line) (blank-to line 36 60) ≡ entry an-epoch (pad line)
-  unfolding entry blank-to sixOf
-  epoch-says =
-      sym (ap (λ (x : Answer Fault Date). bind x (meant an-epoch)) (read-is line fits (items an-epoch) (omega arith))
-      ∙ epoch-by (readField form.I (columns line 0 6)) (readField form.I (columns line 6 6)) (readField form.I (columns line 12 6)) (readField form.I (columns line 18 6)) (readField form.I (columns line 24 6)) (readField form.I (columns line 30 6)) (blank-to line 36 60))
+pub epoch-says : (r : List ℕ) {x : Answer Fault ℕ} → x ≡ bind (fields epoch r) (λ d. on-date (date d) ok) → amap number-said x ≡ entry an-epoch r
+unfolding entry fields
+epoch-says r e = ap (amap number-said) e ∙ dates (fields epoch r)
 
 judged-by : {P Q R S : Type 0} (p : Dec P) (q : Dec Q) (r : Dec R) (s : Dec S) (a : Axis)
     → judged-as (pick p (pick q (pick r (pick s J.Fine J.Together) J.Step) J.Last) J.First) a ≡ need p (fault 7 3) (need q (fault 7 9) (need r (fault 7 15) (need s (fault 7 0) (ok (along a)))))

@@ -1,13 +1,13 @@
 -- A record's columns 1 to 60 as the code hands them on, and what a record says.
 use mathlib.Core.List.{List, [], _∷_}
-use Prim.Native.Nat.{ℕ, _+_, _-_}
+use Prim.Native.Nat.{ℕ, _-_}
 use lib.ListN.{take}
 use lib.IntN.{ℤ, pos, natAbs}
 use Rattle.kit.specs.Answer.{Answer, ok, refused, need, bind, amap}
 use Rattle.kit.specs.Range.{natural?}
 use Rattle.forms.specs.Form as form
 use Rattle.forms.specs.Read.{readField}
-use Rattle.forms.specs.Columns.{columns, further, firstNotBlank}
+use Rattle.forms.specs.Columns.{columns}
 use Rattle.forms.specs.declared.Field.{Field}
 use Rattle.forms.specs.declared.Found.{Found}
 use Rattle.forms.specs.declared.Found.the-variants.{At, Nowhere}
@@ -16,14 +16,12 @@ use Rattle.mapset.specs.declared.axes.Judged.{Judged}
 use Rattle.mapset.specs.declared.axes.Judged.the-variants as J
 use Rattle.mapset.specs.Header.{Content, count, tenths, epoch, axis, program, mapping, observables, system as a-system, Said, number, along, words, counts}
 use Rattle.layout.specs.Records.{F, X}
-use Rattle.layout.specs.Labels.{exponent, system, items}
+use Rattle.layout.specs.Labels.{system, items}
 use Rattle.reading.specs.Feed.{Fault, fault}
 use Rattle.reading.specs.Fields.{number as on-number, scan, fields}
 use Rattle.reading.specs.ScanLaws.{blank-to, unless}
 use Rattle.reading.specs.Head.{axis-of, meant}
 use Rattle.records.specs.declared.Value.{Value}
-use Rattle.records.specs.declared.One.{One}
-use Rattle.records.specs.declared.One.the-variants as One
 use Rattle.records.specs.declared.Two.{Two}
 use Rattle.records.specs.declared.Two.the-variants as Two
 use Rattle.records.specs.declared.Three.{Three}
@@ -32,10 +30,6 @@ use Rattle.records.specs.declared.Heard.{Heard}
 use Rattle.records.specs.declared.Heard.the-variants as Heard
 
 -- ---- the numbers of a record; ill-formed is 6
-abbrev pub toldOne : One → Answer Fault ℤ
-toldOne (One.Number z) = ok z
-toldOne (One.Wrong c) = refused (fault 6 c)
-
 abbrev pub toldTwo : Two → Answer Fault (ℤ × ℤ)
 toldTwo (Two.Numbers x y) = ok (x, y)
 toldTwo (Two.Wrong c) = refused (fault 6 c)
@@ -44,17 +38,13 @@ abbrev pub toldThree : Three → Answer Fault (ℤ × ℤ × ℤ)
 toldThree (Three.Numbers x y z) = ok (x, y, z)
 toldThree (Three.Wrong c) = refused (fault 6 c)
 
--- I6,54X
-unfoldable pub int-in : List ℕ → Answer Fault ℤ
-int-in r = amap (λ v. v .0) (fields exponent r)
-
 -- F8.1,52X
-unfoldable pub tenths-in : List ℕ → Answer Fault ℤ
-tenths-in r = amap (λ v. v .0) (scan 1 (items (tenths 0 0)) (take 60 r))
+unfoldable pub tenths-in : List ℕ → Answer Fault (ℤ × Unit {0})
+tenths-in r = scan 1 (items (tenths 0 0)) (take 60 r)
 
 -- the version record's F8.1,12X
-unfoldable pub version-in : List ℕ → Answer Fault ℤ
-version-in r = amap (λ v. v .0) (scan 1 (F 8 ∷ X 12 ∷ []) (take 60 r))
+unfoldable pub version-in : List ℕ → Answer Fault (ℤ × Unit {0})
+version-in r = scan 1 (F 8 ∷ X 12 ∷ []) (take 60 r)
 
 -- 5X,A1,I6,I6,42X
 unfoldable pub system-in : List ℕ → Answer Fault (ℤ × ℤ)
@@ -81,10 +71,6 @@ says program v = words []
 says mapping v = words []
 says observables v = words []
 
--- the second of six numbers that are a date
-abbrev pub date-says : ℤ → ℤ → ℤ → ℤ → ℤ → ℤ → Answer Fault Said
-date-says y m d h i s = meant epoch (y, (m, (d, (h, (i, (s, tt))))))
-
 abbrev pub numbered : ℕ → ℕ → Value
 numbered n m = record { number = n; satellites = m; second = 0; axis = axis-of (pos 0) (pos 0) (pos 0) }
 
@@ -99,10 +85,6 @@ abbrev pub first-of : Found → Found → Found
 first-of (At c) g = At c
 first-of Nowhere g = g
 
--- z, where what must be blank is
-abbrev pub alone-in : Field → Found → Answer Fault ℤ
-alone-in z f = on-number z 1 (λ x. unless f (ok x))
-
 -- two counts, and blanks
 abbrev pub two-in : Field → Field → Found → Answer Fault (ℤ × ℤ)
 two-in x y g = on-number x 7 (λ a. on-number y 13 (λ b. unless g (ok (a, b))))
@@ -112,8 +94,8 @@ abbrev pub counts-after : List ℕ → Answer Fault (ℤ × ℤ)
 counts-after line = two-in (readField form.I (columns line 6 6)) (readField form.I (columns line 12 6)) (blank-to line 18 60)
 
 -- 7 where a number is out of its range
-unfoldable pub ranged-in : ℕ → ℕ → Answer Fault ℤ → Answer Fault Said
-ranged-in low high x = bind x (λ z. need (natural? low high z) (fault 7 1) (ok (number (natAbs z))))
+unfoldable pub ranged-in : ℕ → ℕ → Answer Fault (ℤ × Unit {0}) → Answer Fault Said
+ranged-in low high x = bind x (λ v. need (natural? low high (v .0)) (fault 7 1) (ok (number (natAbs (v .0)))))
 
 -- an axis as it is judged
 abbrev pub judged-as : Judged → Axis → Answer Fault Said

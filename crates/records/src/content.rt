@@ -8,20 +8,19 @@ ghost use Rattle.mapset.specs.Header.{count, tenths, epoch, axis, system};
 ghost use Rattle.mapset.specs.Judged as J;
 ghost use Rattle.layout.specs.Text.{pad};
 ghost use Rattle.layout.specs.Labels.{content};
-ghost use Rattle.reading.specs.ScanLaws.{blank-to};
-ghost use Rattle.records.specs.Records.{toldOne, toldTwo, toldThree, toldHeard, int-in, tenths-in, version-in, system-in, axis-in, entry, date-says, numbered, alone-in, counts-after, ranged-in, judged-as};
+ghost use Rattle.maprecords.specs.Records.{told-one};
+ghost use Rattle.records.specs.Records.{toldTwo, toldThree, toldHeard, tenths-in, version-in, system-in, axis-in, entry, numbered, counts-after, ranged-in, judged-as};
 ghost use Rattle.records.specs.Tables.{kind-of};
 ghost use lib.IntN.{natAbs};
 use super::Heard;
-use super::One;
 use super::Three;
 use super::Two;
 use super::Value;
-use calendar::Taken;
 use forms::Field;
 use forms::Found;
-use forms::Row;
 use forms::Triple;
+use maprecords::Dated;
+use maprecords::One;
 use mapset::Axis;
 use mapset::axes::Judged;
 use mapset::axes::Line;
@@ -50,41 +49,20 @@ const HIGHS: [u32; 15] = [
     0,
 ];
 
-// z, where the columns after the first a and up to e are blank.
-fn alone(z: Field, line: &[u8], a: usize, e: usize) -> One
-    ensures { λ r. ⌜ toldOne r ≡ alone-in z (blank-to (now (line .entry)) a e) ⌝ }
-{
-    match z {
-        Field::Bad => One::Wrong(1),
-        Field::Number(x) => match fields::first_not_blank(line, a, e) {
-            Found::At(column) => One::Wrong(column as u64),
-            Found::Nowhere => One::Number(x),
-        },
-    }
-}
-
-// I6,54X
-pub fn int_record(line: &[u8]) -> One
-    requires { ⌜ length (now line) ≤ 80 ⌝ }
-    ensures { λ r. ⌜ toldOne r ≡ int-in (pad (now (line .entry))) ⌝ }
-{
-    alone(fields::int_at(line, 0, 6), line, 6, 60)
-}
-
 // F8.1,52X
 fn tenths_record(line: &[u8]) -> One
     requires { ⌜ length (now line) ≤ 80 ⌝ }
-    ensures { λ r. ⌜ toldOne r ≡ tenths-in (pad (now (line .entry))) ⌝ }
+    ensures { λ r. ⌜ told-one r ≡ tenths-in (pad (now (line .entry))) ⌝ }
 {
-    alone(fields::tenths_at(line, 0, 8), line, 8, 60)
+    maprecords::alone(fields::tenths_at(line, 0, 8), line, 8, 60)
 }
 
 // The version record's columns 1 to 20: F8.1,12X
 pub fn version_record(line: &[u8]) -> One
     requires { ⌜ length (now line) ≤ 80 ⌝ }
-    ensures { λ r. ⌜ toldOne r ≡ version-in (pad (now (line .entry))) ⌝ }
+    ensures { λ r. ⌜ told-one r ≡ version-in (pad (now (line .entry))) ⌝ }
 {
-    alone(fields::tenths_at(line, 0, 8), line, 8, 20)
+    maprecords::alone(fields::tenths_at(line, 0, 8), line, 8, 20)
 }
 
 // 2X,3F6.1,40X
@@ -168,7 +146,7 @@ fn of_numbers(number: u32, satellites: u32) -> Value
 }
 
 fn ranged(x: One, low: u32, high: u32) -> Heard
-    ensures { λ r. ⌜ toldHeard (count low high) r ≡ ranged-in low high (toldOne x) ⌝ }
+    ensures { λ r. ⌜ toldHeard (count low high) r ≡ ranged-in low high (told-one x) ⌝ }
 {
     match x {
         One::Wrong(column) => Heard::Refused(6, column),
@@ -185,7 +163,7 @@ fn hear_count(line: &[u8], low: u32, high: u32) -> Heard
     requires { ⌜ length (now line) ≤ 80 ⌝ }
     ensures { λ r. ⌜ toldHeard (count low high) r ≡ entry (count low high) (pad (now (line .entry))) ⌝ }
 {
-    ranged(int_record(line), low, high)
+    ranged(maprecords::one_number(line), low, high)
 }
 
 fn hear_tenths(line: &[u8], low: u32, high: u32) -> Heard
@@ -195,36 +173,28 @@ fn hear_tenths(line: &[u8], low: u32, high: u32) -> Heard
     ranged(tenths_record(line), low, high)
 }
 
-// The second of six numbers, if they are a date.
-fn dated(year: i32, month: i32, day: i32, hour: i32, minute: i32, second: i32) -> Heard
-    ensures { λ r. ⌜ toldHeard epoch r ≡ date-says year month day hour minute second ⌝ }
+fn of_second(second: u64) -> Value
+    ensures { λ r. ⌜ r .second ≡ second ⌝ }
 {
-    match calendar::take(year, month, day, hour, minute, second) {
-        Taken::Wrong(column) => Heard::Refused(7, column),
-        Taken::At(t) => Heard::Said(Value {
-            number: 0,
-            satellites: 0,
-            second: t,
-            axis: Axis {
-                first: 0,
-                last: 0,
-                step: 0,
-            },
-        }),
+    Value {
+        number: 0,
+        satellites: 0,
+        second: second,
+        axis: Axis {
+            first: 0,
+            last: 0,
+            step: 0,
+        },
     }
 }
 
-// 6I6,24X
 fn hear_epoch(line: &[u8]) -> Heard
     requires { ⌜ length (now line) ≤ 80 ⌝ }
     ensures { λ r. ⌜ toldHeard epoch r ≡ entry epoch (pad (now (line .entry))) ⌝ }
 {
-    match fields::six_numbers(line) {
-        Row::Wrong(column) => Heard::Refused(6, column as u64),
-        Row::Six(y, m, d, h, i, s) => match fields::first_not_blank(line, 36, 60) {
-            Found::At(column) => Heard::Refused(6, column as u64),
-            Found::Nowhere => dated(y, m, d, h, i, s),
-        },
+    match maprecords::epoch_in(line) {
+        Dated::Refused(number, column) => Heard::Refused(number, column),
+        Dated::At(t) => Heard::Said(of_second(t)),
     }
 }
 

@@ -12,12 +12,7 @@ pub struct Value {
     pub axis: Axis,
 }
 
-// A record's one number, or the column where it is ill-formed.
-pub enum One {
-    Number(i32),
-    Wrong(u64),
-}
-
+// A record's numbers, or the column where it is ill-formed.
 pub enum Two {
     Numbers(i32, i32),
     Wrong(u64),

@@ -26,7 +26,8 @@ use Rattle.reading.specs.LabelLaws.{placed, placed-yes, placed-no, place-is, na
 use Rattle.reading.specs.Head.{place, next}
 use Rattle.reading.specs.Read.{versioned, version-of}
 use Rattle.reading.specs.ScanLaws.{unless, blank-to, read-is}
-use Rattle.records.specs.Records.{version-in, alone-in}
+use Rattle.maprecords.specs.Records.{one-of}
+use Rattle.records.specs.Records.{version-in}
 use Rattle.records.specs.RecordLaws.{version-is}
 
 -- ---- the type, in column 21
@@ -92,7 +93,7 @@ module _ (line : List ℕ) (k : ℕ) (e : k ≡ place-of line 40 codes) where
 
 version-by : {A : Type 0} (z : Field) (f : Found) (t u : List ℕ) (k : ℤ → List ℕ → List ℕ → Answer Fault A)
     → bind {B = ℤ × (List ℕ × (List ℕ × Unit {0}))} (number z 1 (λ x. amap (λ vs. (x, vs)) (unless {A = List ℕ × (List ℕ × Unit {0})} f (amap (λ vs. (t, vs)) (amap (λ vs. (u, vs)) (ok tt)))))) (λ v. k (v .0) (v .1 .0) (v .1 .1 .0))
-    ≡ bind (alone-in z f) (λ x. k x t u)
+    ≡ bind (one-of z f) (λ v. k (v .0) t u)
 unfolding bind amap number
 version-by (Number z) (At c) t u k = refl
 version-by (Number z) Nowhere t u k = refl
@@ -103,11 +104,11 @@ module _ (line : List ℕ) (fits : length line ≤ 80) where
   unfolding version-of
   not-version n = need-no (same (drop 60 (pad line)) (name version)) (fault 3 61) _ (λ e. n (version-number line fits e))
 
-  pub is-version : number-of line ≡ 0 → version-of (pad line) ≡ bind (version-in (pad line)) (λ z. versioned z (columns line 20 1) (columns line 40 3))
+  pub is-version : number-of line ≡ 0 → version-of (pad line) ≡ bind (version-in (pad line)) (λ v. versioned (v .0) (columns line 20 1) (columns line 40 3))
   unfolding version-of fields blank-to
   is-version e =
       let n : drop 60 (pad line) ≡ name version = named line fits (omega arith) ∙ (unfold names in rw e refl) in
       need-yes (same (drop 60 (pad line)) (name version)) (fault 3 61) _ n
       ∙ ap (λ x. bind x (λ v. versioned (v .0) (v .1 .0) (v .1 .1 .0))) (read-is line fits (layout version) (omega arith))
       ∙ version-by (readField form.F1 (columns line 0 8)) (blank-to line 8 20) (columns line 20 1) (columns line 40 3) versioned
-      ∙ ap (λ x. bind x (λ z. versioned z (columns line 20 1) (columns line 40 3))) (sym (version-is line fits))
+      ∙ ap (λ x. bind x (λ v. versioned (v .0) (columns line 20 1) (columns line 40 3))) (sym (version-is line fits))

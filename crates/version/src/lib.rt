@@ -9,8 +9,8 @@ ghost use Rattle.layout.specs.Labels.{codes};
 ghost use Rattle.layout.specs.Names.{holds, place-of};
 ghost use Rattle.reading.specs.Read.{versioned, version-of};
 ghost use Rattle.version.specs.Told.{toldVersioned};
+use maprecords::One;
 use mapset::Version;
-use records::One;
 use records::content;
 
 // What the version record says, or its refusal.

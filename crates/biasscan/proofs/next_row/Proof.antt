@@ -2,7 +2,7 @@
 use mathlib.Core.Path.{_≡_, refl, sym, ap, subst, _∙_}
 use native.Mathlib.Omega.{arith}
 use lib.ListN.{length-take, length-drop}
-use Rattle.head.specs.Opened.{Leads, LeadsRow}
+use Rattle.lines.specs.Leads.{Leads, LeadsRow}
 use Rattle.biases.specs.declared.Role.the-variants.{Last, Skipped}
 use Rattle.biasscan.specs.TurnLaws.{halts-over, halts-bad, on-row, on-satellite, on-station}
 use borrow.Author.Needs.{needs}
@@ -65,7 +65,7 @@ add-t25 : tie.Need-add-t25
 add-t25 c = let k = led (c .before .before .before .before) in omega (arith, k .passed, k .ahead, k .within)
 
 returns : tie.Need-returns
-returns c = halts-over (c .before .before .before .before .before .before .args .text .now) (c .before .before .before .before .before .before .args .at) (c .before .before .before .before .before .before .args .lines) (c .before .before .before .before .before .before .args .place) (c .before .before .n .given .0 .0) (c .line-after .result) (subst (Leads (c .before .before .before .before .before .before .args .text .now) (c .before .before .before .before .before .before .args .at) (c .before .before .before .before .before .before .args .lines)) (c .before .before .n .given .1) (c .before .before .before .before .row-from .ensures)) (c .line-after .ensures)
+returns c = halts-over (c .before .before .before .before .before .before .args .text .now) (c .before .before .before .before .before .before .args .at) (c .before .before .before .before .before .before .args .lines) (c .before .before .before .before .before .before .args .place) (c .before .before .n .given .0 .0) (c .line-after .result) (subst (Leads (c .before .before .before .before .before .before .args .text .now) (c .before .before .before .before .before .before .args .at) (c .before .before .before .before .before .before .args .lines)) (c .before .before .n .given .1) (c .before .before .before .before .row-from .ensures) .on) (c .line-after .ensures)
 
 returns-2 : tie.Need-returns-2
 returns-2 c = halts-bad (c .before .before .before .before .before .args .text .now) (c .before .before .before .before .before .args .at) (c .before .before .before .before .before .args .lines) (c .before .before .before .before .before .args .place) (c .before .number .given .0 .0) (c .before .number .given .0 .1 .0) (c .before .number .given .0 .1 .1 .0) (subst (Leads (c .before .before .before .before .before .args .text .now) (c .before .before .before .before .before .args .at) (c .before .before .before .before .before .args .lines)) (c .before .number .given .1) (c .before .before .before .row-from .ensures))

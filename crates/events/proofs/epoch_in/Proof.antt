@@ -1,69 +1,27 @@
-use mathlib.Core.Path.{_≡_, sym, _∙_}
-use mir.Syntax.{w32}
-use mir.Val.{toZ, ofZ}
-use Rattle.reading.specs.ScanLaws.{blank-to}
-use Rattle.events.proofs.FieldLaws.{date-wrong, date-odd, date-fine}
+use mathlib.Core.Path.{sym, ap, _∙_}
+use Rattle.areas.specs.Scan.{or-else}
+use Rattle.maprecords.specs.Records.{told-dated}
+use Rattle.events.proofs.FieldLaws.{date-is}
 use borrow.Author.Needs.{needs}
 use Rattle.events.proofs.epoch_in.Statement.{statement}
 use Rattle.events.proofs.epoch_in.Tie as tie
-use Rattle.events.proofs.epoch_in.Reads as reads
-use Rattle.events.proofs.epoch_in.Lts as lts
-use Rattle.fields.proofs.first_not_blank.Reads as first-not-blank-reads
-use Rattle.fields.proofs.six_numbers.Reads as six-numbers-reads
-use Rattle.events.proofs.second_of.Reads as second-of-reads
 
-six-numbers-requires : tie.Need-six-numbers-requires
-six-numbers-requires c κs = search needs
+epoch-in-requires : tie.Need-epoch-in-requires
+epoch-in-requires c κs = search needs
 
 enum-told : tie.Need-enum-told
 enum-told c = search needs
 
-enum-known-year : tie.Need-enum-known-year
-enum-known-year c = search needs
-
-first-not-blank-requires : tie.Need-first-not-blank-requires
-first-not-blank-requires c κs = search needs
-
-enum-told-2 : tie.Need-enum-told-2
-enum-told-2 c = search needs
-
-enum-told-3 : tie.Need-enum-told-3
-enum-told-3 c = search needs
-
-second-of-requires : tie.Need-second-of-requires
-second-of-requires c κs = search needs
+enum-known-t : tie.Need-enum-known-t
+enum-known-t c = search needs
 
 returns : tie.Need-returns
-returns c = date-wrong _ (c .before .before .before .before .pre) (sym (c .before .before .six-numbers .ensures) ∙ c .enum-told .given .1)
+unfolding or-else
+returns c = date-is _ (ap told-dated (sym (c .enum-told .given .1)) ∙ c .before .before .epoch-in .ensures)
 
 returns-2 : tie.Need-returns-2
-unfolding blank-to
-returns-2 c = date-odd _ (c .before .before .before .before .before .before .before .before .pre) (sym (c .before .before .before .before .before .before .six-numbers .ensures) ∙ c .before .before .before .before .year .given .1) (sym (c .before .before .first-not-blank .ensures) ∙ c .enum-told2 .given .1)
-
-returns-3 : tie.Need-returns-3
-unfolding blank-to
-returns-3 c =
-    let g = c .before .before .before .before .before .year .given .0 in
-    let a : toZ w32 (ofZ w32 (g .0)) ≡ g .0 = search needs in
-    let b : toZ w32 (ofZ w32 (g .1 .0)) ≡ g .1 .0 = search needs in
-    let d : toZ w32 (ofZ w32 (g .1 .1 .0)) ≡ g .1 .1 .0 = search needs in
-    let e : toZ w32 (ofZ w32 (g .1 .1 .1 .0)) ≡ g .1 .1 .1 .0 = search needs in
-    let f : toZ w32 (ofZ w32 (g .1 .1 .1 .1 .0)) ≡ g .1 .1 .1 .1 .0 = search needs in
-    let h : toZ w32 (ofZ w32 (g .1 .1 .1 .1 .1 .0)) ≡ g .1 .1 .1 .1 .1 .0 = search needs in
-    rw (a, b, d, e, f, h) at (c .second-of .ensures)
-    ∙ date-fine _ (c .before .before .before .before .before .before .before .before .before .pre) (sym (c .before .before .before .before .before .before .before .six-numbers .ensures) ∙ c .before .before .before .before .before .year .given .1) (sym (c .before .before .before .first-not-blank .ensures) ∙ c .before .enum-told3 .given .1)
+unfolding or-else
+returns-2 c = date-is _ (ap told-dated (sym (c .before .t .given .1)) ∙ c .before .before .before .epoch-in .ensures)
 
 pub epoch-in-spec : {M : Type 1} → statement M
-epoch-in-spec =
-    tie.close
-    (tie.spec
-    six-numbers-requires
-    enum-told
-    enum-known-year
-    first-not-blank-requires
-    enum-told-2
-    enum-told-3
-    second-of-requires
-    returns
-    returns-2
-    returns-3)
+epoch-in-spec = tie.close (tie.spec epoch-in-requires enum-told enum-known-t returns returns-2)

@@ -1,26 +1,23 @@
+use mathlib.Core.Path.{subst}
 use native.Mathlib.Omega.{arith}
-use Rattle.lines.proofs.Parts.{stands, skip-in, row-in, row-end, row-fits}
+use Prim.Native.Nat.{_-_, _≤_}
+use lib.ListN.{length, take, drop, length-take, length-drop}
+use Rattle.lines.specs.Leads.{Leads, LeadsRow}
 use Rattle.fill.proofs.FeedLaws.{rows-over, rows-bad}
-use Rattle.fill.proofs.StepLaws.{over-turned, skip-turned, row-turned}
+use Rattle.fill.proofs.StepLaws.{over-turned, row-turned}
 use borrow.Author.Needs.{needs}
 use Rattle.fill.proofs.step_at.Statement.{statement}
 use Rattle.fill.proofs.step_at.Tie as tie
-use Rattle.fill.proofs.step_at.Reads as reads
-use Rattle.fill.proofs.step_at.Lts as lts
-use Rattle.events.proofs.brought_by.Reads as brought-by-reads
-use Rattle.lines.proofs.line_in.Reads as line-in-reads
 
-sub-line-in : tie.Need-sub-line-in
-sub-line-in c = search needs
+-- the row that was found
+led : (c : tie.After-known-told) → let a = c .before .before .before .before .before .args in LeadsRow (a .text .now) (a .at) 0 (c .before .start .given .0 .0) (c .before .start .given .0 .1 .0) (c .before .start .given .0 .1 .1 .0) (c .before .start .given .0 .1 .1 .1 .0)
+led c =
+    let r = c .before .before .before in
+    let a = r .before .before .args in
+    subst (Leads (a .text .now) (a .at) 0) (c .before .start .given .1) (r .row-from .ensures)
 
-part-line-in-start : tie.Need-part-line-in-start
-part-line-in-start c = search needs
-
-part-line-in-end : tie.Need-part-line-in-end
-part-line-in-end c = search needs
-
-line-in-requires : tie.Need-line-in-requires
-line-in-requires c κs = search needs
+row-from-requires : tie.Need-row-from-requires
+row-from-requires c κs = search needs
 
 enum-told : tie.Need-enum-told
 enum-told c = search needs
@@ -28,114 +25,59 @@ enum-told c = search needs
 enum-told-2 : tie.Need-enum-told-2
 enum-told-2 c = search needs
 
-enum-known-next : tie.Need-enum-known-next
-enum-known-next c = search needs
-
-add-t21 : tie.Need-add-t21
-add-t21 c =
-    let b = c .before .before .before .before .before .before in
-    let t = b .args .text .now in
-    let at = b .args .at in
-    let h = stands t at _ _ (c .before .before .before .line-in .ensures) (c .before .next .given .1) in
-    let e = skip-in t at (omega (arith, b .pre .0)) _ h in
-    omega (arith, e, b .good .1 .0)
-
-enum-known-width : tie.Need-enum-known-width
-enum-known-width c = search needs
-
-add-e : tie.Need-add-e
-add-e c =
-    let b = c .before .before .before .before .before .before in
-    let t = b .args .text .now in
-    let at = b .args .at in
-    let h = stands t at _ _ (c .before .before .before .line-in .ensures) (c .before .width .given .1) in
-    let e = row-end t at (omega (arith, b .pre .0)) _ _ h in
-    omega arith
+enum-known-start : tie.Need-enum-known-start
+enum-known-start c = search needs
 
 sub-brought-by : tie.Need-sub-brought-by
-sub-brought-by c = search needs
+sub-brought-by c = omega (arith, led c .inside)
 
 part-brought-by-start : tie.Need-part-brought-by-start
-part-brought-by-start c = search needs
+part-brought-by-start c = omega (arith, led c .inside, led c .whole)
 
 part-brought-by-end : tie.Need-part-brought-by-end
-part-brought-by-end c =
-    let b = c .before .before .before .before .before .before in
-    let t = b .args .text .now in
-    let at = b .args .at in
-    let h = stands t at _ _ (c .before .before .before .line-in .ensures) (c .before .width .given .1) in
-    let e = row-end t at (omega (arith, b .pre .0)) _ _ h in
-    search needs
+part-brought-by-end c = omega (arith, led c .inside, led c .whole)
 
 brought-by-requires : tie.Need-brought-by-requires
 brought-by-requires c κs =
-    let b = c .before .before .before .before .before .before .before in
-    let t = b .args .text .now in
-    let at = b .args .at in
-    let h = stands t at _ _ (c .before .before .before .before .line-in .ensures) (c .before .before .width .given .1) in
-    (row-fits t at (omega (arith, b .pre .0)) _ _ h, b .pre .1)
-
-add-t24 : tie.Need-add-t24
-add-t24 c =
-    let b = c .before .before .before .before .before .before .before .before .before in
-    let t = b .args .text .now in
-    let at = b .args .at in
-    let h = stands t at _ _ (c .before .before .before .before .before .before .line-in .ensures) (c .before .before .before .before .width .given .1) in
-    let e = row-in t at (omega (arith, b .pre .0)) _ _ h in
-    omega arith
+    let k = c .before in
+    let f = led k .fits in
+    let t = k .before .before .before .before .before .args .text .now in
+    let g = k .before .start .given .0 in
+    let e : length (take (g .1 .0 - g .0) (drop (g .0) t)) ≤ 80 = simp (length-take, length-drop) (omega arith) in
+    (e, k .before .before .before .before .before .pre .1)
 
 returns : tie.Need-returns
 returns c =
-    let b = c .before .before .before .before .before in
+    let b = c .before .before .before .before in
     let t = b .args .text .now in
     let at = b .args .at in
-    let h = stands t at _ _ (c .before .before .line-in .ensures) (c .enum-told .given .1) in
-    over-turned t at (b .args .s) (b .pre .0) (rows-over t at h)
+    over-turned t at (b .args .s) (b .pre .0) (rows-over t at (subst (Leads t at 0) (c .enum-told .given .1) (c .before .before .row-from .ensures)))
 
 returns-2 : tie.Need-returns-2
 returns-2 c =
-    let b = c .before .before .before .before .before in
+    let b = c .before .before .before .before in
     let t = b .args .text .now in
     let at = b .args .at in
-    let h = stands t at _ _ (c .before .before .line-in .ensures) (c .enum-told2 .given .1) in
-    over-turned t at (b .args .s) (b .pre .0) (rows-bad t at h)
+    over-turned t at (b .args .s) (b .pre .0) (rows-bad t at (subst (Leads t at 0) (c .enum-told2 .given .1) (c .before .before .row-from .ensures)))
 
 returns-3 : tie.Need-returns-3
 returns-3 c =
-    let b = c .before .before .before .before .before .before in
-    let t = b .args .text .now in
-    let at = b .args .at in
-    let h = stands t at _ _ (c .before .before .before .line-in .ensures) (c .before .next .given .1) in
-    skip-turned t at (b .args .s) (b .pre .0) _ h
-
-returns-4 : tie.Need-returns-4
-returns-4 c =
-    let b = c .before .before .before .before .before .before .before .before .before in
-    let t = b .args .text .now in
-    let at = b .args .at in
-    let h = stands t at _ _ (c .before .before .before .before .before .before .line-in .ensures) (c .before .before .before .before .width .given .1) in
-    row-turned t at (b .args .s) (b .pre .0) _ _ h _ _ (c .before .brought-by .ensures)
+    let k = c .before .before .before in
+    let b = k .before .before .before .before .before in
+    row-turned (b .args .text .now) (b .args .at) (b .args .s) (b .pre .0) (led k) _ _ (c .before .brought-by .ensures)
 
 pub step-at-spec : {M : Type 1} → statement M
 step-at-spec =
     tie.close
     (tie.spec
-    sub-line-in
-    part-line-in-start
-    part-line-in-end
-    line-in-requires
+    row-from-requires
     enum-told
     enum-told-2
-    enum-known-next
-    add-t21
-    enum-known-width
-    add-e
+    enum-known-start
     sub-brought-by
     part-brought-by-start
     part-brought-by-end
     brought-by-requires
-    add-t24
     returns
     returns-2
-    returns-3
-    returns-4)
+    returns-3)

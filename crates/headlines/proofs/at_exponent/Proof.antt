@@ -13,12 +13,6 @@ use Rattle.reading.specs.Maps.{exponent?}
 use borrow.Author.Needs.{needs}
 use Rattle.headlines.proofs.at_exponent.Statement.{statement}
 use Rattle.headlines.proofs.at_exponent.Tie as tie
-use Rattle.headlines.proofs.at_exponent.Reads as reads
-use Rattle.headlines.proofs.at_exponent.Lts as lts
-use Rattle.gathered.proofs.refuse.Reads as refuse-reads
-use Rattle.records.proofs.content.int_record.Reads as int-record-reads
-use Rattle.headlines.proofs.more.Reads as more-reads
-use Rattle.mapset.proofs.axes.between.Reads as between-reads
 use Rattle.headlines.specs.Step.{exponent-in}
 
 z-is : (c : tie.After-known-told2) → toZ w32 (ofZ w32 (c .before .z .given .0 .0)) ≡ c .before .z .given .0 .0
@@ -27,8 +21,8 @@ z-is c = let f : SFits w32 (c .before .z .given .0 .0) = search needs in toZ-ofZ
 judged : (c : tie.After-between) → c .between .result ≡ truth (between? (negsuc 2) (pos 0) (c .before .before .z .given .0 .0))
 judged c = rw (z-is (c .before)) at (c .between .ensures)
 
-int-record-requires : tie.Need-int-record-requires
-int-record-requires c κs = search needs
+one-number-requires : tie.Need-one-number-requires
+one-number-requires c κs = search needs
 
 enum-known-column : tie.Need-enum-known-column
 enum-known-column c = search needs
@@ -50,7 +44,7 @@ unfolding exponent-in exponent? bind
 returns c =
     let n = c .before .before in
     let s = n .before .before .before .before .before .before .args .s in
-    rw (sym (n .before .before .before .before .int-record .ensures), n .before .before .z .given .1, need-yes (between? _ _ _) _ _ (truth-true _ (sym (judged n) ∙ c .before .if1 .taken)))
+    rw (sym (n .before .before .before .before .one-number .ensures), n .before .before .z .given .1, need-yes (between? _ _ _) _ _ (truth-true _ (sym (judged n) ∙ c .before .if1 .taken)))
     (c .more .ensures ∙ ap (λ (z : Slots). ok (went (mode (s .aux)) (toZ w32 (ofZ w32 (n .before .before .z .given .0 .0))) z)) (same-slots s (s .aux) _) ∙ ap (λ (z : ℤ). ok (went (mode (s .aux)) z (slots-of s))) (z-is (n .before)))
 
 refuse-requires-2 : tie.Need-refuse-requires-2
@@ -58,19 +52,19 @@ refuse-requires-2 c κs = search needs
 
 returns-2 : tie.Need-returns-2
 unfolding exponent-in exponent? bind
-returns-2 c = rw (sym (c .before .before .before .before .int-record .ensures), c .before .before .column .given .1) (c .refuse .ensures)
+returns-2 c = rw (sym (c .before .before .before .before .one-number .ensures), c .before .before .column .given .1) (c .refuse .ensures)
 
 returns-3 : tie.Need-returns-3
 unfolding exponent-in exponent? bind
 returns-3 c =
     let n = c .before .before in
-    rw (sym (n .before .before .before .before .int-record .ensures), n .before .before .z .given .1, need-no (between? _ _ _) _ _ (truth-false _ (sym (judged n) ∙ c .before .if1 .left))) (c .refuse2 .ensures)
+    rw (sym (n .before .before .before .before .one-number .ensures), n .before .before .z .given .1, need-no (between? _ _ _) _ _ (truth-false _ (sym (judged n) ∙ c .before .if1 .left))) (c .refuse2 .ensures)
 
 pub at-exponent-spec : {M : Type 1} → statement M
 at-exponent-spec =
     tie.close
     (tie.spec
-    int-record-requires
+    one-number-requires
     enum-known-column
     refuse-requires
     enum-known-z

@@ -11,11 +11,6 @@ use Rattle.maps.specs.Turns.{Running}
 use Rattle.maps.proofs.TurnLaws.{told-start, turned, ended-as, run-fits, run-more}
 use Rattle.maps.proofs.judge_with.Statement.{statement}
 use Rattle.maps.proofs.judge_with.Tie as tie
-use Rattle.maps.proofs.judge_with.Reads as reads
-use Rattle.maps.proofs.judge_with.Lts as lts
-use Rattle.maps.proofs.finish_at.Reads as finish-at-reads
-use Rattle.maps.proofs.keep.Reads as keep-reads
-use Rattle.maps.proofs.turn_at.Reads as turn-at-reads
 
 abbrev Inv-loop : tie.InvT-loop
 Inv-loop header exponent text start lines table₀ at₀ n₀ k₀ place₀ past₀ table at n k place past =
@@ -49,22 +44,24 @@ returns c =
     let g = turned _ _ _ _ _ _ _ _ _ (c .before .before .before .turn-at .ensures) (c .before .number .given .1) in
     rw (toZ-ofZ (s .fits .exponent)) at (sym (sym (told-start (record { exponent = toZ w32 (ofZ w32 (s .args .exponent)); rms = 0; height = 0 }) refl refl _) ∙ i .on ∙ g))
 
-enum-told : tie.Need-enum-told Inv-loop μ-loop
-enum-told c = search needs
+enum-known-passed : tie.Need-enum-known-passed Inv-loop μ-loop
+enum-known-passed c = search needs
 
 finish-at-requires : tie.Need-finish-at-requires Inv-loop μ-loop
-finish-at-requires c κs = let i = c .before .before .before .before .loop .inv in let w = i .within in let s = i .small in omega arith
+finish-at-requires c κs =
+    let g = turned _ _ _ _ _ _ _ _ _ (c .before .before .before .turn-at .ensures) (c .before .passed .given .1) in
+    omega (arith, g .0)
 
 same-length-2 : tie.Need-same-length-2 Inv-loop μ-loop
-same-length-2 c = c .before .before .before .before .before .loop .inv .sized
+same-length-2 c = c .before .before .before .before .before .before .loop .inv .sized
 
 returns-2 : tie.Need-returns-2 Inv-loop μ-loop
 returns-2 c =
-    let s = c .before .before .before .before .before .before .before .before in
-    let i = c .before .before .before .before .before .loop .inv in
-    let g = turned _ _ _ _ _ _ _ _ _ (c .before .before .before .turn-at .ensures) (c .before .enum-told .given .1) in
+    let s = c .before .before .before .before .before .before .before .before .before in
+    let i = c .before .before .before .before .before .before .loop .inv in
+    let g = turned _ _ _ _ _ _ _ _ _ (c .before .before .before .before .turn-at .ensures) (c .before .before .passed .given .1) in
     let e = c .finish-at .ensures ∙ ended-as _ _ _ _ in
-    rw (toZ-ofZ (s .fits .exponent)) at (e ∙ sym (sym (told-start (record { exponent = toZ w32 (ofZ w32 (s .args .exponent)); rms = 0; height = 0 }) refl refl _) ∙ i .on ∙ g))
+    rw (toZ-ofZ (s .fits .exponent)) at (e ∙ sym (sym (told-start (record { exponent = toZ w32 (ofZ w32 (s .args .exponent)); rms = 0; height = 0 }) refl refl _) ∙ i .on ∙ g .1))
 
 enum-known-to : tie.Need-enum-known-to Inv-loop μ-loop
 enum-known-to c = search needs
@@ -101,7 +98,7 @@ judge-with-spec =
     enum-known-number
     same-length
     returns
-    enum-told
+    enum-known-passed
     finish-at-requires
     same-length-2
     returns-2

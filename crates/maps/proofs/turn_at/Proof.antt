@@ -1,154 +1,108 @@
+use mathlib.Core.Path.{subst}
 use native.Mathlib.Omega.{arith}
-use lib.ListN.{drop}
-use Rattle.lines.specs.Lines.{Skips, Rows}
-use Rattle.lines.proofs.Parts.{stands, skip-in, row-in, row-end, row-fits}
-use Rattle.maps.proofs.TurnLaws.{turn-over, turn-bad, turn-skip, turn-stop, turn-go}
+use Prim.Native.Nat.{_-_, _≤_}
+use lib.ListN.{length, take, drop, length-take, length-drop}
+use Rattle.lines.specs.Leads.{Leads, LeadsRow}
+use Rattle.maps.proofs.TurnLaws.{turn-over, turn-bad, turn-stop, turn-go}
 use borrow.Author.Needs.{needs}
 use Rattle.maps.proofs.turn_at.Statement.{statement}
 use Rattle.maps.proofs.turn_at.Tie as tie
-use Rattle.maps.proofs.turn_at.Reads as reads
-use Rattle.maps.proofs.turn_at.Lts as lts
-use Rattle.lines.proofs.line_in.Reads as line-in-reads
-use Rattle.mapsteps.proofs.step.Reads as step-reads
-use Rattle.maps.proofs.values_after.Reads as values-after-reads
 
-skips : (c : tie.After-next) → Skips (drop (c .before .before .before .before .before .before .args .at) (c .before .before .before .before .before .before .args .text .now)) (c .next .given .0 .0)
-skips c = stands (c .before .before .before .before .before .before .args .text .now) (c .before .before .before .before .before .before .args .at) _ _ (c .before .before .line-in .ensures) (c .next .given .1)
+-- the row that was found
+led : (c : tie.After-known-told3) → let a = c .before .before .before .before .before .before .args in LeadsRow (a .text .now) (a .at) (a .lines) (c .before .start .given .0 .0) (c .before .start .given .0 .1 .0) (c .before .start .given .0 .1 .1 .0) (c .before .start .given .0 .1 .1 .1 .0)
+led c =
+    let r = c .before .before .before in
+    let a = r .before .before .before .args in
+    subst (Leads (a .text .now) (a .at) (a .lines)) (c .before .start .given .1) (r .row-from .ensures)
 
-rows : (c : tie.After-width) → Rows (drop (c .before .before .before .before .before .before .args .at) (c .before .before .before .before .before .before .args .text .now)) (c .width .given .0 .0) (c .width .given .0 .1 .0)
-rows c = stands (c .before .before .before .before .before .before .args .text .now) (c .before .before .before .before .before .before .args .at) _ _ (c .before .before .line-in .ensures) (c .width .given .1)
+row-from-requires : tie.Need-row-from-requires
+row-from-requires c κs = search needs
 
-sub-line-in : tie.Need-sub-line-in
-sub-line-in c = search needs
-
-part-line-in-start : tie.Need-part-line-in-start
-part-line-in-start c = search needs
-
-part-line-in-end : tie.Need-part-line-in-end
-part-line-in-end c = search needs
-
-line-in-requires : tie.Need-line-in-requires
-line-in-requires c κs = search needs
-
-enum-told : tie.Need-enum-told
-enum-told c = search needs
+enum-known-n : tie.Need-enum-known-n
+enum-known-n c = search needs
 
 enum-known-number : tie.Need-enum-known-number
 enum-known-number c = search needs
 
-add-t23 : tie.Need-add-t23
-add-t23 c = search needs
-
-enum-known-next : tie.Need-enum-known-next
-enum-known-next c = search needs
-
-add-t24 : tie.Need-add-t24
-add-t24 c = let s = c .before .before .before .before .before .before .before in omega (arith, skip-in (s .args .text .now) (s .args .at) (s .pre .0 .0) _ (skips (c .before)))
-
-add-t25 : tie.Need-add-t25
-add-t25 c = search needs
-
-enum-known-width : tie.Need-enum-known-width
-enum-known-width c = search needs
-
-add-e : tie.Need-add-e
-add-e c = let s = c .before .before .before .before .before .before .before in omega (arith, row-end (s .args .text .now) (s .args .at) (s .pre .0 .0) _ _ (rows (c .before)))
+enum-known-start : tie.Need-enum-known-start
+enum-known-start c = search needs
 
 sub-step : tie.Need-sub-step
-sub-step c = search needs
+sub-step c = omega (arith, led c .inside)
 
 part-step-start : tie.Need-part-step-start
-part-step-start c = search needs
+part-step-start c = omega (arith, led c .inside, led c .whole)
 
 part-step-end : tie.Need-part-step-end
-part-step-end c =
-    let s = c .before .before .before .before .before .before .before in
-    let e = row-end (s .args .text .now) (s .args .at) (s .pre .0 .0) _ _ (rows (c .before)) in
-    search needs
+part-step-end c = omega (arith, led c .inside, led c .whole)
 
 step-requires : tie.Need-step-requires
 step-requires c κs =
-    let s = c .before .before .before .before .before .before .before .before in
-    (row-fits (s .args .text .now) (s .args .at) (s .pre .0 .0) _ _ (rows (c .before .before)), s .pre .1)
+    let k = c .before in
+    let f = led k .fits in
+    let t = k .before .before .before .before .before .before .args .text .now in
+    let g = k .before .start .given .0 in
+    let e : length (take (g .1 .0 - g .0) (drop (g .0) t)) ≤ 80 = simp (length-take, length-drop) (omega arith) in
+    (e, k .before .before .before .before .before .before .pre .1)
 
 enum-known-number-2 : tie.Need-enum-known-number-2
 enum-known-number-2 c = search needs
 
-add-t34 : tie.Need-add-t34
-add-t34 c = search needs
+add-t27 : tie.Need-add-t27
+add-t27 c = let k = led (c .before .before .before .before .before) in omega (arith, k .passed, k .ahead, k .within)
 
 enum-known-x : tie.Need-enum-known-x
 enum-known-x c = search needs
 
 add-values-after : tie.Need-add-values-after
-add-values-after c = let s = c .before .before .before .before .before .before .before .before .before .before .before .before in omega (arith, row-in (s .args .text .now) (s .args .at) (s .pre .0 .0) _ _ (rows (c .before .before .before .before .before .before)))
-
-add-values-after-2 : tie.Need-add-values-after-2
-add-values-after-2 c = let s = c .before .before .before .before .before .before .before .before .before .before .before .before in omega (arith, s .pre .0 .0, s .pre .0 .1)
+add-values-after c = let k = led (c .before .before .before .before .before) in omega (arith, k .passed, k .ahead, k .within)
 
 values-after-requires : tie.Need-values-after-requires
-values-after-requires c κs =
-    let s = c .before .before .before .before .before .before .before .before .before .before .before .before in
-    let r = rows (c .before .before .before .before .before .before) in
-    let e = row-in (s .args .text .now) (s .args .at) (s .pre .0 .0) _ _ r in
-    (e, omega (arith, r .ahead, s .pre .0 .1))
+values-after-requires c κs = let k = led (c .before .before .before .before .before) in (k .within, omega (arith, k .passed, k .ahead))
 
 returns : tie.Need-returns
 returns c =
-    let a = c .before .before .before .before .before .before .args in
-    turn-over (a .header) (a .place) (a .past) (a .epochs .now) (a .text .now) (a .at) (a .lines) (stands (a .text .now) (a .at) _ _ (c .before .before .line-in .ensures) (c .enum-told .given .1))
+    let r = c .before .before .before in
+    let a = r .before .before .before .args in
+    turn-over (a .header) (a .place) (a .past) (a .epochs .now) (a .text .now) (a .at) (a .lines) _ (subst (Leads (a .text .now) (a .at) (a .lines)) (c .before .n .given .1) (r .row-from .ensures))
 
 returns-2 : tie.Need-returns-2
 returns-2 c =
-    let a = c .before .before .before .before .before .before .before .args in
-    turn-bad (a .header) (a .place) (a .past) (a .epochs .now) (a .text .now) (a .at) (a .lines) _ _ (stands (a .text .now) (a .at) _ _ (c .before .before .before .line-in .ensures) (c .before .number .given .1))
+    let r = c .before .before .before in
+    let a = r .before .before .before .args in
+    let e = c .before .number .given in
+    turn-bad (a .header) (a .place) (a .past) (a .epochs .now) (a .text .now) (a .at) (a .lines) (e .0 .0) (e .0 .1 .0) (e .0 .1 .1 .0) (subst (Leads (a .text .now) (a .at) (a .lines)) (e .1) (r .row-from .ensures))
 
 returns-3 : tie.Need-returns-3
 returns-3 c =
-    let s = c .before .before .before .before .before .before .before in
-    let a = s .args in
-    turn-skip (a .header) (a .place) (a .past) (a .epochs .now) (a .text .now) (a .at) (a .lines) (s .pre .0 .0) (s .pre .0 .1) _ (skips (c .before))
+    let k = c .before .before .before .before .before in
+    let a = k .before .before .before .before .before .before .args in
+    turn-stop (a .header) (a .place) (a .past) (a .epochs .now) (a .text .now) (a .at) (a .lines) _ _ _ _ (led k) _ (c .before .before .before .step .ensures) _ _ (c .before .number2 .given .1)
 
 returns-4 : tie.Need-returns-4
 returns-4 c =
-    let s = c .before .before .before .before .before .before .before .before .before .before .before .before in
-    let a = s .args in
-    turn-stop (a .header) (a .place) (a .past) (a .epochs .now) (a .text .now) (a .at) (a .lines) (s .pre .0 .0) (s .pre .0 .1) _ _ (rows (c .before .before .before .before .before .before)) _ (c .before .before .before .step .ensures) _ _ (c .before .number2 .given .1)
-
-returns-5 : tie.Need-returns-5
-returns-5 c =
-    let s = c .before .before .before .before .before .before .before .before .before .before .before .before .before in
-    let a = s .args in
-    turn-go (a .header) (a .place) (a .past) (a .epochs .now) (a .text .now) (a .at) (a .lines) (s .pre .0 .0) (s .pre .0 .1) _ _ (rows (c .before .before .before .before .before .before .before)) _ (c .before .before .before .before .step .ensures) _ (c .before .before .x .given .1) (c .values-after .result) (c .values-after .ensures)
+    let k = c .before .before .before .before .before .before in
+    let a = k .before .before .before .before .before .before .args in
+    turn-go (a .header) (a .place) (a .past) (a .epochs .now) (a .text .now) (a .at) (a .lines) _ _ _ _ (led k) _ (c .before .before .before .before .step .ensures) _ (c .before .before .x .given .1) (c .values-after .result) (c .values-after .ensures)
 
 pub turn-at-spec : {M : Type 1} → statement M
 turn-at-spec =
     tie.close
     (tie.spec
-    sub-line-in
-    part-line-in-start
-    part-line-in-end
-    line-in-requires
-    enum-told
+    row-from-requires
+    enum-known-n
     enum-known-number
-    add-t23
-    enum-known-next
-    add-t24
-    add-t25
-    enum-known-width
-    add-e
+    enum-known-start
     sub-step
     part-step-start
     part-step-end
     step-requires
     enum-known-number-2
-    add-t34
+    add-t27
     enum-known-x
     add-values-after
-    add-values-after-2
     values-after-requires
     returns
     returns-2
     returns-3
-    returns-4
-    returns-5)
+    returns-4)

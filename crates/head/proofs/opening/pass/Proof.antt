@@ -3,17 +3,11 @@ use mir.Val.{toZ, ofZ}
 use mathlib.Core.Path.{_≡_, subst}
 use native.Mathlib.Omega.{arith}
 use lib.ListN.{length-take, length-drop}
-use Rattle.head.specs.Opened.{Leads, LeadsRow}
+use Rattle.lines.specs.Leads.{Leads, LeadsRow}
 use Rattle.head.specs.OpenedLaws.{stops-over, stops-bad, leads-on}
 use borrow.Author.Needs.{needs}
 use Rattle.head.proofs.opening.pass.Statement.{statement}
 use Rattle.head.proofs.opening.pass.Tie as tie
-use Rattle.head.proofs.opening.pass.Reads as reads
-use Rattle.head.proofs.opening.pass.Lts as lts
-use Rattle.head.proofs.opening.led_to.Reads as led-to-reads
-use Rattle.head.proofs.opening.line_after.Reads as line-after-reads
-use Rattle.head.proofs.opening.row_from.Reads as row-from-reads
-use Rattle.headlines.proofs.step.Reads as step-reads
 
 -- the row that was found
 led : (c : tie.After-known-told3) → let a = c .before .before .before .before .before .args in LeadsRow (a .text .now) (a .from) (a .passed) (c .before .start .given .0 .0) (c .before .start .given .0 .1 .0) (c .before .start .given .0 .1 .1 .0) (c .before .start .given .0 .1 .1 .1 .0)
@@ -59,7 +53,7 @@ returns : tie.Need-returns
 returns c =
     let r = c .before .before .before .before in
     let a = r .before .before .args in
-    stops-over (a .text .now) (a .version) (a .s) (a .from) (a .passed) (c .before .before .n .given .0 .0) (c .line-after .result) (subst (Leads (a .text .now) (a .from) (a .passed)) (c .before .before .n .given .1) (r .row-from .ensures)) (c .line-after .ensures)
+    stops-over (a .text .now) (a .version) (a .s) (a .from) (a .passed) (c .before .before .n .given .0 .0) (c .line-after .result) (subst (Leads (a .text .now) (a .from) (a .passed)) (c .before .before .n .given .1) (r .row-from .ensures) .on) (c .line-after .ensures)
 
 returns-2 : tie.Need-returns-2
 returns-2 c =

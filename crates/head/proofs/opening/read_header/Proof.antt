@@ -4,19 +4,13 @@ use Prim.Native.Nat.{_+_}
 use mathlib.Core.Path.{subst}
 use lib.ListN.{length-take, length-drop}
 use Rattle.version.specs.Told.{toldVersioned}
-use Rattle.head.specs.Opened.{Leads, LeadsRow, blank-texts}
+use Rattle.lines.specs.Leads.{Leads, LeadsRow}
+use Rattle.head.specs.Opened.{blank-texts}
 use Rattle.head.specs.declared.Headed.the-variants.{Refused}
 use Rattle.head.specs.OpenedLaws.{hands, first-over, first-bad, first-no, first-versioned, continues}
 use borrow.Author.Needs.{needs}
 use Rattle.head.proofs.opening.read_header.Statement.{statement}
 use Rattle.head.proofs.opening.read_header.Tie as tie
-use Rattle.head.proofs.opening.read_header.Reads as reads
-use Rattle.head.proofs.opening.read_header.Lts as lts
-use Rattle.head.proofs.opening.header_from.Reads as header-from-reads
-use Rattle.head.proofs.opening.line_after.Reads as line-after-reads
-use Rattle.head.proofs.opening.refusal.Reads as refusal-reads
-use Rattle.head.proofs.opening.row_from.Reads as row-from-reads
-use Rattle.version.proofs.version_of.Reads as version-of-reads
 
 -- the row that was found
 led : (c : tie.After-known-told3) → let a = c .before .before .before .before .before .args in LeadsRow (a .text .now) 0 0 (c .before .start .given .0 .0) (c .before .start .given .0 .1 .0) (c .before .start .given .0 .1 .1 .0) (c .before .start .given .0 .1 .1 .1 .0)
@@ -81,7 +75,7 @@ returns c =
     let r = n .before .before in
     let t = r .before .before .args .text .now in
     hands _ t (Refused 10 (c .before .line-after .result) 0) blank-texts (c .refusal .result) (c .refusal .ensures .0) (c .refusal .ensures .1)
-    (first-over t (n .n .given .0 .0) _ (subst (Leads t 0 0) (n .n .given .1) (r .row-from .ensures)) (c .before .line-after .ensures) blank-texts) tt
+    (first-over t (n .n .given .0 .0) _ (subst (Leads t 0 0) (n .n .given .1) (r .row-from .ensures) .on) (c .before .line-after .ensures) blank-texts) tt
 
 returns-2 : tie.Need-returns-2
 returns-2 c =

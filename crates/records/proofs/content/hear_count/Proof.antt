@@ -6,20 +6,16 @@ use Rattle.records.specs.RecordLaws.{count-says}
 use borrow.Author.Needs.{needs}
 use Rattle.records.proofs.content.hear_count.Statement.{statement}
 use Rattle.records.proofs.content.hear_count.Tie as tie
-use Rattle.records.proofs.content.hear_count.Reads as reads
-use Rattle.records.proofs.content.hear_count.Lts as lts
-use Rattle.records.proofs.content.int_record.Reads as int-record-reads
-use Rattle.records.proofs.content.ranged.Reads as ranged-reads
 use Rattle.records.specs.Records.{ranged-in}
 
-int-record-requires : tie.Need-int-record-requires
-int-record-requires c κs = search needs
+one-number-requires : tie.Need-one-number-requires
+one-number-requires c κs = search needs
 
 ranged-requires : tie.Need-ranged-requires
 ranged-requires c κs = search needs
 
 returns : tie.Need-returns
-returns c = c .ranged .ensures ∙ ap (λ (x : Answer Fault ℤ). ranged-in (c .before .before .before .args .low) (c .before .before .before .args .high) x) (c .before .int-record .ensures) ∙ count-says _ _ _
+returns c = c .ranged .ensures ∙ ap (λ (x : Answer Fault (ℤ × Unit {0})). ranged-in (c .before .before .before .args .low) (c .before .before .before .args .high) x) (c .before .one-number .ensures) ∙ count-says _ _ _
 
 pub hear-count-spec : {M : Type 1} → statement M
-hear-count-spec = tie.close (tie.spec int-record-requires ranged-requires returns)
+hear-count-spec = tie.close (tie.spec one-number-requires ranged-requires returns)

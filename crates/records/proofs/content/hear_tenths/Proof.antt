@@ -19,7 +19,7 @@ ranged-requires : tie.Need-ranged-requires
 ranged-requires c κs = search needs
 
 returns : tie.Need-returns
-returns c = told-alike _ _ (c .ranged .result) ∙ c .ranged .ensures ∙ ap (λ (x : Answer Fault ℤ). ranged-in (c .before .before .before .args .low) (c .before .before .before .args .high) x) (c .before .tenths-record .ensures) ∙ tenths-says _ _ _
+returns c = told-alike _ _ (c .ranged .result) ∙ c .ranged .ensures ∙ ap (λ (x : Answer Fault (ℤ × Unit {0})). ranged-in (c .before .before .before .args .low) (c .before .before .before .args .high) x) (c .before .tenths-record .ensures) ∙ tenths-says _ _ _
 
 pub hear-tenths-spec : {M : Type 1} → statement M
 hear-tenths-spec = tie.close (tie.spec tenths-record-requires ranged-requires returns)

@@ -4,12 +4,8 @@ use Rattle.records.specs.RecordLaws.{tenths-is}
 use borrow.Author.Needs.{needs}
 use Rattle.records.proofs.content.tenths_record.Statement.{statement}
 use Rattle.records.proofs.content.tenths_record.Tie as tie
-use Rattle.records.proofs.content.tenths_record.Reads as reads
-use Rattle.records.proofs.content.tenths_record.Lts as lts
-use Rattle.fields.proofs.tenths_at.Reads as tenths-at-reads
-use Rattle.records.proofs.content.alone.Reads as alone-reads
 use Rattle.reading.specs.ScanLaws.{blank-to}
-use Rattle.records.specs.Records.{alone-in}
+use Rattle.maprecords.specs.Records.{one-of}
 
 tenths-at-requires : tie.Need-tenths-at-requires
 tenths-at-requires c κs = search needs
@@ -18,7 +14,7 @@ alone-requires : tie.Need-alone-requires
 alone-requires c κs = search needs
 
 returns : tie.Need-returns
-returns c = c .alone .ensures ∙ ap (λ (z : Field). alone-in z (blank-to (c .before .before .before .args .line .now) 8 60)) (c .before .tenths-at .ensures) ∙ sym (tenths-is (c .before .before .before .args .line .now) (c .before .before .before .pre))
+returns c = c .alone .ensures ∙ ap (λ (z : Field). one-of z (blank-to (c .before .before .before .args .line .now) 8 60)) (c .before .tenths-at .ensures) ∙ sym (tenths-is (c .before .before .before .args .line .now) (c .before .before .before .pre))
 
 pub tenths-record-spec : {M : Type 1} → statement M
 tenths-record-spec = tie.close (tie.spec tenths-at-requires alone-requires returns)

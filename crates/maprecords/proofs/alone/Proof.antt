@@ -1,11 +1,9 @@
 use mathlib.Core.Path.{refl, sym, _∙_}
+use Rattle.kit.specs.Answer.{amap}
 use Rattle.reading.specs.Fields.{number}
 use borrow.Author.Needs.{needs}
-use Rattle.records.proofs.content.alone.Statement.{statement}
-use Rattle.records.proofs.content.alone.Tie as tie
-use Rattle.records.proofs.content.alone.Reads as reads
-use Rattle.records.proofs.content.alone.Lts as lts
-use Rattle.fields.proofs.first_not_blank.Reads as first-not-blank-reads
+use Rattle.maprecords.proofs.alone.Statement.{statement}
+use Rattle.maprecords.proofs.alone.Tie as tie
 use Rattle.reading.specs.ScanLaws.{blank-to}
 
 enum-told : tie.Need-enum-told
@@ -24,15 +22,15 @@ enum-told-2 : tie.Need-enum-told-2
 enum-told-2 c = search needs
 
 returns : tie.Need-returns
-unfolding number blank-to
+unfolding number amap blank-to
 returns c = rw (c .enum-told .given .1) refl
 
 returns-2 : tie.Need-returns-2
-unfolding number blank-to
+unfolding number amap blank-to
 returns-2 c = rw (c .before .before .before .before .before .z .given .1, sym (c .before .before .before .first-not-blank .ensures) ∙ c .before .column .given .1) refl
 
 returns-3 : tie.Need-returns-3
-unfolding number blank-to
+unfolding number amap blank-to
 returns-3 c = rw (c .before .before .before .before .z .given .1, sym (c .before .before .first-not-blank .ensures) ∙ c .enum-told2 .given .1) (search needs)
 
 pub alone-spec : {M : Type 1} → statement M

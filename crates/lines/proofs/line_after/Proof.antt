@@ -4,10 +4,8 @@ use native.Mathlib.Decide.{decLe}
 use native.Mathlib.Numerals.{add-one}
 use Rattle.kit.specs.Answer.{pick-yes, pick-no}
 use borrow.Author.Needs.{needs}
-use Rattle.head.proofs.opening.line_after.Statement.{statement}
-use Rattle.head.proofs.opening.line_after.Tie as tie
-use Rattle.head.proofs.opening.line_after.Reads as reads
-use Rattle.head.proofs.opening.line_after.Lts as lts
+use Rattle.lines.proofs.line_after.Statement.{statement}
+use Rattle.lines.proofs.line_after.Tie as tie
 
 add-result : tie.Need-add-result
 add-result c = search needs

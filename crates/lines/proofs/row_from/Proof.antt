@@ -6,15 +6,12 @@ use native.Mathlib.Numerals.{add-one}
 use borrow.Author.Needs.{needs}
 use lib.ListN.{length, drop, drop-of-length-le}
 use Rattle.reading.specs.Feed.{why, over, bad, split, feed}
 use Rattle.lines.specs.Lines.{Skips, Rows}
 use Rattle.lines.proofs.Parts.{stands, skip-in, row-in, row-end}
 use Rattle.lines.specs.declared.Line.the-variants.{Over, Bad, Skip, Row}
-use Rattle.head.specs.OpenedLaws.{Reach, skipped, leads}
-use Rattle.head.proofs.opening.row_from.Statement.{statement}
-use Rattle.head.proofs.opening.row_from.Tie as tie
-use Rattle.head.proofs.opening.row_from.Reads as reads
-use Rattle.head.proofs.opening.row_from.Lts as lts
-use Rattle.lines.proofs.line_in.Reads as line-in-reads
+use Rattle.lines.proofs.Reaching.{Reach, skipped, leads}
+use Rattle.lines.proofs.row_from.Statement.{statement}
+use Rattle.lines.proofs.row_from.Tie as tie
 
 abbrev Inv-loop : tie.InvT-loop
 Inv-loop text from passed at₀ n₀ at n = Reach text from passed at n
@@ -45,7 +42,10 @@ returns c =
     let i = c .before .before in
     let l = i .before .before .before in
     let t = l .before .before .args .text .now in
-    l .loop .inv .same ∙ stands t (l .loop .at) (i .line-in .result) Over (i .line-in .ensures) (c .enum-told .given .1) (suc (l .loop .n))
+    record {
+      few = omega (arith, l .loop .inv .few, l .loop .inv .within);
+      on = l .loop .inv .same ∙ stands t (l .loop .at) (i .line-in .result) Over (i .line-in .ensures) (c .enum-told .given .1) (suc (l .loop .n));
+    }
 
 enum-known-number : tie.Need-enum-known-number Inv-loop μ-loop
 enum-known-number c = search needs
@@ -126,7 +126,10 @@ at-end t at n h = ap (λ (x : List ℕ). feed n (split x)) (drop-of-length-le t 
 returns-4 : tie.Need-returns-4 Inv-loop μ-loop
 returns-4 c =
     let l = c .before in
-    l .loop .inv .same ∙ at-end (l .before .before .args .text .now) (l .loop .at) (suc (l .loop .n)) (c .loop-test .left)
+    record {
+      few = omega (arith, l .loop .inv .few, l .loop .inv .within);
+      on = l .loop .inv .same ∙ at-end (l .before .before .args .text .now) (l .loop .at) (suc (l .loop .n)) (c .loop-test .left);
+    }
 
 pub row-from-spec : {M : Type 1} → statement M
 row-from-spec =
