@@ -72,7 +72,7 @@ fn spot_of(at: usize, done: usize, column: usize, spot: usize) -> usize
 }
 
 // The next `count` values, from the line that starts at `from`: every one is looked at.
-pub fn values_from(text: &[u8], from: usize, count: usize, column: usize) -> Hit
+fn values_from(text: &[u8], from: usize, count: usize, column: usize) -> Hit
     requires { ⌜ (from ≤ length (now text)) × (column < count) ⌝ }
     ensures { λ r. ⌜ Hits (now (text .entry)) from column (values-from (now (text .entry)) from count) r ⌝ }
 {

@@ -109,7 +109,7 @@ fn epoch_other(this: Open, past: Past, epochs: &[u64], line: &[u8]) -> Move
     }
 }
 
-pub fn on_epoch(header: Header, place: Place, past: Past, epochs: &[u64], line: &[u8]) -> Move
+fn on_epoch(header: Header, place: Place, past: Past, epochs: &[u64], line: &[u8]) -> Move
     requires { ⌜ (length (now line) ≤ 80) × Limits (header .times .maps) (header .grid) ⌝ }
     ensures { λ r. ⌜ r ≡ moved (now (epochs .entry)) (M.on-epoch header place (force-of past (now (epochs .entry))) (pad (now (line .entry)))) ⌝ }
 {
@@ -182,7 +182,7 @@ fn open_block(header: Header, this: Open, past: Past, line: &[u8]) -> Move
     }
 }
 
-pub fn on_block(header: Header, place: Place, past: Past, line: &[u8]) -> Move
+fn on_block(header: Header, place: Place, past: Past, line: &[u8]) -> Move
     requires { ⌜ (length (now line) ≤ 80) × Limits (header .times .maps) (header .grid) ⌝ }
     ensures { λ r. ⌜ Always r (λ h es. M.on-block header place (force-of past es) (pad (now (line .entry)))) ⌝ }
 {
@@ -211,7 +211,7 @@ fn end_file(header: Header, past: Past, epochs: &[u64], line: &[u8]) -> Move
     }
 }
 
-pub fn on_file(header: Header, place: Place, past: Past, epochs: &[u64], line: &[u8]) -> Move
+fn on_file(header: Header, place: Place, past: Past, epochs: &[u64], line: &[u8]) -> Move
     requires { ⌜ length (now line) ≤ 80 ⌝ }
     ensures { λ r. ⌜ r ≡ moved (now (epochs .entry)) (M.on-file header place (force-of past (now (epochs .entry))) (pad (now (line .entry)))) ⌝ }
 {

@@ -47,7 +47,7 @@ fn write_whole(out: &mut [u8], minus: bool, n: u64)
 }
 
 // The form In.
-pub fn write_int(out: &mut [u8], z: i32)
+fn write_int(out: &mut [u8], z: i32)
     requires { ⌜ 0 < length (now out) ⌝ }
     ensures { λ _. ⌜ now (out .exit) ≡ showField I (length (now (out .entry))) z ⌝ }
 {
@@ -55,7 +55,7 @@ pub fn write_int(out: &mut [u8], z: i32)
 }
 
 // The form Fn.1, of tenths.
-pub fn write_tenths(out: &mut [u8], z: i32)
+fn write_tenths(out: &mut [u8], z: i32)
     requires { ⌜ 2 < length (now out) ⌝ }
     ensures { λ _. ⌜ now (out .exit) ≡ showField W1 (length (now (out .entry))) z ⌝ }
 {

@@ -154,7 +154,7 @@ pub fn find_node(
 }
 
 // Start and end of the lines that are handed back; 0 and 0 where there are none.
-pub fn bounds_of(text: &[u8], reply: Reply) -> Bounds
+fn bounds_of(text: &[u8], reply: Reply) -> Bounds
     requires { ⌜ InText (now text) reply ⌝ }
     ensures { λ r. ⌜ Bounded (now (text .entry)) (told-part (now (text .entry)) reply) r ⌝ }
 {
