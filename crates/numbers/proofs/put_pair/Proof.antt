@@ -1,9 +1,9 @@
--- `biascrossing::put_pair` meets its contract.
+-- `numbers::put_pair` meets its contract.
 use mathlib.Core.List.{[], _∷_}
 use Rattle.numbers.proofs.SetLaws.{sets-front}
 use borrow.Author.Needs.{needs}
-use Rattle.biascrossing.proofs.put_pair.Statement.{statement}
-use Rattle.biascrossing.proofs.put_pair.Tie as tie
+use Rattle.numbers.proofs.put_pair.Statement.{statement}
+use Rattle.numbers.proofs.put_pair.Tie as tie
 
 slice-write-out : tie.Need-slice-write-out
 slice-write-out c = search needs
