@@ -58,7 +58,7 @@ fn number_in(line: &[u8]) -> usize
     requires { ⌜ length (now line) ≤ 80 ⌝ }
     ensures { λ r. ⌜ r ≡ natAbs (exponent-in (pad (now (line .entry)))) ⌝ }
 {
-    mapset::axes::size(whole_in(line)) as usize
+    kit::size(whole_in(line)) as usize
 }
 
 fn second_of(year: i32, month: i32, day: i32, hour: i32, minute: i32, second: i32) -> u64

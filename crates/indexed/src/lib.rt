@@ -106,7 +106,7 @@ fn is_opening(line: &[u8]) -> bool
     requires { ⌜ length (now line) ≤ 80 ⌝ }
     ensures { λ r. ⌜ r ≡ truth (same (drop 60 (pad (now (line .entry)))) (name block)) ⌝ }
 {
-    labels::label_of(line) == 30
+    labels::label_of(line) == labels::BLOCK
 }
 
 // Whether five numbers open the block after d others of its map.
@@ -122,7 +122,7 @@ fn agrees(
     requires { ⌜ Limits (header .times .maps) (header .grid) × (d < per-map header) ⌝ }
     ensures { λ r. ⌜ r ≡ truth (agrees? header d (latitude, (first, (last, (step, (height, tt)))))) ⌝ }
 {
-    let left = grid::per_map(header.grid) - d;
+    let left = mapset::axes::per_map(header.grid) - d;
     if !grid::row_agrees(header.grid, left, latitude) {
         return false;
     }

@@ -46,7 +46,7 @@ fn epoch_tec(header: Header, past: Past, epochs: &[u64], line: &[u8]) -> Move
             if !times::in_time(header, epochs, t) {
                 return Move::Stop(8, 1);
             }
-            let left = grid::per_map(header.grid);
+            let left = mapset::axes::per_map(header.grid);
             Move::Go(Next {
                 to: Place::Inside(Open {
                     fresh: false,
@@ -234,17 +234,17 @@ fn role_of(line: &[u8]) -> Role
         return Role::Unknown;
     }
     match label {
-        3 => Role::Comment,
-        19 => Role::Exponent,
-        23 => Role::Start(Kind::Tec),
-        24 => Role::End(Kind::Tec),
-        25 => Role::Start(Kind::Rms),
-        26 => Role::End(Kind::Rms),
-        27 => Role::Start(Kind::Height),
-        28 => Role::End(Kind::Height),
-        29 => Role::Epoch,
-        30 => Role::Block,
-        31 => Role::File,
+        labels::COMMENT => Role::Comment,
+        labels::EXPONENT => Role::Exponent,
+        labels::TEC_START => Role::Start(Kind::Tec),
+        labels::TEC_END => Role::End(Kind::Tec),
+        labels::RMS_START => Role::Start(Kind::Rms),
+        labels::RMS_END => Role::End(Kind::Rms),
+        labels::HEIGHT_START => Role::Start(Kind::Height),
+        labels::HEIGHT_END => Role::End(Kind::Height),
+        labels::EPOCH => Role::Epoch,
+        labels::BLOCK => Role::Block,
+        labels::FILE_END => Role::File,
         _ => Role::Misplaced,
     }
 }

@@ -18,7 +18,6 @@ use Rattle.headlines.proofs.at_exponent.Lts as lts
 use Rattle.gathered.proofs.refuse.Reads as refuse-reads
 use Rattle.records.proofs.content.int_record.Reads as int-record-reads
 use Rattle.headlines.proofs.more.Reads as more-reads
-use Rattle.mapset.proofs.axes.between.Reads as between-reads
 use Rattle.headlines.specs.Step.{exponent-in}
 
 z-is : (c : tie.After-known-told2) → toZ w32 (ofZ w32 (c .before .z .given .0 .0)) ≡ c .before .z .given .0 .0
