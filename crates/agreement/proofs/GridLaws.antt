@@ -2,19 +2,15 @@
 use mathlib.Core.Path.{_≡_, sym, ap, _∙_}
 use mathlib.Core.Logic.{inl, inr, ⊎-elim}
 use mathlib.Core.Bool.{true, false}
-use Prim.Native.Nat.{ℕ, _*_, _≤_, _<_, _^_}
-use native.Mathlib.Nat.{mul-le-mul, le-of-lt}
+use Prim.Native.Nat.{ℕ}
 use native.Mathlib.Decide.{ℕ-discrete}
 use native.Mathlib.Omega.{arith}
 use lib.Dec.{eqb}
 use lib.IntN.{ℤ, pos, negsuc, natAbs}
 use lib.Signed.{ltZ}
-use mir.Syntax.{Width}
-use mir.Val.{SFits, ofZ}
-use mir.Facts.{toZ-ofZ}
 use Rattle.kit.specs.Answer.{⊎-dec, pick-yes, pick-no}
 use Rattle.kit.specs.Integer.{int?}
-use Rattle.kit.specs.Parts.{up, not-below-zero, below-zero, lt-true, lt-false, from-bits}
+use Rattle.kit.specs.Parts.{up, not-below-zero, below-zero, lt-true, lt-false}
 use Rattle.mapset.specs.declared.Axis.{Axis}
 use Rattle.agreement.specs.Agreement.{differing}
 use Rattle.kit.specs.Truth.{truth, holds, fails, truth-same, truth-true, truth-false, eq-tells}
@@ -34,18 +30,6 @@ count-none (negsuc m) n e = fails (int? (negsuc m) (pos n)) (λ q. let z : _≡_
 pub count-some : (z : ℤ) (n : ℕ) → ltZ z (pos 0) ≡ false → eqb (natAbs z) n ≡ truth (int? z (pos n))
 count-some (pos m) n e = eq-tells m n ∙ truth-same (ℕ-discrete m n) (int? (pos m) (pos n)) (λ p. ap pos p) (λ p. cc)
 count-some (negsuc m) n e = let l = lt-false (negsuc m) (pos 0) e in absurd (omega arith)
-
--- ---- the bits of two numbers
-
-pub same-bits : (w : Width) (x y : ℤ) → SFits w x → SFits w y → eqb (ofZ w x) (ofZ w y) ≡ truth (int? x y)
-same-bits w x y f g =
-    eq-tells (ofZ w x) (ofZ w y)
-    ∙ truth-same (ℕ-discrete (ofZ w x) (ofZ w y)) (int? x y) (λ e. from-bits w x (ofZ w y) f e ∙ toZ-ofZ g) (λ e. ap (ofZ w) e)
-
--- ---- a node's size
-
-pub scaled-small : (i : ℕ) (v : ℤ) → i < 2 ^ 31 → natAbs v ≤ 2 ^ 31 → i * natAbs v ≤ 2 ^ 62
-scaled-small i v h k = let m : i * natAbs v ≤ 2 ^ 31 * 2 ^ 31 = mul-le-mul (le-of-lt h) k in omega arith
 
 -- ---- H
 

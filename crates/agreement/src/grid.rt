@@ -17,49 +17,27 @@ use mapset::Grid;
 pub fn natural(x: i32) -> u64
     ensures { λ r. ⌜ r ≡ up x ⌝ }
 {
-    if mapset::axes::less(x, 0) {
+    if kit::less(x, 0) {
         return 0;
     }
-    mapset::axes::size(x)
+    kit::size(x)
 }
 
 // Whether z is the natural number n.
 pub fn counts(z: i32, n: u64) -> bool
     ensures { λ r. ⌜ r ≡ truth (int? z (pos n)) ⌝ }
 {
-    if mapset::axes::less(z, 0) {
+    if kit::less(z, 0) {
         return false;
     }
-    mapset::axes::size(z) == n
-}
-
-fn same(x: i32, y: i32) -> bool
-    ensures { λ r. ⌜ r ≡ truth (int? x y) ⌝ }
-{
-    x == y
-}
-
-// The node of an axis after i others.
-fn node(a: Axis, i: u64) -> i64
-    requires { ⌜ i < 2 ^ 31 ⌝ }
-    ensures { λ r. ⌜ r ≡ L.node a i ⌝ }
-{
-    (a.first as i64) + (i as i64) * (a.step as i64)
+    kit::size(z) == n
 }
 
 fn is_node(a: Axis, i: u64, x: i32) -> bool
     requires { ⌜ i < 2 ^ 31 ⌝ }
     ensures { λ r. ⌜ r ≡ truth (int? x (L.node a i)) ⌝ }
 {
-    (x as i64) == node(a, i)
-}
-
-// How many blocks a map has.
-pub fn per_map(grid: Grid) -> u64
-    requires { ⌜ (layers grid ≤ 64) × (rows grid ≤ 361) ⌝ }
-    ensures { λ r. ⌜ r ≡ layers grid * rows grid ⌝ }
-{
-    mapset::axes::nodes(grid.heights) * mapset::axes::nodes(grid.latitudes)
+    (x as i64) == mapset::axes::node(a, i)
 }
 
 // How many blocks stand before the one that opens when so many are left.
@@ -67,7 +45,7 @@ fn passed(grid: Grid, left: u64) -> u64
     requires { ⌜ (layers grid ≤ 64) × (rows grid ≤ 361) ⌝ }
     ensures { λ r. ⌜ r ≡ layers grid * rows grid - left ⌝ }
 {
-    let all = per_map(grid);
+    let all = mapset::axes::per_map(grid);
     if all < left {
         return 0;
     }
@@ -87,13 +65,13 @@ pub fn row_agrees(grid: Grid, left: u64, x: i32) -> bool
 pub fn differs(a: Axis, first: i32, last: i32, step: i32) -> u64
     ensures { λ r. ⌜ r ≡ differing a first last step ⌝ }
 {
-    if !same(first, a.first) {
+    if !kit::same(first, a.first) {
         return 9;
     }
-    if !same(last, a.last) {
+    if !kit::same(last, a.last) {
         return 15;
     }
-    if !same(step, a.step) {
+    if !kit::same(step, a.step) {
         return 21;
     }
     0

@@ -11,7 +11,7 @@ fn is_after(header: Header, epochs: &[u64], e: u64) -> bool
     if k == 0 {
         return e == header.times.first;
     }
-    soundness::follows(header.times.interval, epochs[k - 1], e)
+    mapset::follows(header.times.interval, epochs[k - 1], e)
 }
 
 // Whether e may be the next epoch after these.

@@ -85,7 +85,7 @@ pub fn put_maps(
     ensures { λ r. ⌜ Put (now (out .entry)) at (all-rows header (six (now (tec .entry)) (now (rms .entry)) (now (height .entry)) (now (exponents .entry)) (now (epochs .entry)) (now (marks .entry)))) (now (out .exit)) r ⌝ }
 {
     let maps = header.times.maps as usize;
-    let blocks = valid::per_map(header.grid);
+    let blocks = axes::per_map(header.grid) as usize;
     let all = maps * blocks;
     let a = put_kind(
         out,

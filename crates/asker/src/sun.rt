@@ -10,7 +10,6 @@ use cells::Cell;
 use cells::Found;
 use mapset::Axis;
 use mapset::Grid;
-use mapset::axes;
 use spans::Shares;
 
 // The cells of the two maps.
@@ -106,7 +105,7 @@ pub fn serves(a: Axis, method: u64, epochs: &[u64]) -> bool
     if !cells::goes_round(a) {
         return false;
     }
-    if 50 < axes::size(a.step) {
+    if 50 < kit::size(a.step) {
         return false;
     }
     spans::is_close(epochs, 7200)

@@ -1,20 +1,11 @@
 // Biases as they cross to other languages: a number, the three areas, and two areas of the call's own.
 ghost use mathlib.Core.Path.{_≡_};
-ghost use mathlib.Core.List.{[], _∷_};
 ghost use Prim.Native.Nat.{_≤_};
 ghost use lib.ListN.{length};
 ghost use Rattle.kit.specs.Lists.{front};
 ghost use Rattle.biasread.specs.Biased.{told};
 ghost use Rattle.biascrossing.specs.BiasesExported.{told-number, told-counts, told-place};
 use biasread::Biased;
-
-fn put_pair(out: &mut [u64], first: u64, second: u64)
-    requires { ⌜ 2 ≤ length (now out) ⌝ }
-    ensures { λ _. ⌜ now (out .exit) ≡ front (first ∷ second ∷ []) (now (out .entry)) ⌝ }
-{
-    out[0] = first;
-    out[1] = second;
-}
 
 // An answer crosses: its number; how many satellites and stations, or the place.
 pub fn put_biased(answer: Biased, counts: &mut [u64], place: &mut [u64]) -> u64
@@ -23,12 +14,12 @@ pub fn put_biased(answer: Biased, counts: &mut [u64], place: &mut [u64]) -> u64
 {
     match answer {
         Biased::Given(satellites, stations) => {
-            put_pair(counts, satellites, stations);
+            numbers::put_pair(counts, satellites, stations);
             0
         }
         Biased::Refused(reason) => {
             let w = outcome::refusal_of(reason);
-            put_pair(place, w.first, w.second);
+            numbers::put_pair(place, w.first, w.second);
             w.number
         }
     }

@@ -54,22 +54,6 @@ pub struct StationRead {
 
 // ---- What a line is
 
-// Whether the columns after the first a hold these bytes.
-pub fn has(line: &[u8], a: usize, wanted: &[u8]) -> bool
-    requires { ⌜ a + length (now wanted) ≤ 80 ⌝ }
-    ensures { λ r. ⌜ r ≡ holds (now (line .entry)) a (now (wanted .entry)) ⌝ }
-{
-    let mut j: usize = 0;
-    while j < wanted.len() {
-        let b = fields::byte_at(line, a + j);
-        if b != wanted[j] {
-            return false;
-        }
-        j += 1;
-    }
-    true
-}
-
 fn outside(line: &[u8]) -> Role
     requires { ⌜ length (now line) ≤ 80 ⌝ }
     ensures { λ r. ⌜ r ≡ read.role Place.Outside (pad (now (line .entry))) ⌝ }
@@ -83,7 +67,7 @@ fn outside(line: &[u8]) -> Role
         return Role::Skipped(Place::Outside);
     }
     let title = TITLE;
-    if has(line, 0, &title) {
+    if labels::has(line, 0, &title) {
         return Role::Skipped(Place::Inside);
     }
     Role::Skipped(Place::Beside)

@@ -93,7 +93,7 @@ fn is_same(line: &[u8], x: Station) -> bool
     ensures { λ r. ⌜ r ≡ truth (turns.heard? x (station-of (pad (now (line .entry))))) ⌝ }
 {
     let name = x.name;
-    if !biaslines::has(line, 6, &name) {
+    if !labels::has(line, 6, &name) {
         return false;
     }
     let r = biaslines::station(line);

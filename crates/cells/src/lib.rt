@@ -143,7 +143,7 @@ fn step_of(a: Axis, unit: u64) -> u64
     requires { ⌜ unit ≤ 120 ⌝ }
     ensures { λ r. ⌜ r ≡ unit * natAbs (a .step) ⌝ }
 {
-    unit * axes::size(a.step)
+    unit * kit::size(a.step)
 }
 
 fn row_of(a: Axis, lat: i32) -> Spot

@@ -73,21 +73,13 @@ pub fn shortest(a: usize, b: usize, c: usize) -> usize
 
 // ---- Reading
 
-fn put_place(out: &mut [u64], first: u64, second: u64)
-    requires { ⌜ 2 ≤ length (now out) ⌝ }
-    ensures { λ _. ⌜ now (out .exit) ≡ front (first ∷ second ∷ []) (now (out .entry)) ⌝ }
-{
-    out[0] = first;
-    out[1] = second;
-}
-
 // A refusal crosses: its number, and its place.
 fn put_refusal(reason: Reason, place: &mut [u64]) -> u64
     requires { ⌜ 2 ≤ length (now place) ⌝ }
     ensures { λ r. ⌜ (r ≡ read-number (told-reason reason)) × (now (place .exit) ≡ front (told-place (told-reason reason)) (now (place .entry))) ⌝ }
 {
     let w = outcome::refusal_of(reason);
-    put_place(place, w.first, w.second);
+    numbers::put_pair(place, w.first, w.second);
     w.number
 }
 
@@ -273,7 +265,7 @@ fn put_why(why: Refusal, place: &mut [u64]) -> u64
         Refusal::Apart => 41,
         Refusal::TooMany => 42,
         Refusal::AreaTooShort(area, need) => {
-            put_place(place, area, need);
+            numbers::put_pair(place, area, need);
             11
         }
     }

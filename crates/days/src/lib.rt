@@ -39,7 +39,7 @@ pub fn month_days(leap: usize, month: u64) -> u64
 }
 
 // The days of a year, counted from 1900.
-pub fn year_days(k: u64) -> u64
+fn year_days(k: u64) -> u64
     requires { ⌜ k < 300 ⌝ }
     ensures { λ r. ⌜ r ≡ yearDays k ⌝ }
 {

@@ -13,7 +13,7 @@ use events::Event;
 use events::State;
 use lines::Line;
 use mapset::Kind;
-use stores::Size;
+use mapset::Size;
 
 // ---- The header
 
@@ -41,22 +41,22 @@ fn past_row(line: &[u8], aux: bool, exponent: i32) -> Past
     if aux {
         return Past {
             ended: false,
-            aux: k != 21,
+            aux: k != labels::AUX_END,
             exponent,
         };
     }
     match k {
-        19 => Past {
+        labels::EXPONENT => Past {
             ended: false,
             aux: false,
             exponent: events::whole_in(line),
         },
-        20 => Past {
+        labels::AUX_START => Past {
             ended: false,
             aux: true,
             exponent,
         },
-        22 => Past {
+        labels::HEADER_END => Past {
             ended: true,
             aux: false,
             exponent,

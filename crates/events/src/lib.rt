@@ -52,7 +52,7 @@ fn number_in(line: &[u8]) -> usize
     requires { ⌜ length (now line) ≤ 80 ⌝ }
     ensures { λ r. ⌜ r ≡ natAbs (exponent-in (pad (now (line .entry)))) ⌝ }
 {
-    mapset::axes::size(whole_in(line)) as usize
+    kit::size(whole_in(line)) as usize
 }
 
 // The second of EPOCH OF CURRENT MAP.

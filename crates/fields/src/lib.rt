@@ -97,7 +97,7 @@ pub fn int_value(f: &[u8]) -> i32
 }
 
 // The form In.
-pub fn read_int(f: &[u8]) -> Field
+fn read_int(f: &[u8]) -> Field
     requires { ⌜ length (now f) ≤ 9 ⌝ }
     ensures { λ r. ⌜ r ≡ readField I (now (f .entry)) ⌝ }
 {
@@ -156,14 +156,6 @@ fn read_decimal(f: &[u8], after: usize) -> Field
     } else {
         Field::Bad
     }
-}
-
-// The form Fn.1, in tenths.
-pub fn read_tenths(f: &[u8]) -> Field
-    requires { ⌜ length (now f) ≤ 10 ⌝ }
-    ensures { λ r. ⌜ r ≡ readField F1 (now (f .entry)) ⌝ }
-{
-    read_decimal(f, 1)
 }
 
 fn read_number(f: &[u8], after: usize) -> Field
@@ -256,7 +248,7 @@ pub fn byte_at(line: &[u8], i: usize) -> u8
 }
 
 // Text, as it stands in the columns after the first a.
-pub fn text_into(line: &[u8], a: usize, out: &mut [u8])
+fn text_into(line: &[u8], a: usize, out: &mut [u8])
     requires { ⌜ a + length (now out) ≤ 80 ⌝ }
     ensures { λ _. ⌜ now (out .exit) ≡ columns (now (line .entry)) a (length (now (out .entry))) ⌝ }
 {

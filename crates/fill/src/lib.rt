@@ -15,7 +15,7 @@ use events::Event;
 use events::State;
 use lines::NextRow;
 use mapset::Kind;
-pub use stores::Size;
+use mapset::Size;
 
 // A block's values, from the line that starts at `at` on; where the line behind them starts.
 fn put_block(text: &[u8], at: usize, from: usize, columns: usize, area: &mut [i32]) -> usize

@@ -1,5 +1,5 @@
 -- What was got of a header so far, and what a line of it does, in the words of `reading`.
-use mathlib.Core.Bool.{Bool, true, false}
+use mathlib.Core.Bool.{Bool, true, false, cond}
 use mathlib.Core.Option.{Option, some}
 use mathlib.Core.List.{List, [], _∷_}
 use Prim.Native.Nat.{ℕ, zero, suc}
@@ -40,6 +40,10 @@ said s i (tenths low high) = says (tenths low high) (getD (s .values) i nil)
 said s i epoch = says epoch (getD (s .values) i nil)
 said s i (axis l) = says (axis l) (getD (s .values) i nil)
 said s i system = says system (getD (s .values) i nil)
+
+-- what it holds for a record of numbers there: zeros where none was got
+abbrev pub value-in : State → ℕ → Value
+value-in s i = cond (getD (s .seen) i false) (getD (s .values) i nil) nil
 
 unfoldable pub slot : State → ℕ → Option Said
 slot s i = if-stands (getD (s .seen) i false) (said s i (content i))

@@ -1,6 +1,6 @@
 -- What is got when a record is kept, and the header record of what was got.
 use mathlib.Core.Path.{_≡_, refl, sym, ap, ap₂, _∙_}
-use mathlib.Core.Bool.{Bool, true, false, _&&_}
+use mathlib.Core.Bool.{Bool, true, false, _&&_, cond}
 use mathlib.Core.Option.{Option, none, some}
 use mathlib.Core.List.{List, [], _∷_}
 use Prim.Native.Nat.{ℕ, zero, suc, _+_, _-_, _≤_, _<_}
@@ -18,7 +18,7 @@ use Rattle.layout.specs.Layout.{Slots}
 use Rattle.reading.specs.Head.{number-in, axis-in, words-in, counted-in, system-in, Complete, complete?, made-texts}
 use Rattle.reading.specs.SlotLaws.{complete-at}
 use Rattle.records.specs.Records.{says}
-use Rattle.gathered.specs.Got.{nil, said, slot, places, slots-of, texts-of}
+use Rattle.gathered.specs.Got.{nil, said, value-in, slot, places, slots-of, texts-of}
 use Rattle.records.specs.Tables.{kind-of, Numbers}
 use Rattle.records.specs.declared.Value.{Value}
 use Rattle.gathered.specs.declared.State.{State}
@@ -232,28 +232,37 @@ module _ (P : Content → Type 0) where
   on-system f system h = f
 
 module _ (s : State) (i : ℕ) (inside : i < 22) where
-  module _ (e : getD (s .seen) i false ≡ true) where
-    abbrev here-is : Value
-    here-is = getD (s .values) i nil
+  abbrev here-is : Value
+  here-is = getD (s .values) i nil
 
-    pub number-got : kind-of (content i) ≤ 1 → here-is .number ≡ number-in (getD (slots-of s) i none)
-    number-got h = sym (ap number-in (stands s i inside e) ∙ on-number (λ k. number-in (some (said s i k)) ≡ here-is .number) (λ _ _. refl) (λ _ _. refl) (content i) h)
+  -- what a record that may stand gives: f of whether it does and its numbers, g of its slot
+  got : {A : Type 0} (f : Bool → Value → A) (g : Option Said → A) → f false nil ≡ g none → f true here-is ≡ g (some (said s i (content i)))
+      → f (getD (s .seen) i false) (value-in s i) ≡ g (getD (slots-of s) i none)
+  unfolding slot
+  got {A} f g a b = by (getD (s .seen) i false) ∙ sym (ap g (slot-at s i inside))
+    where
+      by : (t : Bool) → f t (cond t here-is nil) ≡ g (if-stands t (said s i (content i)))
+      by true = b
+      by false = a
 
-    pub second-got : kind-of (content i) ≡ 2 → here-is .second ≡ number-in (getD (slots-of s) i none)
-    second-got h = sym (ap number-in (stands s i inside e) ∙ on-epoch (λ k. number-in (some (said s i k)) ≡ here-is .second) refl (content i) h)
+  pub number-got : kind-of (content i) ≤ 1 → value-in s i .number ≡ number-in (getD (slots-of s) i none)
+  number-got h = got (λ _ v. v .number) number-in refl (on-number (λ k. here-is .number ≡ number-in (some (said s i k))) (λ _ _. refl) (λ _ _. refl) (content i) h)
 
-    pub axis-got : 3 ≤ kind-of (content i) → kind-of (content i) ≤ 5 → here-is .axis ≡ axis-in (getD (slots-of s) i none)
-    axis-got h g = sym (ap axis-in (stands s i inside e) ∙ on-axis (λ k. axis-in (some (said s i k)) ≡ here-is .axis) (λ _. refl) (content i) h g)
+  pub second-got : kind-of (content i) ≡ 2 → value-in s i .second ≡ number-in (getD (slots-of s) i none)
+  second-got h = got (λ _ v. v .second) number-in refl (on-epoch (λ k. here-is .second ≡ number-in (some (said s i k))) refl (content i) h)
 
-    pub counted-got : kind-of (content i) ≤ 1 → record { stands = true; count = here-is .number } ≡ counted-in (getD (slots-of s) i none)
-    counted-got h =
-        sym (ap counted-in (stands s i inside e)
-        ∙ on-number (λ k. counted-in (some (said s i k)) ≡ record { stands = true; count = here-is .number }) (λ _ _. refl) (λ _ _. refl) (content i) h)
+  pub axis-got : 3 ≤ kind-of (content i) → kind-of (content i) ≤ 5 → value-in s i .axis ≡ axis-in (getD (slots-of s) i none)
+  axis-got h g = got (λ _ v. v .axis) axis-in refl (on-axis (λ k. here-is .axis ≡ axis-in (some (said s i k))) (λ _. refl) (content i) h g)
 
-    pub system-got : kind-of (content i) ≡ 9 → record { stands = true; stations = here-is .number; satellites = here-is .satellites } ≡ system-in (getD (slots-of s) i none)
-    system-got h =
-        sym (ap system-in (stands s i inside e)
-        ∙ on-system (λ k. system-in (some (said s i k)) ≡ record { stands = true; stations = here-is .number; satellites = here-is .satellites }) refl (content i) h)
+  pub counted-got : kind-of (content i) ≤ 1 → record { stands = getD (s .seen) i false; count = value-in s i .number } ≡ counted-in (getD (slots-of s) i none)
+  counted-got h =
+      got (λ b v. record { stands = b; count = v .number }) counted-in refl
+      (on-number (λ k. record { stands = true; count = here-is .number } ≡ counted-in (some (said s i k))) (λ _ _. refl) (λ _ _. refl) (content i) h)
+
+  pub system-got : kind-of (content i) ≡ 9 → record { stands = getD (s .seen) i false; stations = value-in s i .number; satellites = value-in s i .satellites } ≡ system-in (getD (slots-of s) i none)
+  system-got h =
+      got (λ b v. record { stands = b; stations = v .number; satellites = v .satellites }) system-in refl
+      (on-system (λ k. record { stands = true; stations = here-is .number; satellites = here-is .satellites } ≡ system-in (some (said s i k))) refl (content i) h)
 
 -- ---- no record is missing
 

@@ -16,7 +16,7 @@ ghost use Rattle.reading.specs.Read.{nothing-yet};
 ghost use Rattle.reading.specs.ScanLaws.{blank-to};
 ghost use Rattle.records.specs.Records.{toldHeard, entry, first-of};
 ghost use Rattle.records.specs.Tables.{kind-of, Numbers};
-ghost use Rattle.gathered.specs.Got.{any-version, slots-of, told, kept};
+ghost use Rattle.gathered.specs.Got.{any-version, slots-of, value-in, told, kept};
 use forms::Found;
 use mapset::Axis;
 use mapset::Counted;
@@ -201,57 +201,58 @@ pub fn keep_observables(s: State, line: &[u8]) -> Stepped
 
 // ---- the header record
 
+// What was got for the record at place i: zeros where it was not.
+fn value_in(s: State, i: usize) -> Value
+    requires { ⌜ i < 22 ⌝ }
+    ensures { λ r. ⌜ r ≡ value-in s i ⌝ }
+{
+    if s.seen[i] {
+        return s.values[i];
+    }
+    Value {
+        number: 0,
+        satellites: 0,
+        second: 0,
+        axis: Axis {
+            first: 0,
+            last: 0,
+            step: 0,
+        },
+    }
+}
+
 fn number_in(s: State, i: usize) -> u32
     requires { ⌜ (i < 22) × (kind-of (content i) ≤ 1) ⌝ }
     ensures { λ r. ⌜ r ≡ number-in (getD (slots-of s) i none) ⌝ }
 {
-    if s.seen[i] {
-        let v = s.values[i];
-        return v.number;
-    }
-    0
+    let v = value_in(s, i);
+    v.number
 }
 
 fn second_in(s: State, i: usize) -> u64
     requires { ⌜ (i < 22) × (kind-of (content i) ≡ 2) ⌝ }
     ensures { λ r. ⌜ r ≡ number-in (getD (slots-of s) i none) ⌝ }
 {
-    if s.seen[i] {
-        let v = s.values[i];
-        return v.second;
-    }
-    0
+    let v = value_in(s, i);
+    v.second
 }
 
 fn axis_in(s: State, i: usize) -> Axis
     requires { ⌜ (i < 22) × (3 ≤ kind-of (content i)) × (kind-of (content i) ≤ 5) ⌝ }
     ensures { λ r. ⌜ r ≡ axis-in (getD (slots-of s) i none) ⌝ }
 {
-    if s.seen[i] {
-        let v = s.values[i];
-        return v.axis;
-    }
-    Axis {
-        first: 0,
-        last: 0,
-        step: 0,
-    }
+    let v = value_in(s, i);
+    v.axis
 }
 
 fn counted_in(s: State, i: usize) -> Counted
     requires { ⌜ (i < 22) × (kind-of (content i) ≤ 1) ⌝ }
     ensures { λ r. ⌜ r ≡ counted-in (getD (slots-of s) i none) ⌝ }
 {
-    if s.seen[i] {
-        let v = s.values[i];
-        return Counted {
-            stands: true,
-            count: v.number,
-        };
-    }
+    let v = value_in(s, i);
     Counted {
-        stands: false,
-        count: 0,
+        stands: s.seen[i],
+        count: v.number,
     }
 }
 
@@ -259,18 +260,11 @@ fn system_in(s: State, i: usize) -> System
     requires { ⌜ (i < 22) × (kind-of (content i) ≡ 9) ⌝ }
     ensures { λ r. ⌜ r ≡ system-in (getD (slots-of s) i none) ⌝ }
 {
-    if s.seen[i] {
-        let v = s.values[i];
-        return System {
-            stands: true,
-            stations: v.number,
-            satellites: v.satellites,
-        };
-    }
+    let v = value_in(s, i);
     System {
-        stands: false,
-        stations: 0,
-        satellites: 0,
+        stands: s.seen[i],
+        stations: v.number,
+        satellites: v.satellites,
     }
 }
 

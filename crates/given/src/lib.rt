@@ -2,7 +2,6 @@
 ghost use mathlib.Core.Path.{_≡_};
 ghost use Prim.Native.Nat.{_+_, _≤_};
 ghost use lib.ListN.{length};
-ghost use lib.Signed.{ltZ};
 ghost use Rattle.given.specs.Given.{bounded, axis-number, stands-of, nth, count-at, version-of, times-of, model-of, axis-at, grid-of, counted-at, system-at, systems-of, header-of, texts-of};
 use mapset::Axis;
 use mapset::Counted;
@@ -29,19 +28,13 @@ pub fn held(x: i64, high: u64) -> u64
     m
 }
 
-fn less(x: i64, y: i64) -> bool
-    ensures { λ r. ⌜ r ≡ ltZ x y ⌝ }
-{
-    x < y
-}
-
 fn on_axis(x: i64) -> i32
     ensures { λ r. ⌜ r ≡ axis-number x ⌝ }
 {
-    if less(x, -2147483647) {
+    if kit::wide::less(x, -2147483647) {
         return 2147483647;
     }
-    if less(2147483647, x) {
+    if kit::wide::less(2147483647, x) {
         return 2147483647;
     }
     x as i32
@@ -50,10 +43,10 @@ fn on_axis(x: i64) -> i32
 fn stands(x: i64) -> bool
     ensures { λ r. ⌜ r ≡ stands-of x ⌝ }
 {
-    if less(x, 0) {
+    if kit::wide::less(x, 0) {
         return true;
     }
-    less(0, x)
+    kit::wide::less(0, x)
 }
 
 fn count_at(n: &[i64], i: usize) -> u32

@@ -75,7 +75,7 @@ fn texts_of(s: State) -> Texts
     }
 }
 
-fn blanks() -> Texts
+pub fn blanks() -> Texts
     ensures { λ r. ⌜ r ≡ blank-texts ⌝ }
 {
     Texts {

@@ -78,10 +78,10 @@ fn put_first(out: &mut [u8], at: usize, header: Header, texts: Texts) -> usize
     let program = headrows::program_row(texts);
     let a = rows::put_line(out, at, &version);
     let b = rows::put_line(out, a, &program);
-    let c = rows::put_dated(out, b, 4, header.times.first);
-    let d = rows::put_dated(out, c, 5, header.times.last);
-    let e = put_count(out, d, 6, header.times.interval);
-    put_count(out, e, 7, header.times.maps)
+    let c = rows::put_dated(out, b, labels::FIRST_EPOCH, header.times.first);
+    let d = rows::put_dated(out, c, labels::LAST_EPOCH, header.times.last);
+    let e = put_count(out, d, labels::INTERVAL, header.times.interval);
+    put_count(out, e, labels::MAPS, header.times.maps)
 }
 
 fn put_middle(out: &mut [u8], at: usize, header: Header, texts: Texts) -> usize
@@ -91,10 +91,10 @@ fn put_middle(out: &mut [u8], at: usize, header: Header, texts: Texts) -> usize
     let mapping = headrows::mapping_row(texts);
     let observables = headrows::observables_row(texts);
     let a = rows::put_line(out, at, &mapping);
-    let b = put_tenths(out, a, 9, header.model.cutoff);
+    let b = put_tenths(out, a, labels::CUTOFF, header.model.cutoff);
     let c = rows::put_line(out, b, &observables);
-    let d = put_counted(out, c, 11, header.stations);
-    put_counted(out, d, 12, header.satellites)
+    let d = put_counted(out, c, labels::STATIONS, header.stations);
+    put_counted(out, d, labels::SATELLITES, header.satellites)
 }
 
 fn put_systems(out: &mut [u8], at: usize, s: Systems) -> usize
@@ -114,12 +114,12 @@ fn put_last(out: &mut [u8], at: usize, model: Model, grid: Grid) -> usize
     requires { ⌜ ModelSays model × Room at (said.last-rows model grid) ⌝ }
     ensures { λ r. ⌜ Put (now (out .entry)) at (said.last-rows model grid) (now (out .exit)) r ⌝ }
 {
-    let end = rowtext::blank_row(22);
-    let a = put_tenths(out, at, 14, model.radius);
-    let b = put_count(out, a, 15, model.dimension);
-    let c = put_axis(out, b, 16, grid.heights);
-    let d = put_axis(out, c, 17, grid.latitudes);
-    let e = put_axis(out, d, 18, grid.longitudes);
+    let end = rowtext::blank_row(labels::HEADER_END);
+    let a = put_tenths(out, at, labels::RADIUS, model.radius);
+    let b = put_count(out, a, labels::DIMENSION, model.dimension);
+    let c = put_axis(out, b, labels::HEIGHTS, grid.heights);
+    let d = put_axis(out, c, labels::LATITUDES, grid.latitudes);
+    let e = put_axis(out, d, labels::LONGITUDES, grid.longitudes);
     rows::put_line(out, e, &end)
 }
 

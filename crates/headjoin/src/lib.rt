@@ -11,16 +11,10 @@ use mapset::Header;
 use mapset::Times;
 use mapset::axes;
 
-fn same(x: i32, y: i32) -> bool
-    ensures { λ r. ⌜ r ≡ truth (int? x y) ⌝ }
-{
-    axes::between(y, y, x)
-}
-
 fn same_axis(a: Axis, b: Axis) -> bool
     ensures { λ r. ⌜ r ≡ truth (join.axis? a b) ⌝ }
 {
-    same(a.first, b.first) & (same(a.last, b.last) & same(a.step, b.step))
+    kit::same(a.first, b.first) & (kit::same(a.last, b.last) & kit::same(a.step, b.step))
 }
 
 fn same_grid(a: Grid, b: Grid) -> bool

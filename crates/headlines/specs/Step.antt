@@ -36,10 +36,6 @@ fresh s i x = need (none? (getD (slots-of s) i none)) (fault 5 61) (kept s i x)
 unfoldable pub exponent-in : State → List ℕ → Answer Fault Went
 exponent-in s r = bind (fields exponent r) (λ v. need (exponent? (v .0)) (fault 7 1) (ok (went (mode (s .aux)) (v .0) (slots-of s))))
 
--- a place, where it is below n
-abbrev pub if-below : ℕ → ℕ → Option ℕ
-if-below n i = cond (ltb i n) (some i) none
-
 -- SYS / #STA / #SAT, by the place of its letter
 unfoldable pub system-at : State → List ℕ → Option ℕ → Answer Fault Went
 system-at s r none = bind (system-in r) (λ v. refused (fault 7 6))

@@ -32,7 +32,8 @@ use Rattle.records.specs.Tables.{action, place-at}
 use Rattle.records.specs.RecordLaws.{blank-says, bind-amap, bind-same}
 use Rattle.gathered.specs.GotLaws.{stands, is-missing, texts-got}
 use Rattle.gathered.specs.declared.State.{State}
-use Rattle.headlines.specs.Step.{ended-in, fresh, exponent-in, if-below, system-at, by-letter, acted}
+use Rattle.labels.specs.Letters.{if-below}
+use Rattle.headlines.specs.Step.{ended-in, fresh, exponent-in, system-at, by-letter, acted}
 
 amap-need : {A B P : Type 0} (f : A → B) (d : Dec P) (w : Fault) (x : Answer Fault A) → amap f (need d w x) ≡ need d w (amap f x)
 unfolding amap need

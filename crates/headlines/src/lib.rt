@@ -15,7 +15,7 @@ ghost use Rattle.reading.specs.Head.{place, on-end};
 ghost use Rattle.records.specs.Records.{entry};
 ghost use Rattle.gathered.specs.Got.{slots-of, mode, went, gone, told, stepped};
 ghost use Rattle.records.specs.Tables.{action, place-at};
-ghost use Rattle.headlines.specs.Step.{ended-in, fresh, exponent-in, if-below, system-at, by-letter, acted};
+ghost use Rattle.headlines.specs.Step.{ended-in, fresh, exponent-in, system-at, by-letter, acted};
 use forms::Found;
 use gathered::Next;
 use gathered::State;
@@ -128,22 +128,6 @@ fn at_place(s: State, i: usize, line: &[u8]) -> Stepped
     gathered::keep_observables(s, line)
 }
 
-// The place of a system's letter in 01's list, 7 where it is none of them.
-fn letter_place(b: u8) -> usize
-    ensures { λ r. ⌜ if-below 7 r ≡ place ℕ-discrete b letters ⌝ }
-{
-    match b {
-        b'G' => 0,
-        b'R' => 1,
-        b'E' => 2,
-        b'C' => 3,
-        b'J' => 4,
-        b'I' => 5,
-        b'S' => 6,
-        _ => 7,
-    }
-}
-
 // A letter that is none of the seven is told after what is ill-formed.
 fn no_system(s: State, line: &[u8]) -> Stepped
     requires { ⌜ length (now line) ≤ 80 ⌝ }
@@ -160,7 +144,7 @@ fn at_system(s: State, line: &[u8]) -> Stepped
     requires { ⌜ length (now line) ≤ 80 ⌝ }
     ensures { λ r. ⌜ told r ≡ by-letter s (pad (now (line .entry))) ⌝ }
 {
-    let j = letter_place(fields::byte_at(line, 5));
+    let j = labels::letter_place(fields::byte_at(line, 5));
     if 7 <= j {
         return no_system(s, line);
     }
@@ -178,7 +162,7 @@ fn at_exponent(s: State, line: &[u8]) -> Stepped
     match maprecords::one_number(line) {
         One::Wrong(column) => gathered::refuse(s, 6, column),
         One::Number(z) => {
-            if axes::between(-3, 0, z) {
+            if kit::between(-3, 0, z) {
                 let mut t = s;
                 t.exponent = z;
                 return more(t);
@@ -249,7 +233,7 @@ fn by_label(s: State, version: Version, k: usize, line: &[u8]) -> Stepped
 fn in_aux(s: State, k: usize) -> Stepped
     ensures { λ r. ⌜ told r ≡ cond (eqb k 21) (ok (went plain (s .exponent) (slots-of s))) (ok (went (mode (s .aux)) (s .exponent) (slots-of s))) ⌝ }
 {
-    if k == 21 {
+    if k == labels::AUX_END {
         let mut t = s;
         t.aux = false;
         return more(t);

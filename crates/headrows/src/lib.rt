@@ -7,9 +7,6 @@ use mapset::System;
 use mapset::Texts;
 use mapset::Version;
 
-// In 01's order.
-const LETTERS: [u8; 7] = *b"GRECJIS";
-
 // The version, then `IONOSPHERE MAPS` in columns 21 to 35, then the code.
 pub fn version_row(version: Version) -> [u8; 80]
     requires { ⌜ (version .tenths < 2 ^ 31) × (version .code < 11) ⌝ }
@@ -17,7 +14,7 @@ pub fn version_row(version: Version) -> [u8; 80]
 {
     let code = version.code as usize;
     let text = labels::CODES[code];
-    let mut row = rowtext::blank_row(0);
+    let mut row = rowtext::blank_row(labels::VERSION);
     numerals::put_tenths(&mut row, 0, 8, version.tenths as i32);
     rowtext::put_text(&mut row, 20, b"IONOSPHERE MAPS");
     rowtext::put_text(&mut row, 40, &text);
@@ -30,7 +27,7 @@ pub fn program_row(t: Texts) -> [u8; 80]
     let program = t.program;
     let agency = t.agency;
     let date = t.date;
-    let mut row = rowtext::blank_row(1);
+    let mut row = rowtext::blank_row(labels::PROGRAM);
     rowtext::put_text(&mut row, 0, &program);
     rowtext::put_text(&mut row, 20, &agency);
     rowtext::put_text(&mut row, 40, &date);
@@ -41,7 +38,7 @@ pub fn mapping_row(t: Texts) -> [u8; 80]
     ensures { λ r. ⌜ r ≡ said.mapping-row t ⌝ }
 {
     let mapping = t.mapping;
-    let mut row = rowtext::blank_row(8);
+    let mut row = rowtext::blank_row(labels::MAPPING);
     rowtext::put_text(&mut row, 2, &mapping);
     row
 }
@@ -50,7 +47,7 @@ pub fn observables_row(t: Texts) -> [u8; 80]
     ensures { λ r. ⌜ r ≡ said.observables-row t ⌝ }
 {
     let observables = t.observables;
-    let mut row = rowtext::blank_row(10);
+    let mut row = rowtext::blank_row(labels::OBSERVABLES);
     rowtext::put_text(&mut row, 0, &observables);
     row
 }
@@ -70,8 +67,8 @@ pub fn system_row(j: usize, s: System) -> [u8; 80]
     requires { ⌜ (j < 7) × (s .stations < 2 ^ 31) × (s .satellites < 2 ^ 31) ⌝ }
     ensures { λ r. ⌜ r ≡ said.system-row j s ⌝ }
 {
-    let mut row = rowtext::blank_row(13);
-    row[5] = LETTERS[j];
+    let mut row = rowtext::blank_row(labels::SYSTEM);
+    row[5] = labels::LETTERS[j];
     numerals::put_int(&mut row, 6, 6, s.stations as i32);
     numerals::put_int(&mut row, 12, 6, s.satellites as i32);
     row

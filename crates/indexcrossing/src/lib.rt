@@ -30,14 +30,6 @@ fn put_two(out: &mut [i32], first: i32, second: i32)
     out[1] = second;
 }
 
-fn put_part(out: &mut [u64], start: u64, count: u64)
-    requires { ⌜ 2 ≤ length (now out) ⌝ }
-    ensures { λ _. ⌜ now (out .exit) ≡ front (start ∷ count ∷ []) (now (out .entry)) ⌝ }
-{
-    out[0] = start;
-    out[1] = count;
-}
-
 // A node crosses: its number, and the number as written with its exponent.
 pub fn put_node(reply: Reply, value: &mut [i32]) -> u64
     requires { ⌜ 2 ≤ length (now value) ⌝ }
@@ -60,7 +52,7 @@ pub fn put_block(reply: Reply, bounds: &mut [u64]) -> u64
     match reply {
         Reply::Given(_, _, start, end) => {
             let count = end - start;
-            put_part(bounds, start as u64, count as u64);
+            numbers::put_pair(bounds, start as u64, count as u64);
             0
         }
         Reply::Refused(why) => number_of(why),

@@ -72,7 +72,7 @@ fn spot_of(at: usize, done: usize, column: usize, spot: usize) -> usize
 }
 
 // The next `count` values, from the line that starts at `from`: every one is looked at.
-pub fn values_from(text: &[u8], from: usize, count: usize, column: usize) -> Hit
+fn values_from(text: &[u8], from: usize, count: usize, column: usize) -> Hit
     requires { ⌜ (from ≤ length (now text)) × (column < count) ⌝ }
     ensures { λ r. ⌜ Hits (now (text .entry)) from column (values-from (now (text .entry)) from count) r ⌝ }
 {
@@ -106,7 +106,7 @@ fn is_opening(line: &[u8]) -> bool
     requires { ⌜ length (now line) ≤ 80 ⌝ }
     ensures { λ r. ⌜ r ≡ truth (same (drop 60 (pad (now (line .entry)))) (name block)) ⌝ }
 {
-    labels::label_of(line) == 30
+    labels::label_of(line) == labels::BLOCK
 }
 
 // Whether five numbers open the block after d others of its map.
@@ -122,7 +122,7 @@ fn agrees(
     requires { ⌜ Limits (header .times .maps) (header .grid) × (d < per-map header) ⌝ }
     ensures { λ r. ⌜ r ≡ truth (agrees? header d (latitude, (first, (last, (step, (height, tt)))))) ⌝ }
 {
-    let left = grid::per_map(header.grid) - d;
+    let left = mapset::axes::per_map(header.grid) - d;
     if !grid::row_agrees(header.grid, left, latitude) {
         return false;
     }

@@ -39,7 +39,7 @@ enum Verdict {
 fn has(kind: Kind, marks: &[u8]) -> bool
     ensures { λ r. ⌜ r ≡ some-of kind (now (marks .entry)) ⌝ }
 {
-    0 < valid::need(kind, marks, 1)
+    0 < mapset::need(kind, marks, 1)
 }
 
 // Which kinds the joined set has: one that only the earlier set's last map had is not among them.

@@ -3,6 +3,10 @@ ghost use mathlib.Core.Bool.{cond};
 ghost use Prim.Native.Nat.{_<_, _^_};
 ghost use lib.IntN.{pos, negℤ, natAbs};
 ghost use lib.Signed.{ltZ};
+ghost use Rattle.kit.specs.Integer.{int?, between?};
+ghost use Rattle.kit.specs.Truth.{truth};
+
+pub mod wide;
 
 // Whether x is below 0.
 pub fn negative(x: i64) -> bool
@@ -25,4 +29,31 @@ pub fn with_sign(below: bool, m: u64) -> i64
     ensures { λ r. ⌜ r ≡ cond below (negℤ (pos m)) (pos m) ⌝ }
 {
     if below { 0 - (m as i64) } else { m as i64 }
+}
+
+// ---- Numbers as a text holds them
+
+pub fn less(x: i32, y: i32) -> bool
+    ensures { λ r. ⌜ r ≡ ltZ x y ⌝ }
+{
+    x < y
+}
+
+pub fn same(x: i32, y: i32) -> bool
+    ensures { λ r. ⌜ r ≡ truth (int? x y) ⌝ }
+{
+    x == y
+}
+
+// x without its sign.
+pub fn size(x: i32) -> u64
+    ensures { λ r. ⌜ r ≡ natAbs x ⌝ }
+{
+    magnitude(x as i64)
+}
+
+pub fn between(low: i32, high: i32, x: i32) -> bool
+    ensures { λ r. ⌜ r ≡ truth (between? low high x) ⌝ }
+{
+    wide::between(low as i64, high as i64, x as i64)
 }

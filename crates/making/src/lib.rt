@@ -6,12 +6,12 @@ ghost use Rattle.needs.specs.Needs.{first-short, fit};
 ghost use Rattle.making.specs.Making.{pairs, ReadAs, made, comes};
 use judging::Judged;
 use mapset::Header;
+use mapset::Size;
 use mapset::Texts;
 use needs::Room;
 use outcome::ReadOut;
 use outcome::Reading;
 use outcome::Reason;
-use stores::Size;
 
 // Each area holds what it needs; or the first that does not: positions, exponents, marks.
 fn room_for(size: Size, positions: usize, exponents: usize, marks: usize) -> Room

@@ -88,7 +88,7 @@ pub fn on_exponent(place: Place, past: Past, line: &[u8]) -> Move
     match maprecords::one_number(line) {
         One::Wrong(column) => Move::Stop(6, column),
         One::Number(e) => {
-            if !mapset::axes::between(-3, 0, e) {
+            if !kit::between(-3, 0, e) {
                 return Move::Stop(7, 1);
             }
             still(
@@ -167,7 +167,7 @@ fn start_other(kind: Kind, header: Header, past: Past, epochs: &[u64], line: &[u
             if (epochs.len() as u64) < i {
                 return Move::Stop(8, 1);
             }
-            let left = grid::per_map(header.grid);
+            let left = mapset::axes::per_map(header.grid);
             still(
                 Place::Inside(Open {
                     fresh: true,

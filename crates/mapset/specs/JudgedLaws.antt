@@ -17,7 +17,6 @@ use Rattle.kit.specs.Truth.{truth, holds, fails, tells, truth-same}
 use Rattle.mapset.specs.Grid.{Line, heights, latitudes, longitudes, Multiple, AxisRules, layers, rows, columns, nodes}
 use Rattle.mapset.specs.Judged.{Ends, ends?, toward?, judged}
 use Rattle.mapset.specs.Decisions.{end?, step?, together?, dimension?, limits?}
-use Rattle.kit.specs.Integer.{between?}
 use Rattle.mapset.specs.declared.Axis.{Axis}
 use Rattle.mapset.specs.declared.Grid.{Grid}
 use Rattle.mapset.specs.declared.axes.Judged.{Judged}
@@ -45,16 +44,6 @@ rules l a =
 -- ---- numbers
 pub none : (x : ℤ) → natAbs x ≡ 0 → x ≡ pos 0
 none x e = eq-parts x (pos 0) (omega (arith, abs-parts x))
-
-module _ (low high x : ℤ) where
-  pub under : ltZ x low ≡ true → false ≡ truth (between? low high x)
-  under e = fails (between? low high x) (λ b. omega (arith, lt-true x low e, parts-le low x (b .from)))
-
-  pub over : ltZ high x ≡ true → false ≡ truth (between? low high x)
-  over e = fails (between? low high x) (λ b. omega (arith, lt-true high x e, parts-le x high (b .to)))
-
-  pub inside : ltZ x low ≡ false → ltZ high x ≡ false → true ≡ truth (between? low high x)
-  inside e f = holds (between? low high x) (record { from = le-parts low x (omega (arith, lt-false x low e)); to = le-parts x high (omega (arith, lt-false high x f)) })
 
 pub zero-divides : (d x : ℕ) → d ≡ 0 → eqb x 0 ≡ truth (ℕ-discrete (x % d) 0)
 zero-divides d x e = rw (e, mod-zero x) (tells (eqb x 0) (ℕ-discrete x 0) (eqb-true x 0) (eqb-false x 0))

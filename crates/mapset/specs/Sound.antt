@@ -144,13 +144,6 @@ epochs? t es = ×-dec (starts? (t .first) es) (runs? (t .interval) (t .last) es)
 unfoldable pub marks? : (ms : List ℕ) → Dec (All (Within 0 3) ms)
 marks? ms = all-dec (within? 0 3) ms
 
--- no mark is m or 3
-abbrev pub Without : ℕ → List ℕ → Type 0
-Without m ms = All (λ k. ¬ ((k ≡ m) ⊎ (k ≡ 3))) ms
-
-unfoldable pub without? : (m : ℕ) (ms : List ℕ) → Dec (Without m ms)
-without? m ms = all-dec (λ k. ¬-dec (⊎-dec (ℕ-discrete k m) (ℕ-discrete k 3))) ms
-
 -- ---- lengths
 abbrev pub LengthsSay : Header → List ℕ → Lengths → Type 0
 LengthsSay h ms l =

@@ -22,7 +22,7 @@ use Rattle.mapset.specs.declared.Kind.the-variants as K
 use Rattle.mapset.specs.Areas.{Areas, present?, nowhere?, values, value-need, Follows, EpochRules, Sound}
 use Rattle.mapset.specs.Judged.{judged}
 use Rattle.mapset.specs.JudgedLaws.{fine, rules}
-use Rattle.mapset.specs.Sound.{Count, HeaderSays, StartsAt, EpochsSay, SoundSays, printable?, written?, axis?, runs?, starts?, without?, sound-says?}
+use Rattle.mapset.specs.Sound.{Count, HeaderSays, StartsAt, EpochsSay, SoundSays, printable?, written?, axis?, runs?, starts?, sound-says?}
 use Rattle.mapset.specs.declared.Axis.{Axis}
 use Rattle.mapset.specs.declared.Grid.{Grid}
 use Rattle.mapset.specs.declared.Header.{Header}
@@ -265,15 +265,6 @@ module _ (n : ℕ) (g : Grid) (l : Limits n g) where
 
   pub few-blocks : n * (layers g * rows g) ≤ 2000000
   few-blocks = omega (arith, few-values, mul-le-mul-left (n * (layers g * rows g)) (some-nodes (g .longitudes)))
-
--- a mark stands for the kind RMS at 1 or 3, for the kind height at 2 or 3
-pub rms-need : (h : Header) (ms : List ℕ) → pick (without? 1 ms) 0 (values h) ≡ value-need K.Rms h ms
-unfolding without? nowhere? present?
-rms-need h ms = refl
-
-pub height-need : (h : Header) (ms : List ℕ) → pick (without? 2 ms) 0 (values h) ≡ value-need K.Height h ms
-unfolding without? nowhere? present?
-height-need h ms = refl
 
 -- ---- a text whose length is its field's
 pub written : (w : ℕ) (t : List ℕ) {b : Bool} → length t ≡ w → b ≡ truth (all-dec (within? 32 126) t) → b ≡ truth (written? w t)

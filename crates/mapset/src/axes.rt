@@ -1,15 +1,13 @@
 // The three axes of a grid, judged as document 01 judges them, and the limits of the grid.
 ghost use mathlib.Core.Path.{_≡_};
-ghost use Prim.Native.Nat.{_%_};
+ghost use Prim.Native.Nat.{_*_, _%_, _<_, _≤_, _^_};
 ghost use native.Mathlib.Decide.{ℕ-discrete};
-ghost use lib.IntN.{natAbs, _-ℤ_};
-ghost use lib.Signed.{ltZ};
+ghost use lib.IntN.{pos, natAbs, _+ℤ_, _-ℤ_, _*ℤ_};
 ghost use Rattle.kit.specs.Truth.{truth};
-ghost use Rattle.mapset.specs.Grid.{heights, latitudes, longitudes};
+ghost use Rattle.mapset.specs.Grid.{heights, latitudes, longitudes, layers, rows};
 ghost use Rattle.mapset.specs.Grid as G;
 ghost use Rattle.mapset.specs.Decisions.{end?, step?, together?, dimension?, limits?};
 ghost use Rattle.mapset.specs.Judged.{line, ends?, toward?, judged};
-ghost use Rattle.kit.specs.Integer.{between?};
 use super::Axis;
 use super::Grid;
 
@@ -28,35 +26,10 @@ pub enum Judged {
     Fine,
 }
 
-pub fn less(x: i32, y: i32) -> bool
-    ensures { λ r. ⌜ r ≡ ltZ x y ⌝ }
-{
-    x < y
-}
-
-// x without its sign.
-pub fn size(x: i32) -> u64
-    ensures { λ r. ⌜ r ≡ natAbs x ⌝ }
-{
-    kit::magnitude(x as i64)
-}
-
 fn distance(x: i32, y: i32) -> u64
     ensures { λ r. ⌜ r ≡ natAbs (y -ℤ x) ⌝ }
 {
     kit::magnitude((y as i64) - (x as i64))
-}
-
-pub fn between(low: i32, high: i32, x: i32) -> bool
-    ensures { λ r. ⌜ r ≡ truth (between? low high x) ⌝ }
-{
-    if less(x, low) {
-        return false;
-    }
-    if less(high, x) {
-        return false;
-    }
-    true
 }
 
 // Whether d divides x; 0 divides 0 alone.
@@ -73,9 +46,9 @@ fn end_fits(which: Line, x: i32) -> bool
     ensures { λ r. ⌜ r ≡ truth (end? (line which) x) ⌝ }
 {
     match which {
-        Line::Heights => between(0, 99999, x),
-        Line::Latitudes => between(-900, 900, x),
-        Line::Longitudes => between(-1800, 3600, x),
+        Line::Heights => kit::between(0, 99999, x),
+        Line::Latitudes => kit::between(-900, 900, x),
+        Line::Longitudes => kit::between(-1800, 3600, x),
     }
 }
 
@@ -83,7 +56,7 @@ fn end_fits(which: Line, x: i32) -> bool
 fn latitude_step_fits(d: i32) -> bool
     ensures { λ r. ⌜ r ≡ truth (step? latitudes d) ⌝ }
 {
-    let e = size(d);
+    let e = kit::size(d);
     if e == 0 {
         return false;
     }
@@ -94,18 +67,18 @@ fn step_fits(which: Line, d: i32) -> bool
     ensures { λ r. ⌜ r ≡ truth (step? (line which) d) ⌝ }
 {
     match which {
-        Line::Heights => between(0, 99999, d),
+        Line::Heights => kit::between(0, 99999, d),
         Line::Latitudes => latitude_step_fits(d),
-        Line::Longitudes => between(1, 150, d),
+        Line::Longitudes => kit::between(1, 150, d),
     }
 }
 
 fn ends_divide(a: Axis) -> bool
     ensures { λ r. ⌜ r ≡ truth (ends? a) ⌝ }
 {
-    let d = size(a.step);
-    if divides(d, size(a.first)) {
-        return divides(d, size(a.last));
+    let d = kit::size(a.step);
+    if divides(d, kit::size(a.first)) {
+        return divides(d, kit::size(a.last));
     }
     false
 }
@@ -114,11 +87,11 @@ fn ends_divide(a: Axis) -> bool
 fn toward(a: Axis) -> bool
     ensures { λ r. ⌜ r ≡ truth (toward? a) ⌝ }
 {
-    if less(0, a.step) {
-        return !less(a.last, a.first);
+    if kit::less(0, a.step) {
+        return !kit::less(a.last, a.first);
     }
-    if less(a.step, 0) {
-        return !less(a.first, a.last);
+    if kit::less(a.step, 0) {
+        return !kit::less(a.first, a.last);
     }
     false
 }
@@ -127,12 +100,12 @@ fn toward(a: Axis) -> bool
 fn heights_agree(a: Axis) -> bool
     ensures { λ r. ⌜ r ≡ truth (together? heights a) ⌝ }
 {
-    let d = size(a.step);
+    let d = kit::size(a.step);
     let span = distance(a.first, a.last);
     if d == 0 {
         return span == 0;
     }
-    if less(a.first, a.last) {
+    if kit::less(a.first, a.last) {
         return divides(d, span);
     }
     false
@@ -150,7 +123,7 @@ fn latitudes_agree(a: Axis) -> bool
 fn longitudes_agree(a: Axis) -> bool
     ensures { λ r. ⌜ r ≡ truth (together? longitudes a) ⌝ }
 {
-    if less(a.last, a.first) {
+    if kit::less(a.last, a.first) {
         return false;
     }
     if 3600 < distance(a.first, a.last) {
@@ -191,7 +164,7 @@ pub fn judge(which: Line, a: Axis) -> Judged
 pub fn nodes(a: Axis) -> u64
     ensures { λ r. ⌜ r ≡ G.nodes a ⌝ }
 {
-    let d = size(a.step);
+    let d = kit::size(a.step);
     if d == 0 {
         return 1;
     }
@@ -202,10 +175,26 @@ pub fn nodes(a: Axis) -> u64
 pub fn dimension_agrees(dimension: u32, a: Axis) -> bool
     ensures { λ r. ⌜ r ≡ truth (dimension? dimension a) ⌝ }
 {
-    if size(a.step) == 0 {
+    if kit::size(a.step) == 0 {
         return dimension == 2;
     }
     dimension == 3
+}
+
+// The node of an axis after i others.
+pub fn node(a: Axis, i: u64) -> i64
+    requires { ⌜ i < 2 ^ 31 ⌝ }
+    ensures { λ r. ⌜ r ≡ a .first +ℤ pos i *ℤ a .step ⌝ }
+{
+    (a.first as i64) + (i as i64) * (a.step as i64)
+}
+
+// How many blocks a map has.
+pub fn per_map(grid: Grid) -> u64
+    requires { ⌜ (layers grid ≤ 64) × (rows grid ≤ 361) ⌝ }
+    ensures { λ r. ⌜ r ≡ layers grid * rows grid ⌝ }
+{
+    nodes(grid.heights) * nodes(grid.latitudes)
 }
 
 // At most 361 rows, 721 columns, 64 layers, and 2,000,000 nodes in all maps.

@@ -1,8 +1,10 @@
 // The map set's header record, as document 01 lists it: each field looked at, and which starred records stand.
 // The field of a starred record that does not stand holds 0.
 ghost use mathlib.Core.Path.{_≡_};
+ghost use Rattle.kit.specs.Answer.{pick};
 ghost use Rattle.kit.specs.Truth.{truth};
-ghost use Rattle.mapset.specs.Decisions.{takes-code?};
+ghost use Rattle.mapset.specs.Areas.{present?, nowhere?};
+ghost use Rattle.mapset.specs.Decisions.{takes-code?, follows?};
 
 pub mod axes;
 
@@ -98,10 +100,69 @@ pub struct Texts {
     pub observables: [u8; 60],
 }
 
+// How large the map set is: n, L·R and C.
+pub struct Size {
+    pub maps: usize,
+    pub blocks: usize,
+    pub columns: usize,
+}
+
 // The lengths of the areas that hold a number for each node or block.
 pub struct Lengths {
     pub tec: usize,
     pub rms: usize,
     pub height: usize,
     pub exponents: usize,
+}
+
+// Whether a map's mark says that the kind's map is there.
+pub fn present(kind: Kind, mark: u8) -> bool
+    ensures { λ r. ⌜ r ≡ truth (present? kind mark) ⌝ }
+{
+    match kind {
+        Kind::Tec => true,
+        Kind::Rms => (mark == 1) | (mark == 3),
+        Kind::Height => (mark == 2) | (mark == 3),
+    }
+}
+
+// Whether no map of the kind is there.
+fn nowhere(kind: Kind, marks: &[u8]) -> bool
+    ensures { λ r. ⌜ r ≡ truth (nowhere? kind (now (marks .entry))) ⌝ }
+{
+    let mut i: usize = 0;
+    while i < marks.len() {
+        if present(kind, marks[i]) {
+            return false;
+        }
+        i += 1;
+    }
+    true
+}
+
+// The values that a kind needs: none where no map is marked with it.
+pub fn need(kind: Kind, marks: &[u8], values: usize) -> usize
+    ensures { λ r. ⌜ r ≡ pick (nowhere? kind (now (marks .entry))) 0 values ⌝ }
+{
+    if nowhere(kind, marks) {
+        return 0;
+    }
+    values
+}
+
+// Later than the one before by 1 to 21,600 s, and by exactly INTERVAL unless that is 0.
+pub fn follows(interval: u32, before: u64, epoch: u64) -> bool
+    ensures { λ r. ⌜ r ≡ truth (follows? interval before epoch) ⌝ }
+{
+    if epoch <= before {
+        return false;
+    }
+    let gap = epoch - before;
+    if 21600 < gap {
+        return false;
+    }
+    if interval == 0 {
+        return true;
+    }
+    gap == (interval as u64)
 }

@@ -46,7 +46,7 @@ fn epoch_tec(header: Header, past: Past, epochs: &[u64], line: &[u8]) -> Move
             if !times::in_time(header, epochs, t) {
                 return Move::Stop(8, 1);
             }
-            let left = grid::per_map(header.grid);
+            let left = mapset::axes::per_map(header.grid);
             Move::Go(Next {
                 to: Place::Inside(Open {
                     fresh: false,
@@ -109,7 +109,7 @@ fn epoch_other(this: Open, past: Past, epochs: &[u64], line: &[u8]) -> Move
     }
 }
 
-pub fn on_epoch(header: Header, place: Place, past: Past, epochs: &[u64], line: &[u8]) -> Move
+fn on_epoch(header: Header, place: Place, past: Past, epochs: &[u64], line: &[u8]) -> Move
     requires { ⌜ (length (now line) ≤ 80) × Limits (header .times .maps) (header .grid) ⌝ }
     ensures { λ r. ⌜ r ≡ moved (now (epochs .entry)) (M.on-epoch header place (force-of past (now (epochs .entry))) (pad (now (line .entry)))) ⌝ }
 {
@@ -182,7 +182,7 @@ fn open_block(header: Header, this: Open, past: Past, line: &[u8]) -> Move
     }
 }
 
-pub fn on_block(header: Header, place: Place, past: Past, line: &[u8]) -> Move
+fn on_block(header: Header, place: Place, past: Past, line: &[u8]) -> Move
     requires { ⌜ (length (now line) ≤ 80) × Limits (header .times .maps) (header .grid) ⌝ }
     ensures { λ r. ⌜ Always r (λ h es. M.on-block header place (force-of past es) (pad (now (line .entry)))) ⌝ }
 {
@@ -211,7 +211,7 @@ fn end_file(header: Header, past: Past, epochs: &[u64], line: &[u8]) -> Move
     }
 }
 
-pub fn on_file(header: Header, place: Place, past: Past, epochs: &[u64], line: &[u8]) -> Move
+fn on_file(header: Header, place: Place, past: Past, epochs: &[u64], line: &[u8]) -> Move
     requires { ⌜ length (now line) ≤ 80 ⌝ }
     ensures { λ r. ⌜ r ≡ moved (now (epochs .entry)) (M.on-file header place (force-of past (now (epochs .entry))) (pad (now (line .entry)))) ⌝ }
 {
@@ -234,17 +234,17 @@ fn role_of(line: &[u8]) -> Role
         return Role::Unknown;
     }
     match label {
-        3 => Role::Comment,
-        19 => Role::Exponent,
-        23 => Role::Start(Kind::Tec),
-        24 => Role::End(Kind::Tec),
-        25 => Role::Start(Kind::Rms),
-        26 => Role::End(Kind::Rms),
-        27 => Role::Start(Kind::Height),
-        28 => Role::End(Kind::Height),
-        29 => Role::Epoch,
-        30 => Role::Block,
-        31 => Role::File,
+        labels::COMMENT => Role::Comment,
+        labels::EXPONENT => Role::Exponent,
+        labels::TEC_START => Role::Start(Kind::Tec),
+        labels::TEC_END => Role::End(Kind::Tec),
+        labels::RMS_START => Role::Start(Kind::Rms),
+        labels::RMS_END => Role::End(Kind::Rms),
+        labels::HEIGHT_START => Role::Start(Kind::Height),
+        labels::HEIGHT_END => Role::End(Kind::Height),
+        labels::EPOCH => Role::Epoch,
+        labels::BLOCK => Role::Block,
+        labels::FILE_END => Role::File,
         _ => Role::Misplaced,
     }
 }

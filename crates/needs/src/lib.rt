@@ -6,8 +6,8 @@ ghost use Rattle.mapset.specs.Grid.{Limits, columns};
 ghost use Rattle.layout.specs.Layout.{per-map};
 ghost use Rattle.needs.specs.Needs.{first-short, pairs, fit, needs-of};
 use mapset::Header;
+use mapset::Size;
 use mapset::axes;
-use stores::Size;
 
 // Elements of the six areas: needed, or lent.
 pub struct Elements {

@@ -133,6 +133,15 @@ fn put_starred(out: &mut [i64], h: Header)
     put_system(out, 41, h.systems.s);
 }
 
+// Two counts, as a place or an area and its need.
+pub fn put_pair(out: &mut [u64], first: u64, second: u64)
+    requires { ⌜ 2 ≤ length (now out) ⌝ }
+    ensures { λ _. ⌜ now (out .exit) ≡ front (first ∷ second ∷ []) (now (out .entry)) ⌝ }
+{
+    out[0] = first;
+    out[1] = second;
+}
+
 pub fn put_header(out: &mut [i64], h: Header)
     requires { ⌜ (44 ≤ length (now out)) × (h .times .first < 9223372036854775808) × (h .times .last < 9223372036854775808) ⌝ }
     ensures { λ _. ⌜ now (out .exit) ≡ front (numbers h) (now (out .entry)) ⌝ }

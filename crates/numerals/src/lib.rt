@@ -3,7 +3,6 @@ ghost use mathlib.Core.Path.{_≡_};
 ghost use mathlib.Core.List.{_++_};
 ghost use Prim.Native.Nat.{_+_, _<_, _≤_};
 ghost use lib.ListN.{length, take, drop};
-ghost use lib.IntN.{natAbs};
 ghost use Rattle.forms.specs.Form.{I, W1, sign};
 ghost use Rattle.forms.specs.Show.{isMinus, digits, aligned, showField};
 ghost use Rattle.forms.specs.Bytes.{leftByte};
@@ -12,12 +11,6 @@ fn is_minus(z: i32) -> bool
     ensures { λ r. ⌜ r ≡ isMinus z ⌝ }
 {
     z < 0
-}
-
-fn size_of(z: i32) -> u64
-    ensures { λ r. ⌜ r ≡ natAbs z ⌝ }
-{
-    kit::magnitude(z as i64)
 }
 
 fn left_byte(n: u64, minus: bool) -> u8
@@ -47,20 +40,20 @@ fn write_whole(out: &mut [u8], minus: bool, n: u64)
 }
 
 // The form In.
-pub fn write_int(out: &mut [u8], z: i32)
+fn write_int(out: &mut [u8], z: i32)
     requires { ⌜ 0 < length (now out) ⌝ }
     ensures { λ _. ⌜ now (out .exit) ≡ showField I (length (now (out .entry))) z ⌝ }
 {
-    write_whole(out, is_minus(z), size_of(z));
+    write_whole(out, is_minus(z), kit::size(z));
 }
 
 // The form Fn.1, of tenths.
-pub fn write_tenths(out: &mut [u8], z: i32)
+fn write_tenths(out: &mut [u8], z: i32)
     requires { ⌜ 2 < length (now out) ⌝ }
     ensures { λ _. ⌜ now (out .exit) ≡ showField W1 (length (now (out .entry))) z ⌝ }
 {
     let k = out.len() - 2;
-    let n = size_of(z);
+    let n = kit::size(z);
     write_whole(&mut out[..k], is_minus(z), n / 10);
     out[k] = b'.';
     out[k + 1] = 48 + (n % 10) as u8;

@@ -101,7 +101,7 @@ pub fn put_slot(
     requires { ⌜ ReadySlot header at kind number epoch mark in_force (now es) (now vs) from end ⌝ }
     ensures { λ r. ⌜ PutTo (now (out .entry)) at (slot-map kind header number epoch mark in_force (slot-blocks header (now (es .entry)) (now (vs .entry)) from)) (slot-force kind mark in_force (slot-blocks header (now (es .entry)) (now (vs .entry)) from)) (now (out .exit)) r ⌝ }
 {
-    if !valid::present(kind, mark) {
+    if !mapset::present(kind, mark) {
         return Reached {
             at: at,
             exponent: in_force,

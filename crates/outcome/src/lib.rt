@@ -63,13 +63,7 @@ pub fn refused(reason: Reason) -> ReadOut
 {
     ReadOut {
         answer: Reading::Refused(reason),
-        texts: Texts {
-            program: [b' '; 20],
-            agency: [b' '; 20],
-            date: [b' '; 20],
-            mapping: [b' '; 4],
-            observables: [b' '; 60],
-        },
+        texts: head::opening::blanks(),
     }
 }
 

@@ -8,7 +8,6 @@ ghost use Rattle.areas.specs.Stores.{before, first-of};
 ghost use Rattle.nodes.specs.Value.{kind-of};
 ghost use Rattle.index.specs.Index.{entries, index, node, Fit};
 ghost use Rattle.pointed.specs.Told.{Decides, InGrid, Inside as InText, Numbers, Finds, told-part, Bounded, HandsBack};
-use agreement::grid;
 use indexed::Hit;
 use mapset::Header;
 use mapset::Texts;
@@ -43,7 +42,7 @@ fn fits(header: Header, texts: Texts, positions: &[u64], exponents: &[i32], mark
         return false;
     }
     let maps = header.times.maps as usize;
-    let all = 3 * (maps * (grid::per_map(header.grid) as usize));
+    let all = 3 * (maps * (axes::per_map(header.grid) as usize));
     if positions.len() < all {
         return false;
     }
@@ -88,7 +87,7 @@ fn entry_of(header: Header, kind: u64, map: u64, d: u64) -> usize
     requires { ⌜ Limits (header .times .maps) (header .grid) × ((kind < 3) × ((1 ≤ map) × (before (per-map header) map d < blocks header))) ⌝ }
     ensures { λ r. ⌜ r ≡ first-of (kind-of kind) (blocks header) + before (per-map header) map d ⌝ }
 {
-    let size = grid::per_map(header.grid);
+    let size = axes::per_map(header.grid);
     let all = (header.times.maps as u64) * size;
     let place = (map - 1) * size + d;
     if kind == 0 {
@@ -105,7 +104,7 @@ fn number_at(text: &[u8], header: Header, at: usize, e: i32, d: u64, column: usi
     requires { ⌜ Limits (header .times .maps) (header .grid) × ((d < per-map header) × (column < columns (header .grid))) ⌝ }
     ensures { λ r. ⌜ Numbers header d (now (text .entry)) at e column r ⌝ }
 {
-    if !axes::between(-3, 0, e) {
+    if !kit::between(-3, 0, e) {
         return Reply::Refused(Why::Astray);
     }
     match indexed::block_from(text, header, at, d, column) {
@@ -154,7 +153,7 @@ pub fn find_node(
 }
 
 // Start and end of the lines that are handed back; 0 and 0 where there are none.
-pub fn bounds_of(text: &[u8], reply: Reply) -> Bounds
+fn bounds_of(text: &[u8], reply: Reply) -> Bounds
     requires { ⌜ InText (now text) reply ⌝ }
     ensures { λ r. ⌜ Bounded (now (text .entry)) (told-part (now (text .entry)) reply) r ⌝ }
 {

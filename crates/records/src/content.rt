@@ -113,10 +113,10 @@ pub fn system_record(line: &[u8]) -> Two
 pub fn natural(z: i32, low: u32, high: u32) -> bool
     ensures { λ r. ⌜ r ≡ truth (natural? low high z) ⌝ }
 {
-    if mapset::axes::less(z, 0) {
+    if kit::less(z, 0) {
         return false;
     }
-    let n = mapset::axes::size(z);
+    let n = kit::size(z);
     if n < low as u64 {
         return false;
     }
@@ -127,7 +127,7 @@ pub fn natural(z: i32, low: u32, high: u32) -> bool
 pub fn unsigned(z: i32) -> u32
     ensures { λ r. ⌜ r ≡ natAbs z ⌝ }
 {
-    mapset::axes::size(z) as u32
+    kit::size(z) as u32
 }
 
 fn of_numbers(number: u32, satellites: u32) -> Value

@@ -5,27 +5,16 @@ use mathlib.Core.Bool.{true, false}
 use mathlib.Core.List.{List, [], _∷_}
 use Prim.Native.Nat.{ℕ, zero, suc, _+_, _-_, _≤_, _<_}
 use native.Mathlib.Omega.{arith}
-use native.Mathlib.Decide.{ℕ-discrete, decLe}
-use lib.Dec.{eqb}
+use native.Mathlib.Decide.{decLe}
 use lib.IntN.{ℤ}
 use lib.ListN.{length, take, drop, length-drop}
 use lib.Seq.{drop-drop, take-all}
-use mir.Syntax.{Width}
-use mir.Val.{SFits, ofZ}
-use mir.Facts.{toZ-ofZ}
 use Rattle.kit.specs.Answer.{pick, pick-yes, pick-no}
 use Rattle.kit.specs.Integer.{int?}
-use Rattle.kit.specs.Parts.{from-bits}
-use Rattle.kit.specs.Truth.{truth, truth-true, truth-false, truth-same, eq-tells}
+use Rattle.kit.specs.Truth.{truth, truth-true, truth-false}
 use Rattle.layout.specs.Names.{names}
 use Rattle.writer.specs.Canon.{row-of, value-row, value-rows, exponent-rows}
 use Rattle.rowtext.specs.Rows.{row-at, whole}
-
--- equal bits, equal numbers
-pub same-bits : (w : Width) (x y : ℤ) → SFits w x → SFits w y → eqb (ofZ w x) (ofZ w y) ≡ truth (int? x y)
-same-bits w x y f g =
-    eq-tells (ofZ w x) (ofZ w y)
-    ∙ truth-same (ℕ-discrete (ofZ w x) (ofZ w y)) (int? x y) (λ e. from-bits w x (ofZ w y) f e ∙ toZ-ofZ g) (λ e. ap (ofZ w) e)
 
 pub exponent-none : (k e : ℤ) → truth (int? k e) ≡ true → exponent-rows k e ≡ []
 exponent-none k e t = pick-yes (int? k e) [] _ (truth-true (int? k e) t)

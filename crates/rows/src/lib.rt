@@ -4,11 +4,10 @@ ghost use mathlib.Core.List.{[], _∷_, _++_};
 ghost use Prim.Native.Nat.{_<_, _≤_, _^_};
 ghost use lib.ListN.{length, take};
 ghost use lib.IntN.{pos};
-ghost use Rattle.kit.specs.Integer.{int?};
-ghost use Rattle.kit.specs.Truth.{truth};
 ghost use Rattle.layout.specs.Labels.{epoch, block, file-end, start, end};
 ghost use Rattle.writer.specs.Canon.{row-of, date-of, six, trimmed, value-rows, exponent-rows};
 ghost use Rattle.rowtext.specs.Rows.{row-at, whole, six-whole, opening-of, Placed};
+ghost use Rattle.rows.specs.Bounds.{start-place};
 ghost use Rattle.rows.specs.Put.{Room, Put};
 use mapset::Grid;
 use mapset::Kind;
@@ -45,12 +44,6 @@ pub fn put_line(out: &mut [u8], at: usize, row: &[u8]) -> usize
 }
 
 // ---- A block
-
-fn same(x: i32, y: i32) -> bool
-    ensures { λ r. ⌜ r ≡ truth (int? x y) ⌝ }
-{
-    x == y
-}
 
 // 16 values to a line, the last line holding the rest.
 fn put_values(out: &mut [u8], at: usize, values: &[i32]) -> usize
@@ -94,10 +87,10 @@ fn put_exponent(out: &mut [u8], at: usize, in_force: i32, exponent: i32) -> usiz
     requires { ⌜ Room at (exponent-rows in_force exponent) ⌝ }
     ensures { λ r. ⌜ Put (now (out .entry)) at (exponent-rows in_force exponent) (now (out .exit)) r ⌝ }
 {
-    if same(in_force, exponent) {
+    if kit::same(in_force, exponent) {
         return at;
     }
-    put_number(out, at, 19, exponent)
+    put_number(out, at, labels::EXPONENT, exponent)
 }
 
 // The block after d others of its map.
@@ -119,28 +112,31 @@ pub fn put_block(
     put_values(out, second, values)
 }
 
+// The place of START of a kind's map in LABELS; that of END comes right behind it.
+fn start_label(kind: Kind) -> usize
+    ensures { λ r. ⌜ r ≡ start-place kind ⌝ }
+{
+    match kind {
+        Kind::Tec => labels::TEC_START,
+        Kind::Rms => labels::RMS_START,
+        Kind::Height => labels::HEIGHT_START,
+    }
+}
+
 pub fn put_start(out: &mut [u8], at: usize, kind: Kind, number: u64) -> usize
     requires { ⌜ (number < 2 ^ 31) × Room at (row-of (start kind) (pos number, tt) ∷ []) ⌝ }
     ensures { λ r. ⌜ Put (now (out .entry)) at (row-of (start kind) (pos number, tt) ∷ []) (now (out .exit)) r ⌝ }
 {
-    let z = rowtext::signed(number);
-    match kind {
-        Kind::Tec => put_number(out, at, 23, z),
-        Kind::Rms => put_number(out, at, 25, z),
-        Kind::Height => put_number(out, at, 27, z),
-    }
+    let k = start_label(kind);
+    put_number(out, at, k, rowtext::signed(number))
 }
 
 pub fn put_end(out: &mut [u8], at: usize, kind: Kind, number: u64) -> usize
     requires { ⌜ (number < 2 ^ 31) × Room at (row-of (end kind) (pos number, tt) ∷ []) ⌝ }
     ensures { λ r. ⌜ Put (now (out .entry)) at (row-of (end kind) (pos number, tt) ∷ []) (now (out .exit)) r ⌝ }
 {
-    let z = rowtext::signed(number);
-    match kind {
-        Kind::Tec => put_number(out, at, 24, z),
-        Kind::Rms => put_number(out, at, 26, z),
-        Kind::Height => put_number(out, at, 28, z),
-    }
+    let k = start_label(kind) + 1;
+    put_number(out, at, k, rowtext::signed(number))
 }
 
 // EPOCH OF CURRENT MAP.
@@ -148,13 +144,13 @@ pub fn put_epoch(out: &mut [u8], at: usize, second: u64) -> usize
     requires { ⌜ Room at (row-of epoch (six (date-of second)) ∷ []) ⌝ }
     ensures { λ r. ⌜ Put (now (out .entry)) at (row-of epoch (six (date-of second)) ∷ []) (now (out .exit)) r ⌝ }
 {
-    put_dated(out, at, 29, second)
+    put_dated(out, at, labels::EPOCH, second)
 }
 
 pub fn put_file_end(out: &mut [u8], at: usize) -> usize
     requires { ⌜ Room at (row-of file-end tt ∷ []) ⌝ }
     ensures { λ r. ⌜ Put (now (out .entry)) at (row-of file-end tt ∷ []) (now (out .exit)) r ⌝ }
 {
-    let row = rowtext::blank_row(31);
+    let row = rowtext::blank_row(labels::FILE_END);
     put_line(out, at, &row)
 }

@@ -1,10 +1,9 @@
 -- Numbers that are written: a node, a date.
 use mathlib.Core.Path.{_≡_, refl}
-use Prim.Native.Nat.{ℕ, _-_, _*_, _≤_, _<_, _^_}
-use native.Mathlib.Nat.{mul-le-mul, le-of-lt}
+use Prim.Native.Nat.{ℕ, _-_, _<_, _^_}
 use native.Mathlib.Decide.{decLt}
 use native.Mathlib.Omega.{arith}
-use lib.IntN.{ℤ, pos, negsuc, natAbs}
+use lib.IntN.{ℤ, pos, negsuc}
 use mir.Syntax.{w32}
 use mir.Val.{SFits}
 use Rattle.kit.specs.Parts.{parts-le}
@@ -20,9 +19,6 @@ use Rattle.writer.specs.HeadRows.{date-is}
 use Rattle.writer.specs.RoomLaws.{Wide}
 
 -- ---- a node
-
-pub scaled-small : (i : ℕ) (v : ℤ) → i < 2 ^ 31 → natAbs v ≤ 2 ^ 31 → i * natAbs v ≤ 2 ^ 62
-scaled-small i v h k = let m : i * natAbs v ≤ 2 ^ 31 * 2 ^ 31 = mul-le-mul (le-of-lt h) k in omega arith
 
 pub wide-fits : (z : ℤ) → Wide z → SFits w32 z
 wide-fits (pos n) w = record { sfits = omega (arith, parts-le (pos n) (pos 99999) (w .to)) }

@@ -123,7 +123,7 @@ fn node(a: Axis, i: u64) -> i32
     requires { ⌜ (i < 2 ^ 31) × Wide (L.node a i) ⌝ }
     ensures { λ r. ⌜ r ≡ L.node a i ⌝ }
 {
-    ((a.first as i64) + (i as i64) * (a.step as i64)) as i32
+    mapset::axes::node(a, i) as i32
 }
 
 // The opening of the block after d others of its map.
@@ -134,7 +134,12 @@ pub fn opening_row(grid: Grid, d: u64) -> [u8; 80]
     let rows = mapset::axes::nodes(grid.latitudes);
     let latitude = node(grid.latitudes, d % rows);
     let height = node(grid.heights, d / rows);
-    let mut row = three_row(30, latitude, grid.longitudes.first, grid.longitudes.last);
+    let mut row = three_row(
+        labels::BLOCK,
+        latitude,
+        grid.longitudes.first,
+        grid.longitudes.last,
+    );
     numerals::put_tenths(&mut row, 20, 6, grid.longitudes.step);
     numerals::put_tenths(&mut row, 26, 6, height);
     row

@@ -25,7 +25,7 @@ fn blocks_tally(kind: u64, columns: usize, values: &[i32], exponents: &[i32]) ->
 }
 
 // The figures of a map with a mark.
-pub fn map_tally(
+fn map_tally(
     kind: u64,
     map: usize,
     blocks: usize,

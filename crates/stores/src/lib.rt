@@ -5,13 +5,7 @@ ghost use lib.ListN.{length, set, getD, replicate};
 ghost use lib.IntN.{pos, negsuc};
 ghost use Rattle.areas.specs.Stores.{first-of, before, with-mark, fill};
 use mapset::Kind;
-
-// How large the map set is: n, L·R and C.
-pub struct Size {
-    pub maps: usize,
-    pub blocks: usize,
-    pub columns: usize,
-}
+use mapset::Size;
 
 fn less_one(i: usize) -> usize
     ensures { λ r. ⌜ r ≡ i - 1 ⌝ }

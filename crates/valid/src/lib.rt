@@ -11,7 +11,6 @@ ghost use Rattle.mapset.specs.Areas.{present?, nowhere?, six};
 ghost use Rattle.areas.specs.ValidDecided.{blank?};
 ghost use Rattle.valid.specs.Groups.{kind?, kind-need, Holds, rest?, Long, validity};
 ghost use Rattle.valid.specs.Groups as groups;
-use mapset::Grid;
 use mapset::Header;
 use mapset::Kind;
 use mapset::Texts;
@@ -23,7 +22,7 @@ fn all_between(low: i32, high: i32, values: &[i32]) -> bool
 {
     let mut i: usize = 0;
     while i < values.len() {
-        if !axes::between(low, high, values[i]) {
+        if !kit::between(low, high, values[i]) {
             return false;
         }
         i += 1;
@@ -36,41 +35,6 @@ fn all_same(v: i32, values: &[i32]) -> bool
     ensures { λ r. ⌜ r ≡ truth (all-dec (λ x. int? x v) (now (values .entry))) ⌝ }
 {
     all_between(v, v, values)
-}
-
-// Whether a map's mark says that the kind's map is there.
-pub fn present(kind: Kind, mark: u8) -> bool
-    ensures { λ r. ⌜ r ≡ truth (present? kind mark) ⌝ }
-{
-    match kind {
-        Kind::Tec => true,
-        Kind::Rms => (mark == 1) | (mark == 3),
-        Kind::Height => (mark == 2) | (mark == 3),
-    }
-}
-
-// Whether no map of the kind is there.
-fn nowhere(kind: Kind, marks: &[u8]) -> bool
-    ensures { λ r. ⌜ r ≡ truth (nowhere? kind (now (marks .entry))) ⌝ }
-{
-    let mut i: usize = 0;
-    while i < marks.len() {
-        if present(kind, marks[i]) {
-            return false;
-        }
-        i += 1;
-    }
-    true
-}
-
-// The values that a kind needs: none where no map is marked with it.
-pub fn need(kind: Kind, marks: &[u8], values: usize) -> usize
-    ensures { λ r. ⌜ r ≡ pick (nowhere? kind (now (marks .entry))) 0 values ⌝ }
-{
-    if nowhere(kind, marks) {
-        return 0;
-    }
-    values
 }
 
 // The smaller of two numbers.
@@ -87,7 +51,7 @@ fn least(a: usize, b: usize) -> usize
 fn there_or(kind: Kind, mark: u8, v: i32, values: &[i32]) -> bool
     ensures { λ r. ⌜ r ≡ truth (⊎-dec (present? kind mark) (all-dec (λ x. int? x v) (now (values .entry)))) ⌝ }
 {
-    if present(kind, mark) {
+    if mapset::present(kind, mark) {
         return true;
     }
     all_same(v, values)
@@ -125,19 +89,11 @@ fn kind_fits(
     ensures { λ r. ⌜ r ≡ truth (kind? kind blocks columns (now (marks .entry)) (take (kind-need kind blocks columns (now (marks .entry))) (now (values .entry))) (take (length (now (marks .entry)) * blocks) (drop first (now (exponents .entry))))) ⌝ }
 {
     let all = marks.len() * blocks;
-    let needed = need(kind, marks, all * columns);
+    let needed = mapset::need(kind, marks, all * columns);
     let end = first + all;
     all_between(-9999, 99999, &values[..needed])
         & (blank(kind, blocks * columns, 9999, marks, &values[..needed])
             & blank(kind, blocks, -1, marks, &exponents[first..end]))
-}
-
-// The blocks of a map.
-pub fn per_map(grid: Grid) -> usize
-    requires { ⌜ (layers grid ≤ 64) × (rows grid ≤ 361) ⌝ }
-    ensures { λ r. ⌜ r ≡ layers grid * rows grid ⌝ }
-{
-    (axes::nodes(grid.heights) * axes::nodes(grid.latitudes)) as usize
 }
 
 // The exponents from -3 to 0, and what is asked of each kind.
@@ -153,7 +109,7 @@ fn rest_fits(
     ensures { λ r. ⌜ r ≡ truth (rest? header (six (now (tec .entry)) (now (rms .entry)) (now (height .entry)) (now (exponents .entry)) [] (now (marks .entry)))) ⌝ }
 {
     let maps = header.times.maps as usize;
-    let blocks = per_map(header.grid);
+    let blocks = axes::per_map(header.grid) as usize;
     let columns = axes::nodes(header.grid.longitudes) as usize;
     let all = maps * blocks;
     let needed = 3 * all;

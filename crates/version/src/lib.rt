@@ -77,7 +77,7 @@ pub fn version_of(line: &[u8]) -> Versioned
     requires { ⌜ length (now line) ≤ 80 ⌝ }
     ensures { λ r. ⌜ toldVersioned r ≡ version-of (pad (now (line .entry))) ⌝ }
 {
-    if labels::label_of(line) != 0 {
+    if labels::label_of(line) != labels::VERSION {
         return Versioned::Refused(3, 61);
     }
     match content::version_record(line) {

@@ -122,7 +122,7 @@ fn kind_into(
         × (now (rows .exit) ≡ stored kind header (now (values .entry)) (now (exponents .entry)) (now (marks .entry)) (now (rows .entry))) ⌝ }
 {
     let maps = header.times.maps as usize;
-    let blocks = valid::per_map(header.grid);
+    let blocks = mapset::axes::per_map(header.grid) as usize;
     let columns = axes::nodes(header.grid.longitudes) as usize;
     let first = (kind as usize) * (maps * blocks);
     let at = (kind as usize) * (5 * (maps + 1));

@@ -2,9 +2,6 @@
 ghost use mathlib.Core.Path.{_≡_};
 ghost use Prim.Native.Nat.{_+_, _≤_};
 ghost use lib.ListN.{length};
-ghost use lib.Signed.{ltZ};
-ghost use Rattle.kit.specs.Truth.{truth};
-ghost use Rattle.kit.specs.Integer.{between?};
 ghost use Rattle.kit.specs.Lists.{front};
 ghost use Rattle.week.specs.Sane.{SmallWeek, SmallAnswer};
 ghost use Rattle.weekcrossing.specs.WeekNumbers.{week-numbers, range-of, tally-at, week-at};
@@ -20,29 +17,11 @@ use week::Why;
 
 // ---- The week that numbers stand for
 
-fn less(x: i64, y: i64) -> bool
-    ensures { λ r. ⌜ r ≡ ltZ x y ⌝ }
-{
-    x < y
-}
-
-fn between(low: i64, high: i64, x: i64) -> bool
-    ensures { λ r. ⌜ r ≡ truth (between? low high x) ⌝ }
-{
-    if less(x, low) {
-        return false;
-    }
-    if less(high, x) {
-        return false;
-    }
-    true
-}
-
 // A range of 0 and 0 is none.
 fn no_range(low: i64, high: i64) -> Range
     ensures { λ r. ⌜ r ≡ range-of 0 low high ⌝ }
 {
-    if between(0, 0, low) & between(0, 0, high) {
+    if kit::wide::between(0, 0, low) & kit::wide::between(0, 0, high) {
         return Range::Nothing;
     }
     Range::From(0, 0)
@@ -54,7 +33,9 @@ fn range_in(given: u64, low: i64, high: i64) -> Range
     if given == 0 {
         return no_range(low, high);
     }
-    if between(-2147483648, 2147483647, low) & between(-2147483648, 2147483647, high) {
+    if kit::wide::between(-2147483648, 2147483647, low)
+        & kit::wide::between(-2147483648, 2147483647, high)
+    {
         return Range::From(low as i32, high as i32);
     }
     Range::Nothing

@@ -5,14 +5,13 @@ use Rattle.crossing.proofs.put_refusal.Statement.{statement}
 use Rattle.crossing.proofs.put_refusal.Tie as tie
 use Rattle.crossing.proofs.put_refusal.Reads as reads
 use Rattle.crossing.proofs.put_refusal.Lts as lts
-use Rattle.crossing.proofs.put_place.Reads as put-place-reads
 use Rattle.outcome.proofs.refusal_of.Reads as refusal-of-reads
 
 refusal-of-requires : tie.Need-refusal-of-requires
 refusal-of-requires c κs = search needs
 
-put-place-requires : tie.Need-put-place-requires
-put-place-requires c κs = search needs
+put-pair-requires : tie.Need-put-pair-requires
+put-pair-requires c κs = search needs
 
 same-length : tie.Need-same-length
 same-length c = search needs
@@ -20,7 +19,7 @@ same-length c = search needs
 returns : tie.Need-returns
 returns c =
     let w = c .before .before .before .before .refusal-of .ensures in
-    (w .0, c .before .before .put-place .ensures ∙ ap (λ l. front l (c .before .before .before .before .before .before .args .place .now)) (w .1))
+    (w .0, c .before .before .put-pair .ensures ∙ ap (λ l. front l (c .before .before .before .before .before .before .args .place .now)) (w .1))
 
 pub put-refusal-spec : {M : Type 1} → statement M
-put-refusal-spec = tie.close (tie.spec refusal-of-requires put-place-requires same-length returns)
+put-refusal-spec = tie.close (tie.spec refusal-of-requires put-pair-requires same-length returns)

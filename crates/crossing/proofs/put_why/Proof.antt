@@ -18,8 +18,8 @@ enum-told-4 c = search needs
 enum-known-why : tie.Need-enum-known-why
 enum-known-why c = search needs
 
-put-place-requires : tie.Need-put-place-requires
-put-place-requires c κs = search needs
+put-pair-requires : tie.Need-put-pair-requires
+put-pair-requires c κs = search needs
 
 returns : tie.Need-returns
 returns c = search needs
@@ -37,7 +37,7 @@ same-length : tie.Need-same-length
 same-length c = search needs
 
 returns-5 : tie.Need-returns-5
-returns-5 c = rw (c .before .before .before .before .before .why .given .1) (refl, c .before .before .put-place .ensures)
+returns-5 c = rw (c .before .before .before .before .before .why .given .1) (refl, c .before .before .put-pair .ensures)
 
 pub put-why-spec : {M : Type 1} → statement M
 put-why-spec =
@@ -48,7 +48,7 @@ put-why-spec =
     enum-told-3
     enum-told-4
     enum-known-why
-    put-place-requires
+    put-pair-requires
     returns
     returns-2
     returns-3

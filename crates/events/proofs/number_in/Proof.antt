@@ -7,7 +7,6 @@ use Rattle.events.proofs.number_in.Tie as tie
 use Rattle.events.proofs.number_in.Reads as reads
 use Rattle.events.proofs.number_in.Lts as lts
 use Rattle.events.proofs.whole_in.Reads as whole-in-reads
-use Rattle.mapset.proofs.axes.size.Reads as size-reads
 
 whole-in-requires : tie.Need-whole-in-requires
 whole-in-requires c κs = search needs

@@ -1,27 +1,15 @@
-use mathlib.Core.Path.{sym, ap}
+-- `gathered::axis_in` meets its contract.
 use native.Mathlib.Omega.{arith}
-use Rattle.reading.specs.Head.{axis-in}
-use Rattle.gathered.specs.GotLaws.{axis-got, is-missing}
+use Rattle.gathered.specs.GotLaws.{axis-got}
 use borrow.Author.Needs.{needs}
 use Rattle.gathered.proofs.axis_in.Statement.{statement}
 use Rattle.gathered.proofs.axis_in.Tie as tie
-use Rattle.gathered.proofs.axis_in.Reads as reads
-use Rattle.gathered.proofs.axis_in.Lts as lts
 
-element-copy-out-if1 : tie.Need-element-copy-out-if1
-element-copy-out-if1 c = search needs
-
-mul-v : tie.Need-mul-v
-mul-v c = search needs
-
-element-copy-out-v : tie.Need-element-copy-out-v
-element-copy-out-v c = search needs
+value-in-requires : tie.Need-value-in-requires
+value-in-requires c κs = search needs
 
 returns : tie.Need-returns
-returns c = axis-got (c .before .before .before .before .args .t1) (c .before .before .before .before .args .i) (omega arith) (c .before .before .if1 .taken) (c .before .before .before .before .pre .1) (c .before .before .before .before .pre .2)
-
-returns-2 : tie.Need-returns-2
-returns-2 c = sym (ap axis-in (is-missing (c .before .before .args .t1) (c .before .before .args .i) (omega arith) (c .if1 .left)))
+returns c = let s = c .before .before in rw (c .before .value-in .ensures) (axis-got (s .args .s) (s .args .i) (omega arith) (s .pre .1) (s .pre .2))
 
 pub axis-in-spec : {M : Type 1} → statement M
-axis-in-spec = tie.close (tie.spec element-copy-out-if1 mul-v element-copy-out-v returns returns-2)
+axis-in-spec = tie.close (tie.spec value-in-requires returns)

@@ -1,28 +1,15 @@
-use mathlib.Core.Path.{sym, ap}
+-- `gathered::second_in` meets its contract.
 use native.Mathlib.Omega.{arith}
-use Rattle.reading.specs.Head.{number-in}
-use Rattle.gathered.specs.GotLaws.{second-got, is-missing}
+use Rattle.gathered.specs.GotLaws.{second-got}
 use borrow.Author.Needs.{needs}
 use Rattle.gathered.proofs.second_in.Statement.{statement}
 use Rattle.gathered.proofs.second_in.Tie as tie
-use Rattle.gathered.proofs.second_in.Reads as reads
-use Rattle.gathered.proofs.second_in.Lts as lts
 
-element-copy-out-if1 : tie.Need-element-copy-out-if1
-element-copy-out-if1 c = search needs
-
-mul-v : tie.Need-mul-v
-mul-v c = search needs
-
-element-copy-out-v : tie.Need-element-copy-out-v
-element-copy-out-v c = search needs
+value-in-requires : tie.Need-value-in-requires
+value-in-requires c κs = search needs
 
 returns : tie.Need-returns
-returns c = second-got (c .before .before .before .args .t1) (c .before .before .before .args .i) (omega arith) (c .before .if1 .taken) (c .before .before .before .pre .1)
-
-returns-2 : tie.Need-returns-2
-returns-2 c = sym (ap number-in (is-missing (c .before .before .args .t1) (c .before .before .args .i) (omega arith) (c .if1 .left)))
+returns c = let s = c .before in rw (c .value-in .ensures) (second-got (s .args .s) (s .args .i) (omega arith) (s .pre .1))
 
 pub second-in-spec : {M : Type 1} → statement M
-second-in-spec =
-    tie.close (tie.spec element-copy-out-if1 mul-v element-copy-out-v returns returns-2)
+second-in-spec = tie.close (tie.spec value-in-requires returns)

@@ -7,7 +7,6 @@ use Rattle.given.proofs.stands.Statement.{statement}
 use Rattle.given.proofs.stands.Tie as tie
 use Rattle.given.proofs.stands.Reads as reads
 use Rattle.given.proofs.stands.Lts as lts
-use Rattle.given.proofs.less.Reads as less-reads
 
 below : (c : tie.After-less) → ltZ (c .before .args .x) (pos 0) ≡ c .less .result
 below c = sym (rw (toZ-ofZ (c .before .fits .x)) at (c .less .ensures))

@@ -20,10 +20,10 @@ use Rattle.headlines.proofs.at_system.Lts as lts
 use Rattle.gathered.proofs.keep.Reads as keep-reads
 use Rattle.gathered.proofs.refuse.Reads as refuse-reads
 use Rattle.records.proofs.content.hear_system.Reads as hear-system-reads
-use Rattle.headlines.proofs.letter_place.Reads as letter-place-reads
 use Rattle.headlines.proofs.no_system.Reads as no-system-reads
 use Rattle.fields.proofs.byte_at.Reads as byte-at-reads
-use Rattle.headlines.specs.Step.{if-below, by-letter, system-at}
+use Rattle.labels.specs.Letters.{if-below}
+use Rattle.headlines.specs.Step.{by-letter, system-at}
 
 at-letter : (c : tie.After-letter-place) → let a = c .before .before .before .args in system-at (a .t1) (pad (a .line .now)) (if-below 7 (c .letter-place .result)) ≡ by-letter (a .t1) (pad (a .line .now))
 at-letter c = let a = c .before .before .before .args in letter-is (a .t1) (a .line .now) (c .letter-place .result) (c .before .byte-at .result) (c .before .byte-at .ensures) (c .letter-place .ensures)

@@ -7,7 +7,6 @@ use Rattle.indexcrossing.proofs.put_block.Tie as tie
 use Rattle.indexcrossing.proofs.put_block.Reads as reads
 use Rattle.indexcrossing.proofs.put_block.Lts as lts
 use Rattle.indexcrossing.proofs.number_of.Reads as number-of-reads
-use Rattle.indexcrossing.proofs.put_part.Reads as put-part-reads
 
 enum-known-reply : tie.Need-enum-known-reply
 enum-known-reply c = search needs
@@ -15,8 +14,8 @@ enum-known-reply c = search needs
 sub-count : tie.Need-sub-count
 sub-count c = omega (arith, subst Ordered (c .before .reply .given .1) (c .before .before .before .before .pre .1))
 
-put-part-requires : tie.Need-put-part-requires
-put-part-requires c κs = search needs
+put-pair-requires : tie.Need-put-pair-requires
+put-pair-requires c κs = search needs
 
 enum-known-reply-2 : tie.Need-enum-known-reply-2
 enum-known-reply-2 c = search needs
@@ -28,7 +27,7 @@ same-length : tie.Need-same-length
 same-length c = search needs
 
 returns : tie.Need-returns
-returns c = rw (c .before .before .before .before .before .reply .given .1) (refl, c .before .before .put-part .ensures)
+returns c = rw (c .before .before .before .before .before .reply .given .1) (refl, c .before .before .put-pair .ensures)
 
 returns-2 : tie.Need-returns-2
 returns-2 c = search needs
@@ -39,7 +38,7 @@ put-block-spec =
     (tie.spec
     enum-known-reply
     sub-count
-    put-part-requires
+    put-pair-requires
     enum-known-reply-2
     number-of-requires
     same-length

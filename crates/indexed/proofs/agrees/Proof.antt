@@ -17,7 +17,6 @@ use Rattle.indexed.proofs.agrees.Reads as reads
 use Rattle.indexed.proofs.agrees.Lts as lts
 use Rattle.agreement.proofs.grid.differs.Reads as differs-reads
 use Rattle.agreement.proofs.grid.height_agrees.Reads as height-agrees-reads
-use Rattle.agreement.proofs.grid.per_map.Reads as per-map-reads
 use Rattle.agreement.proofs.grid.row_agrees.Reads as row-agrees-reads
 
 row-is : (c : tie.After-row-agrees) → let a = c .before .before .args in

@@ -9,9 +9,6 @@ use Rattle.layout.proofs.Laws.{label-length}
 use Rattle.labels.proofs.Laws.{place-of-next, place-of-here}
 use Rattle.labels.proofs.search.Statement.{statement}
 use Rattle.labels.proofs.search.Tie as tie
-use Rattle.labels.proofs.search.Reads as reads
-use Rattle.labels.proofs.search.Lts as lts
-use Rattle.labels.proofs.has_label.Reads as has-label-reads
 
 abbrev Inv-loop : tie.InvT-loop
 Inv-loop line labels k₀ k = (k ≤ 32) × (k + place-of line 60 (drop k names) ≡ place-of line 60 names)

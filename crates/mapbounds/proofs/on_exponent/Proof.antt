@@ -15,7 +15,6 @@ use Rattle.mapbounds.proofs.on_exponent.Lts as lts
 use Rattle.maprecords.proofs.one_number.Reads as one-number-reads
 use Rattle.mapbounds.proofs.has_ended.Reads as has-ended-reads
 use Rattle.mapbounds.proofs.still.Reads as still-reads
-use Rattle.mapset.proofs.axes.between.Reads as between-reads
 
 has-ended-requires : tie.Need-has-ended-requires
 has-ended-requires c κs = search needs

@@ -13,7 +13,6 @@ use Rattle.mapbounds.proofs.start_other.Tie as tie
 use Rattle.mapbounds.proofs.start_other.Reads as reads
 use Rattle.mapbounds.proofs.start_other.Lts as lts
 use Rattle.agreement.proofs.grid.natural.Reads as natural-reads
-use Rattle.agreement.proofs.grid.per_map.Reads as per-map-reads
 use Rattle.maprecords.proofs.one_number.Reads as one-number-reads
 use Rattle.mapbounds.proofs.last_of.Reads as last-of-reads
 use Rattle.mapbounds.proofs.still.Reads as still-reads

@@ -11,7 +11,6 @@ use Rattle.mapsteps.proofs.epoch_tec.Statement.{statement}
 use Rattle.mapsteps.proofs.epoch_tec.Tie as tie
 use Rattle.mapsteps.proofs.epoch_tec.Reads as reads
 use Rattle.mapsteps.proofs.epoch_tec.Lts as lts
-use Rattle.agreement.proofs.grid.per_map.Reads as per-map-reads
 use Rattle.maprecords.proofs.epoch_in.Reads as epoch-in-reads
 use Rattle.agreement.proofs.times.in_time.Reads as in-time-reads
 

@@ -15,8 +15,8 @@ use Rattle.numerals.proofs.write_tenths.Tie as tie
 sub-k : tie.Need-sub-k
 sub-k c = search needs
 
-size-of-requires : tie.Need-size-of-requires
-size-of-requires c κs = search needs
+size-requires : tie.Need-size-requires
+size-requires c κs = search needs
 
 slice-relend-prefix-write-whole : tie.Need-slice-relend-prefix-write-whole
 slice-relend-prefix-write-whole c = search needs
@@ -57,18 +57,18 @@ returns c =
     let n = w .before .before .before in
     let s = n .before .before in
     let e = toZ-ofZ (s .fits .z) in
-    tenths-stored (s .args .out .now) (w .write-whole .last .0) (s .args .z) (w .before .is-minus .result) (n .size-of .result) (omega arith)
+    tenths-stored (s .args .out .now) (w .write-whole .last .0) (s .args .z) (w .before .is-minus .result) (n .size .result) (omega arith)
     (w .write-whole .kept .0)
     (w .write-whole .ensures)
     (w .before .is-minus .ensures ∙ ap isMinus e)
-    (n .size-of .ensures ∙ ap natAbs e)
+    (n .size .ensures ∙ ap natAbs e)
 
 pub write-tenths-spec : {M : Type 1} → statement M
 write-tenths-spec =
     tie.close
     (tie.spec
     sub-k
-    size-of-requires
+    size-requires
     slice-relend-prefix-write-whole
     slice-aggregate-write-whole
     is-minus-requires

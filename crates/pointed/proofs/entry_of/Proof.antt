@@ -10,7 +10,6 @@ use Rattle.pointed.proofs.entry_of.Statement.{statement}
 use Rattle.pointed.proofs.entry_of.Tie as tie
 use Rattle.pointed.proofs.entry_of.Reads as reads
 use Rattle.pointed.proofs.entry_of.Lts as lts
-use Rattle.agreement.proofs.grid.per_map.Reads as per-map-reads
 
 few : (c : tie.After-struct-known) → blocks (c .before .before .args .header) ≤ 2000000
 few c = let b = c .before .before in few-blocks (b .args .header .times .maps) (b .args .header .grid) (b .pre .0)

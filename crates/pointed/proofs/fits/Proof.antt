@@ -13,7 +13,6 @@ use Rattle.pointed.proofs.fits.Statement.{statement}
 use Rattle.pointed.proofs.fits.Tie as tie
 use Rattle.pointed.proofs.fits.Reads as reads
 use Rattle.pointed.proofs.fits.Lts as lts
-use Rattle.agreement.proofs.grid.per_map.Reads as per-map-reads
 use Rattle.headsound.proofs.all_within.Reads as all-within-reads
 use Rattle.headsound.proofs.header_fits.Reads as header-fits-reads
 

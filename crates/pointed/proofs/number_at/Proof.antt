@@ -18,7 +18,6 @@ use Rattle.pointed.proofs.number_at.Reads as reads
 use Rattle.pointed.proofs.number_at.Lts as lts
 use Rattle.fields.proofs.int_value.Reads as int-value-reads
 use Rattle.indexed.proofs.block_from.Reads as block-from-reads
-use Rattle.mapset.proofs.axes.between.Reads as between-reads
 
 judged : (c : tie.After-between) → c .between .result ≡ truth (between? (negsuc 2) (pos 0) (c .before .before .args .e))
 judged c = rw (toZ-ofZ (c .before .before .fits .e)) at (c .between .ensures)

@@ -1,84 +1,38 @@
 -- `rows::put_end` meets its contract.
 use native.Mathlib.Omega.{arith}
+use lib.IntN.{pos}
 use mir.Facts.{toZ-ofZ}
 use borrow.Author.Needs.{needs}
-use Rattle.layout.specs.Names.{names}
-use Rattle.writer.specs.Canon.{row-of}
-use Rattle.rowtext.specs.Rows.{row-at}
+use Rattle.rows.specs.Bounds.{end-row, start-within}
 use Rattle.rows.proofs.put_end.Statement.{statement}
 use Rattle.rows.proofs.put_end.Tie as tie
+
+start-label-requires : tie.Need-start-label-requires
+start-label-requires c κs = search needs
+
+add-k : tie.Need-add-k
+add-k c = omega (arith, c .start-label .ensures, start-within (c .before .before .args .kind))
 
 signed-requires : tie.Need-signed-requires
 signed-requires c κs = search needs
 
-enum-told : tie.Need-enum-told
-enum-told c = search needs
-
 put-number-requires : tie.Need-put-number-requires
-unfolding row-at row-of names
 put-number-requires c κs =
-    let s = c .before .before .before .before .before in
-    (omega arith, rw (toZ-ofZ (record { sfits = c .before .before .before .signed .ok }), c .before .before .before .signed .ensures) (rw (c .before .enum-told .given .1) at (s .pre .1)))
-
-enum-told-2 : tie.Need-enum-told-2
-enum-told-2 c = search needs
-
-put-number-requires-2 : tie.Need-put-number-requires-2
-unfolding row-at row-of names
-put-number-requires-2 c κs =
-    let s = c .before .before .before .before .before in
-    (omega arith, rw (toZ-ofZ (record { sfits = c .before .before .before .signed .ok }), c .before .before .before .signed .ensures) (rw (c .before .enum-told2 .given .1) at (s .pre .1)))
-
-enum-told-3 : tie.Need-enum-told-3
-enum-told-3 c = search needs
-
-put-number-requires-3 : tie.Need-put-number-requires-3
-unfolding row-at row-of names
-put-number-requires-3 c κs =
-    let s = c .before .before .before .before .before in
-    (omega arith, rw (toZ-ofZ (record { sfits = c .before .before .before .signed .ok }), c .before .before .before .signed .ensures) (rw (c .before .enum-told3 .given .1) at (s .pre .1)))
+    let k = c .before .before .start-label .ensures in
+    let s = c .before .before .before .before in
+    (omega (arith, k, start-within (s .args .kind)), rw (toZ-ofZ (record { sfits = c .signed .ok }), c .signed .ensures, k, end-row (s .args .kind) (pos (s .args .number))) (s .pre .1))
 
 same-length : tie.Need-same-length
 same-length c = search needs
 
 returns : tie.Need-returns
-unfolding row-at row-of names
 returns c =
-    let s = c .before .before .before .before .before .before .before .before in
-    rw (c .before .before .before .before .enum-told .given .1) (rw (toZ-ofZ (record { sfits = c .before .before .before .before .before .before .signed .ok }), c .before .before .before .before .before .before .signed .ensures) at (c .before .before .put-number .ensures))
-
-same-length-2 : tie.Need-same-length-2
-same-length-2 c = search needs
-
-returns-2 : tie.Need-returns-2
-unfolding row-at row-of names
-returns-2 c =
-    let s = c .before .before .before .before .before .before .before .before in
-    rw (c .before .before .before .before .enum-told2 .given .1) (rw (toZ-ofZ (record { sfits = c .before .before .before .before .before .before .signed .ok }), c .before .before .before .before .before .before .signed .ensures) at (c .before .before .put-number2 .ensures))
-
-same-length-3 : tie.Need-same-length-3
-same-length-3 c = search needs
-
-returns-3 : tie.Need-returns-3
-unfolding row-at row-of names
-returns-3 c =
-    let s = c .before .before .before .before .before .before .before .before in
-    rw (c .before .before .before .before .enum-told3 .given .1) (rw (toZ-ofZ (record { sfits = c .before .before .before .before .before .before .signed .ok }), c .before .before .before .before .before .before .signed .ensures) at (c .before .before .put-number3 .ensures))
+    let n = c .before .before in
+    let g = n .before in
+    let s = g .before .before .before .before in
+    rw (toZ-ofZ (record { sfits = g .signed .ok }), g .signed .ensures, g .before .before .start-label .ensures, end-row (s .args .kind) (pos (s .args .number))) at (n .put-number .ensures)
 
 pub put-end-spec : {M : Type 1} → statement M
 put-end-spec =
     tie.close
-    (tie.spec
-    signed-requires
-    enum-told
-    put-number-requires
-    enum-told-2
-    put-number-requires-2
-    enum-told-3
-    put-number-requires-3
-    same-length
-    returns
-    same-length-2
-    returns-2
-    same-length-3
-    returns-3)
+    (tie.spec start-label-requires add-k signed-requires put-number-requires same-length returns)

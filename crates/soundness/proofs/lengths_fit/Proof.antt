@@ -2,28 +2,24 @@
 use borrow.Author.Needs.{needs}
 use mathlib.Core.Path.{_≡_, ap, ap₂, _∙_}
 use native.Mathlib.Omega.{arith}
-use native.Mathlib.Nat.{mul-le-mul}
 use native.Mathlib.Decide.{decLe}
 use Prim.Native.Nat.{ℕ, _*_, _≤_}
 use denote.Ref.{now}
 use Rattle.kit.specs.Answer.{pick}
 use Rattle.kit.specs.Truth.{both, le-tells}
 use Rattle.mapset.specs.declared.Kind.the-variants as K
-use Rattle.mapset.specs.Areas.{blocks, values, value-need}
-use Rattle.mapset.specs.Sound.{without?, lengths?}
-use Rattle.mapset.specs.SoundLaws.{few-values, few-blocks, rms-need, height-need}
+use Rattle.mapset.specs.Areas.{blocks, values, value-need, nowhere?}
+use Rattle.mapset.specs.Sound.{lengths?}
+use Rattle.mapset.specs.SoundLaws.{few-values, few-blocks}
 use Rattle.soundness.proofs.lengths_fit.Statement.{statement}
 use Rattle.soundness.proofs.lengths_fit.Tie as tie
 
-module _ (c : tie.After-struct-known) where
+module _ (c : tie.After-per-map) where
   abbrev s : tie.Start
-  s = c .before .before .before .before .before
+  s = c .before .before .before
 
-  blocks-is : s .args .header .times .maps * (c .before .before .before .nodes .result * c .before .before .nodes2 .result) ≡ blocks (s .args .header)
-  blocks-is = ap₂ (λ (l r : ℕ). s .args .header .times .maps * (l * r)) (c .before .before .before .nodes .ensures) (c .before .before .nodes2 .ensures)
-
-  values-is : s .args .header .times .maps * (c .before .before .before .nodes .result * c .before .before .nodes2 .result) * c .before .nodes3 .result ≡ values (s .args .header)
-  values-is = ap₂ (λ (b k : ℕ). b * k) blocks-is (c .before .nodes3 .ensures)
+  blocks-is : s .args .header .times .maps * c .per-map .result ≡ blocks (s .args .header)
+  blocks-is = ap (λ (n : ℕ). s .args .header .times .maps * n) (c .per-map .ensures)
 
   block-count : blocks (s .args .header) ≤ 2000000
   block-count = few-blocks (s .args .header .times .maps) (s .args .header .grid) (s .pre)
@@ -31,29 +27,23 @@ module _ (c : tie.After-struct-known) where
   value-count : values (s .args .header) ≤ 2000000
   value-count = few-values (s .args .header .times .maps) (s .args .header .grid) (s .pre)
 
-nodes-requires : tie.Need-nodes-requires
-nodes-requires c κs = search needs
-
-nodes-requires-2 : tie.Need-nodes-requires-2
-nodes-requires-2 c κs = search needs
-
-nodes-requires-3 : tie.Need-nodes-requires-3
-nodes-requires-3 c κs = search needs
+values-is : (c : tie.After-nodes) → s (c .before) .args .header .times .maps * c .before .per-map .result * c .nodes .result ≡ values (s (c .before) .args .header)
+values-is c = ap₂ (λ (b k : ℕ). b * k) (blocks-is (c .before)) (c .nodes .ensures)
 
 cast-blocks : tie.Need-cast-blocks
 cast-blocks c = search needs
 
-mul-blocks : tie.Need-mul-blocks
-mul-blocks c =
-    let l = c .before .before .before .nodes .ensures in
-    let r = c .before .before .nodes2 .ensures in
-    omega (arith, mul-le-mul (s c .pre .2) (s c .pre .0), ap₂ (λ (x y : ℕ). x * y) l r)
+per-map-requires : tie.Need-per-map-requires
+per-map-requires c κs = search needs
 
-mul-blocks-2 : tie.Need-mul-blocks-2
-mul-blocks-2 c = omega (arith, blocks-is c, block-count c)
+mul-blocks : tie.Need-mul-blocks
+mul-blocks c = omega (arith, blocks-is c, block-count c)
+
+nodes-requires : tie.Need-nodes-requires
+nodes-requires c κs = search needs
 
 mul-values : tie.Need-mul-values
-mul-values c = omega (arith, values-is c, value-count c)
+mul-values c = omega (arith, values-is c, value-count (c .before))
 
 need-requires : tie.Need-need-requires
 need-requires c κs = search needs
@@ -61,18 +51,19 @@ need-requires c κs = search needs
 need-requires-2 : tie.Need-need-requires-2
 need-requires-2 c κs = search needs
 
-mul-result : tie.Need-mul-result
-mul-result c = omega (arith, blocks-is (c .before .before), block-count (c .before .before))
+mul-exponents : tie.Need-mul-exponents
+mul-exponents c = let p = c .before .before .before in omega (arith, blocks-is p, block-count p)
 
 returns : tie.Need-returns
 unfolding lengths?
 returns c =
-    let d = c .before .before in
-    let a = (s d) .args in
+    let n = c .before .before .before .before in
+    let d = n .before .before in
+    let a = s (d .before) .args in
     let h = a .header in
-    let rms = c .before .need .ensures ∙ ap (λ (v : ℕ). pick (without? 1 (now (a .marks))) 0 v) (values-is d) ∙ rms-need h (now (a .marks)) in
-    let hgt = c .need2 .ensures ∙ ap (λ (v : ℕ). pick (without? 2 (now (a .marks))) 0 v) (values-is d) ∙ height-need h (now (a .marks)) in
-    rw (rms, hgt, values-is d, blocks-is d)
+    let rms = n .before .need .ensures ∙ ap (λ (v : ℕ). pick (nowhere? K.Rms (now (a .marks))) 0 v) (values-is d) in
+    let hgt = n .need2 .ensures ∙ ap (λ (v : ℕ). pick (nowhere? K.Height (now (a .marks))) 0 v) (values-is d) in
+    rw (rms, hgt, values-is d, blocks-is (d .before))
     (both (decLe (values h) (a .l .tec)) _ (le-tells _ _)
     (both (decLe (value-need K.Rms h (now (a .marks))) (a .l .rms)) _ (le-tells _ _)
     (both (decLe (value-need K.Height h (now (a .marks))) (a .l .height)) (decLe (3 * blocks h) (a .l .exponents)) (le-tells _ _) (le-tells _ _))))
@@ -81,14 +72,12 @@ pub lengths-fit-spec : {M : Type 1} → statement M
 lengths-fit-spec =
     tie.close
     (tie.spec
-    nodes-requires
-    nodes-requires-2
-    nodes-requires-3
     cast-blocks
+    per-map-requires
     mul-blocks
-    mul-blocks-2
+    nodes-requires
     mul-values
     need-requires
     need-requires-2
-    mul-result
+    mul-exponents
     returns)

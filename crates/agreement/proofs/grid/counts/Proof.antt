@@ -3,8 +3,6 @@ use Rattle.agreement.proofs.grid.counts.Statement.{statement}
 use Rattle.agreement.proofs.grid.counts.Tie as tie
 use Rattle.agreement.proofs.grid.counts.Reads as reads
 use Rattle.agreement.proofs.grid.counts.Lts as lts
-use Rattle.mapset.proofs.axes.less.Reads as less-reads
-use Rattle.mapset.proofs.axes.size.Reads as size-reads
 use mathlib.Core.Path.{_≡_, sym, ap, _∙_}
 use Prim.Native.Nat.{ℕ}
 use lib.Dec.{eqb}

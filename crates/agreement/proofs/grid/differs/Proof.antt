@@ -11,7 +11,6 @@ use Rattle.agreement.proofs.grid.differs.Statement.{statement}
 use Rattle.agreement.proofs.grid.differs.Tie as tie
 use Rattle.agreement.proofs.grid.differs.Reads as reads
 use Rattle.agreement.proofs.grid.differs.Lts as lts
-use Rattle.agreement.proofs.grid.same.Reads as same-reads
 
 at-first : (c : tie.After-same) → c .same .result ≡ truth (int? (c .before .before .args .first) (c .before .before .args .a .first))
 at-first c =

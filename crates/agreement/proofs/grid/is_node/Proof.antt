@@ -4,13 +4,12 @@ use mir.Syntax.{w64}
 use mir.Facts.{toZ-ofZ, sfits-widen}
 use Rattle.kit.specs.Integer.{int?}
 use Rattle.kit.specs.Truth.{truth}
-use Rattle.agreement.proofs.GridLaws.{same-bits}
+use Rattle.kit.proofs.Signed.{same-bits}
 use borrow.Author.Needs.{needs}
 use Rattle.agreement.proofs.grid.is_node.Statement.{statement}
 use Rattle.agreement.proofs.grid.is_node.Tie as tie
 use Rattle.agreement.proofs.grid.is_node.Reads as reads
 use Rattle.agreement.proofs.grid.is_node.Lts as lts
-use Rattle.agreement.proofs.grid.node.Reads as node-reads
 
 cast-result : tie.Need-cast-result
 cast-result c = rw (toZ-ofZ (c .fits .x)) (sfits-widen tt (c .fits .x))

@@ -3,8 +3,6 @@ use Rattle.agreement.proofs.grid.natural.Statement.{statement}
 use Rattle.agreement.proofs.grid.natural.Tie as tie
 use Rattle.agreement.proofs.grid.natural.Reads as reads
 use Rattle.agreement.proofs.grid.natural.Lts as lts
-use Rattle.mapset.proofs.axes.less.Reads as less-reads
-use Rattle.mapset.proofs.axes.size.Reads as size-reads
 use mathlib.Core.Path.{_≡_, sym, ap, _∙_}
 use lib.IntN.{ℤ, pos, natAbs}
 use lib.Signed.{ltZ}

@@ -5,7 +5,6 @@ use Rattle.agreement.proofs.times.is_after.Statement.{statement}
 use Rattle.agreement.proofs.times.is_after.Tie as tie
 use Rattle.agreement.proofs.times.is_after.Reads as reads
 use Rattle.agreement.proofs.times.is_after.Lts as lts
-use Rattle.soundness.proofs.follows.Reads as follows-reads
 
 returns : tie.Need-returns
 returns c =

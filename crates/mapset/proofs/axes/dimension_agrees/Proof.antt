@@ -8,7 +8,6 @@ use Rattle.mapset.proofs.axes.dimension_agrees.Statement.{statement}
 use Rattle.mapset.proofs.axes.dimension_agrees.Tie as tie
 use Rattle.mapset.proofs.axes.dimension_agrees.Reads as reads
 use Rattle.mapset.proofs.axes.dimension_agrees.Lts as lts
-use Rattle.mapset.proofs.axes.size.Reads as size-reads
 
 step-size : (c : tie.After-size) → c .size .result ≡ natAbs (c .before .before .args .a .step)
 step-size c =

@@ -6,7 +6,6 @@ use Rattle.mapset.proofs.axes.end_fits.Statement.{statement}
 use Rattle.mapset.proofs.axes.end_fits.Tie as tie
 use Rattle.mapset.proofs.axes.end_fits.Reads as reads
 use Rattle.mapset.proofs.axes.end_fits.Lts as lts
-use Rattle.mapset.proofs.axes.between.Reads as between-reads
 
 enum-told : tie.Need-enum-told
 enum-told c = search needs

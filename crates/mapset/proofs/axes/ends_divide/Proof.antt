@@ -13,7 +13,6 @@ use Rattle.mapset.proofs.axes.ends_divide.Tie as tie
 use Rattle.mapset.proofs.axes.ends_divide.Reads as reads
 use Rattle.mapset.proofs.axes.ends_divide.Lts as lts
 use Rattle.mapset.proofs.axes.divides.Reads as divides-reads
-use Rattle.mapset.proofs.axes.size.Reads as size-reads
 
 step-size : (c : tie.After-size) → c .size .result ≡ natAbs (c .before .before .args .a .step)
 step-size c =

@@ -11,8 +11,6 @@ use Rattle.mapset.proofs.axes.heights_agree.Reads as reads
 use Rattle.mapset.proofs.axes.heights_agree.Lts as lts
 use Rattle.mapset.proofs.axes.distance.Reads as distance-reads
 use Rattle.mapset.proofs.axes.divides.Reads as divides-reads
-use Rattle.mapset.proofs.axes.less.Reads as less-reads
-use Rattle.mapset.proofs.axes.size.Reads as size-reads
 
 step-size : (c : tie.After-size) → c .size .result ≡ natAbs (c .before .before .args .a .step)
 step-size c =

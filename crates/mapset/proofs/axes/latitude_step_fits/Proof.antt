@@ -7,7 +7,6 @@ use Rattle.mapset.proofs.axes.latitude_step_fits.Statement.{statement}
 use Rattle.mapset.proofs.axes.latitude_step_fits.Tie as tie
 use Rattle.mapset.proofs.axes.latitude_step_fits.Reads as reads
 use Rattle.mapset.proofs.axes.latitude_step_fits.Lts as lts
-use Rattle.mapset.proofs.axes.size.Reads as size-reads
 
 sized : (c : tie.After-size) → c .size .result ≡ natAbs (c .before .args .d)
 sized c = c .size .ensures ∙ ap natAbs (toZ-ofZ (c .before .fits .d))

@@ -11,7 +11,6 @@ use Rattle.mapset.proofs.axes.longitudes_agree.Reads as reads
 use Rattle.mapset.proofs.axes.longitudes_agree.Lts as lts
 use Rattle.mapset.proofs.axes.distance.Reads as distance-reads
 use Rattle.mapset.proofs.axes.ends_divide.Reads as ends-divide-reads
-use Rattle.mapset.proofs.axes.less.Reads as less-reads
 
 falls : (c : tie.After-less) → c .less .result ≡ ltZ (c .before .before .before .args .a .last) (c .before .before .before .args .a .first)
 falls c =

@@ -14,7 +14,6 @@ use Rattle.mapset.proofs.axes.nodes.Tie as tie
 use Rattle.mapset.proofs.axes.nodes.Reads as reads
 use Rattle.mapset.proofs.axes.nodes.Lts as lts
 use Rattle.mapset.proofs.axes.distance.Reads as distance-reads
-use Rattle.mapset.proofs.axes.size.Reads as size-reads
 
 step-size : (c : tie.After-size) → c .size .result ≡ natAbs (c .before .before .args .a .step)
 step-size c =

@@ -10,7 +10,6 @@ use Rattle.mapset.proofs.axes.toward.Statement.{statement}
 use Rattle.mapset.proofs.axes.toward.Tie as tie
 use Rattle.mapset.proofs.axes.toward.Reads as reads
 use Rattle.mapset.proofs.axes.toward.Lts as lts
-use Rattle.mapset.proofs.axes.less.Reads as less-reads
 
 up : (c : tie.After-less) → c .less .result ≡ ltZ (pos 0) (c .before .before .args .a .step)
 up c =

@@ -8,8 +8,6 @@ use Rattle.records.proofs.content.natural.Statement.{statement}
 use Rattle.records.proofs.content.natural.Tie as tie
 use Rattle.records.proofs.content.natural.Reads as reads
 use Rattle.records.proofs.content.natural.Lts as lts
-use Rattle.mapset.proofs.axes.less.Reads as less-reads
-use Rattle.mapset.proofs.axes.size.Reads as size-reads
 
 negative : (c : tie.After-less) → c .less .result ≡ ltZ (c .before .args .z) (pos 0)
 negative c = rw (toZ-ofZ (c .before .fits .z)) at (c .less .ensures)

@@ -9,7 +9,6 @@ use Rattle.records.proofs.content.unsigned.Statement.{statement}
 use Rattle.records.proofs.content.unsigned.Tie as tie
 use Rattle.records.proofs.content.unsigned.Reads as reads
 use Rattle.records.proofs.content.unsigned.Lts as lts
-use Rattle.mapset.proofs.axes.size.Reads as size-reads
 
 sized : (c : tie.After-size) → c .size .result ≡ natAbs (c .before .args .z)
 sized c = rw (toZ-ofZ (c .before .fits .z)) at (c .size .ensures)

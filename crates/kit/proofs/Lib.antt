@@ -1,0 +1,2 @@
+-- The root of the laws that the functions' proofs cite.
+pub mod Signed

@@ -1,0 +1,34 @@
+-- Tests on integers, against the decisions on them.
+use mathlib.Core.Path.{_≡_, ap, _∙_}
+use mathlib.Core.Bool.{true, false}
+use native.Mathlib.Decide.{ℕ-discrete}
+use native.Mathlib.Omega.{arith}
+use lib.Dec.{eqb}
+use lib.IntN.{ℤ}
+use lib.Signed.{ltZ}
+use mir.Syntax.{Width, w32, w64}
+use mir.Val.{SFits, toZ, ofZ}
+use mir.Facts.{toZ-ofZ, sfits-widen}
+use Rattle.kit.specs.Integer.{int?, between?}
+use Rattle.kit.specs.Parts.{from-bits, le-parts, parts-le, lt-true, lt-false}
+use Rattle.kit.specs.Truth.{truth, holds, fails, truth-same, eq-tells}
+
+-- equal bits, equal numbers
+pub same-bits : (w : Width) (x y : ℤ) → SFits w x → SFits w y → eqb (ofZ w x) (ofZ w y) ≡ truth (int? x y)
+same-bits w x y f g =
+    eq-tells (ofZ w x) (ofZ w y)
+    ∙ truth-same (ℕ-discrete (ofZ w x) (ofZ w y)) (int? x y) (λ e. from-bits w x (ofZ w y) f e ∙ toZ-ofZ g) (λ e. ap (ofZ w) e)
+
+-- a number of 32 bits is the same in 64
+pub widened : (x : ℤ) → SFits w32 x → toZ w64 (ofZ w64 (toZ w32 (ofZ w32 x))) ≡ x
+widened x f = rw (toZ-ofZ f) (toZ-ofZ (sfits-widen tt f))
+
+module _ (low high x : ℤ) where
+  pub under : ltZ x low ≡ true → false ≡ truth (between? low high x)
+  under e = fails (between? low high x) (λ b. omega (arith, lt-true x low e, parts-le low x (b .from)))
+
+  pub over : ltZ high x ≡ true → false ≡ truth (between? low high x)
+  over e = fails (between? low high x) (λ b. omega (arith, lt-true high x e, parts-le x high (b .to)))
+
+  pub inside : ltZ x low ≡ false → ltZ high x ≡ false → true ≡ truth (between? low high x)
+  inside e f = holds (between? low high x) (record { from = le-parts low x (omega (arith, lt-false x low e)); to = le-parts x high (omega (arith, lt-false high x f)) })
