@@ -37,15 +37,7 @@ count-some (negsuc m) n e = let l = lt-false (negsuc m) (pos 0) e in absurd (ome
 
 -- ---- the bits of two numbers
 
-pub same-bits : (w : Width) (x y : ℤ) → SFits w x → SFits w y → eqb (ofZ w x) (ofZ w y) ≡ truth (int? x y)
-same-bits w x y f g =
-    eq-tells (ofZ w x) (ofZ w y)
-    ∙ truth-same (ℕ-discrete (ofZ w x) (ofZ w y)) (int? x y) (λ e. from-bits w x (ofZ w y) f e ∙ toZ-ofZ g) (λ e. ap (ofZ w) e)
-
 -- ---- a node's size
-
-pub scaled-small : (i : ℕ) (v : ℤ) → i < 2 ^ 31 → natAbs v ≤ 2 ^ 31 → i * natAbs v ≤ 2 ^ 62
-scaled-small i v h k = let m : i * natAbs v ≤ 2 ^ 31 * 2 ^ 31 = mul-le-mul (le-of-lt h) k in omega arith
 
 -- ---- H
 

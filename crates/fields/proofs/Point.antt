@@ -30,10 +30,6 @@ pub dot-most : (after : ℕ) → dot after ≤ 1
 dot-most zero = omega arith
 dot-most (suc n) = omega arith
 
--- a part that goes to the end
-pub to-end : (f : List ℕ) (p : ℕ) → take (length f - p) (drop p f) ≡ drop p f
-to-end f p = take-all (length f - p) (drop p f) (rw length-drop (omega arith))
-
 -- where the point stands
 abbrev pub pointAt : List ℕ → ℕ → ℕ
 pointAt f after = length f - after - 1

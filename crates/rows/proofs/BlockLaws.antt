@@ -21,12 +21,6 @@ use Rattle.layout.specs.Names.{names}
 use Rattle.writer.specs.Canon.{row-of, value-row, value-rows, exponent-rows}
 use Rattle.rowtext.specs.Rows.{row-at, whole}
 
--- equal bits, equal numbers
-pub same-bits : (w : Width) (x y : ℤ) → SFits w x → SFits w y → eqb (ofZ w x) (ofZ w y) ≡ truth (int? x y)
-same-bits w x y f g =
-    eq-tells (ofZ w x) (ofZ w y)
-    ∙ truth-same (ℕ-discrete (ofZ w x) (ofZ w y)) (int? x y) (λ e. from-bits w x (ofZ w y) f e ∙ toZ-ofZ g) (λ e. ap (ofZ w) e)
-
 pub exponent-none : (k e : ℤ) → truth (int? k e) ≡ true → exponent-rows k e ≡ []
 exponent-none k e t = pick-yes (int? k e) [] _ (truth-true (int? k e) t)
 

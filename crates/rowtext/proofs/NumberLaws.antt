@@ -21,9 +21,6 @@ use Rattle.writer.specs.RoomLaws.{Wide}
 
 -- ---- a node
 
-pub scaled-small : (i : ℕ) (v : ℤ) → i < 2 ^ 31 → natAbs v ≤ 2 ^ 31 → i * natAbs v ≤ 2 ^ 62
-scaled-small i v h k = let m : i * natAbs v ≤ 2 ^ 31 * 2 ^ 31 = mul-le-mul (le-of-lt h) k in omega arith
-
 pub wide-fits : (z : ℤ) → Wide z → SFits w32 z
 wide-fits (pos n) w = record { sfits = omega (arith, parts-le (pos n) (pos 99999) (w .to)) }
 wide-fits (negsuc n) w = record { sfits = omega (arith, parts-le (negsuc 8999) (negsuc n) (w .from)) }

@@ -11,9 +11,8 @@ use Rattle.areas.specs.Lists.{tab}
 use Rattle.areas.specs.Valid.{values-in}
 use Rattle.areas.proofs.ListLaws.{tab-length, tab-all}
 use Rattle.nodes.specs.Value.{kind-of}
-use Rattle.nodes.specs.Nodes.{Small}
+use Rattle.nodes.specs.Nodes.{Small, corner}
 use Rattle.nodes.specs.NodeLaws.{small-value}
-use Rattle.sums.specs.Mean.{corner}
 use Rattle.tally.specs.Figures.{given, lacking, range, figures, total, Bounded}
 use Rattle.tally.specs.FigureLaws.{counts-add, bounded-figures, Spans, range-spans}
 use Rattle.setfigures.specs.SetFigures.{shape, node-value, map-nodes, map-figures, kind-nodes, kind-figures}

@@ -1,6 +1,6 @@
 -- `rows::same` meets its contract.
 use mir.Syntax.{w32}
-use Rattle.rows.proofs.BlockLaws.{same-bits}
+use Rattle.kit.specs.IntegerLaws.{same-bits}
 use Rattle.rows.proofs.same.Statement.{statement}
 use Rattle.rows.proofs.same.Tie as tie
 

@@ -8,7 +8,8 @@ use mir.Val.{toZ, ofZ, SFits}
 use mir.Facts.{toZ-ofZ, toZ-pos, sfits-widen}
 use borrow.Author.Needs.{needs}
 use Rattle.kit.specs.Parts.{size-of-fits, size-fits, abs-scale, abs-add-scaled}
-use Rattle.rowtext.proofs.NumberLaws.{scaled-small, wide-fits}
+use Rattle.kit.specs.IntegerLaws.{scaled-small}
+use Rattle.rowtext.proofs.NumberLaws.{wide-fits}
 use Rattle.rowtext.proofs.node.Statement.{statement}
 use Rattle.rowtext.proofs.node.Tie as tie
 

@@ -11,7 +11,7 @@ use mir.Syntax.{w32, w64}
 use mir.Val.{toZ, ofZ, SFits}
 use mir.Facts.{toZ-ofZ, toZ-pos, sfits-widen}
 use Rattle.kit.specs.Parts.{size-of-fits, size-fits, abs-scale, abs-add-scaled}
-use Rattle.agreement.proofs.GridLaws.{scaled-small}
+use Rattle.kit.specs.IntegerLaws.{scaled-small}
 
 module _ (s : tie.Start) where
   first-fits : SFits w32 (s .args .a .first)

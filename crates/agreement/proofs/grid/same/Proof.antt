@@ -1,5 +1,5 @@
 use mir.Syntax.{w32}
-use Rattle.agreement.proofs.GridLaws.{same-bits}
+use Rattle.kit.specs.IntegerLaws.{same-bits}
 use Rattle.agreement.proofs.grid.same.Statement.{statement}
 use Rattle.agreement.proofs.grid.same.Tie as tie
 use Rattle.agreement.proofs.grid.same.Reads as reads
