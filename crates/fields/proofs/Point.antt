@@ -13,12 +13,13 @@ use lib.IntN.{ℤ}
 use lib.Dec.{eqb}
 use borrow.Author.Tests.{eq-eqb, eqb-true}
 use Rattle.kit.specs.Answer.{All}
+use Rattle.kit.specs.TruthLaws.{and-true}
 use Rattle.forms.specs.Form.{fewest, decimal, I, Digit, numeral, signed, pointed, dot}
 use Rattle.forms.specs.Read.{readField, isNumber}
 use Rattle.forms.specs.ShowLaws.{numeral-below}
 use Rattle.forms.specs.Bytes.{hasMinus, Small}
 use Rattle.forms.specs.declared.Field.the-variants.{Number}
-use Rattle.fields.proofs.Judged.{Parts, well, well-lead, well-last, lead-well, well-digits, digits-well, whole-below, and-true, judged, judged-parts, parts-number, int-judged}
+use Rattle.fields.proofs.Judged.{Parts, well, well-lead, well-last, lead-well, well-digits, digits-well, whole-below, judged, judged-parts, parts-number, int-judged}
 use Rattle.fields.proofs.Steps.{drop-next}
 
 -- a point in front of one or more digits
