@@ -50,9 +50,6 @@ module _ (k : ℕ) (h : Header) (a : Areas) where
       all-flat-tab Small 0 (layers (h .grid)) _ (λ l. all-flat-tab Small 0 (rows (h .grid)) _ (λ r. tab-all Small 0 (columns (h .grid)) (λ c. node-value k h a i l r c)
       (λ c. small-value (shape k h l) (values-in (kind-of k) a) (a .exponents) (a .marks) (corner 1 i r c))))
 
-  pub map-bounded : (i : ℕ) → Bounded (map-figures k h a i)
-  map-bounded i = bounded-figures (map-nodes k h a i) (small-map i)
-
   pub kind-small : All Small (kind-nodes k h a)
   unfolding kind-nodes
   kind-small = all-flat-tab Small 0 (h .times .maps) (map-nodes k h a) small-map
