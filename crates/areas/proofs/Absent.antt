@@ -10,6 +10,7 @@ use lib.ListN.{length, replicate, drop, length-replicate}
 use lib.Seq.{take-at, drop-at}
 use lib.IntN.{ℤ}
 use Rattle.kit.specs.Answer.{All, pick-no}
+use Rattle.kit.specs.ListLaws.{all-replicate}
 use Rattle.mapset.specs.declared.Kind.{Kind}
 use Rattle.mapset.specs.declared.Kind.the-variants.{Tec}
 use Rattle.mapset.specs.MapSet.{Block, Maps}
@@ -20,7 +21,7 @@ use Rattle.areas.specs.Flat.{found, absent-block, Slots, slots, reads, t
 use Rattle.areas.specs.Formed.{MapRules}
 use Rattle.areas.specs.Stores.{has}
 use Rattle.areas.specs.Valid.{Blank}
-use Rattle.areas.proofs.ListLaws.{all-replicate, tab-ext}
+use Rattle.areas.proofs.ListLaws.{tab-ext}
 use Rattle.areas.proofs.KindLaws.{widths, Fits}
 use Rattle.areas.proofs.Needs.{marks-of, others, bit-found}
 use Rattle.areas.proofs.Seams.{cells, cells-cons, cells-length, cells-same}

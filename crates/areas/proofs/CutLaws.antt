@@ -11,6 +11,7 @@ use lib.ListN.{length, replicate, take, drop, length-drop, take-append-drop}
 use lib.Seq.{length-take-le}
 use lib.IntN.{ℤ, pos, negsuc}
 use Rattle.kit.specs.Answer.{All, pick, pick-yes, pick-no, pick-elim}
+use Rattle.kit.specs.ListLaws.{all-take, all-drop, all-both}
 use Rattle.mapset.specs.declared.Kind.{Kind}
 use Rattle.mapset.specs.MapSet.{Block}
 use Rattle.mapset.specs.Areas.{Present, present?, Nowhere}
@@ -21,7 +22,7 @@ use Rattle.areas.specs.Formed.{Value, BlockRules, MapRules}
 use Rattle.areas.specs.Stores.{has}
 use Rattle.areas.specs.Nest.{a-block, cut, if-there, kept}
 use Rattle.areas.specs.Valid.{Blank}
-use Rattle.areas.proofs.ListLaws.{all-take, all-drop, all-chop, all-both, zip-length, zip-left, zip-right, zip-alls, chop-length, chop-all, flat-chop, map-append}
+use Rattle.areas.proofs.ListLaws.{all-chop, zip-length, zip-left, zip-right, zip-alls, chop-length, chop-all, flat-chop, map-append}
 use Rattle.areas.proofs.KindLaws.{Fits}
 use Rattle.areas.proofs.Seams.{cells-cons, cells-same}
 use Rattle.areas.proofs.Stored.{single}

@@ -7,11 +7,12 @@ use native.Mathlib.Omega.{arith}
 use native.Mathlib.Decide.{ℕ-discrete}
 use lib.ListN.{length, replicate, length-map, length-replicate}
 use Rattle.kit.specs.Answer.{All, pick-yes, pick-no, pick-elim}
+use Rattle.kit.specs.ListLaws.{all-turn, all-map, all-replicate}
 use Rattle.mapset.specs.MapSet.{Block, OtherMap}
 use Rattle.areas.specs.Lists.{flat}
 use Rattle.areas.specs.Flat.{found, absent-block, or-absent, Slots, slots, reads, values-of, exponents-of}
 use Rattle.areas.specs.Formed.{Value, BlockRules, MapRules, Rising}
-use Rattle.areas.proofs.ListLaws.{all-flat, all-turn, all-map, all-replicate, flat-length, tab-length, tab-all}
+use Rattle.areas.proofs.ListLaws.{all-flat, flat-length, tab-length, tab-all}
 
 -- ---- maps, and their values and exponents
 

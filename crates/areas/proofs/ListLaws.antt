@@ -5,48 +5,23 @@ use native.Mathlib.Omega.{arith}
 use native.Mathlib.Decide.{ℕ-discrete}
 use native.Mathlib.Nat.{suc-mul, zero-mul}
 use mathlib.Core.List.{List, [], _∷_, _++_, map, append-assoc}
-use lib.ListN.{length, replicate, take, drop, length-append, length-drop, take-append-drop}
+use lib.ListN.{length, replicate, take, drop, length-append, length-drop, take-append-drop, length-replicate}
 use lib.Seq.{take-at, drop-at, length-take-le}
-use Rattle.kit.specs.Lists.{all-append}
+use Rattle.kit.specs.ListLaws.{all-append, all-take, all-drop}
 use Rattle.kit.specs.Answer.{All}
 use Rattle.areas.specs.Lists.{flat, chop, tab, zipw}
+use Rattle.areas.specs.Stores.{fill}
 
 -- ---- All
 
 module _ {A : Type 0} (P : A → Type 0) where
-  pub all-take : (k : ℕ) (l : List A) → All P l → All P (take k l)
-  all-take zero l p = tt
-  all-take (suc k) [] p = tt
-  all-take (suc k) (x ∷ l) p = (p .0, all-take k l (p .1))
-
-  pub all-drop : (k : ℕ) (l : List A) → All P l → All P (drop k l)
-  all-drop zero l p = p
-  all-drop (suc k) [] p = tt
-  all-drop (suc k) (x ∷ l) p = all-drop k l (p .1)
-
   pub all-chop : (k c : ℕ) (l : List A) → All P l → All (All P) (chop k c l)
   all-chop zero c l p = tt
-  all-chop (suc k) c l p = (all-take c l p, all-chop k c (drop c l) (all-drop c l p))
+  all-chop (suc k) c l p = (all-take P c l p, all-chop k c (drop c l) (all-drop P c l p))
 
   pub all-flat : (ls : List (List A)) → All (All P) ls → All P (flat ls)
   all-flat [] p = tt
   all-flat (l ∷ ls) p = all-append P l (flat ls) (p .0) (all-flat ls (p .1))
-
-  pub all-turn : (Q : A → Type 0) (l : List A) → ((x : A) → P x → Q x) → All P l → All Q l
-  all-turn Q [] f p = tt
-  all-turn Q (x ∷ l) f p = (f x (p .0), all-turn Q l f (p .1))
-
-  pub all-both : (Q : A → Type 0) (l : List A) → All P l → All Q l → All (λ x. P x × Q x) l
-  all-both Q [] p q = tt
-  all-both Q (x ∷ l) p q = ((p .0, q .0), all-both Q l (p .1) (q .1))
-
-  pub all-map : {B : Type 0} (f : B → A) (l : List B) → All (λ x. P (f x)) l → All P (map f l)
-  all-map f [] p = tt
-  all-map f (x ∷ l) p = (p .0, all-map f l (p .1))
-
-pub all-replicate : {A : Type 0} (P : A → Type 0) (v : A) → P v → (k : ℕ) → All P (replicate k v)
-all-replicate P v h zero = tt
-all-replicate P v h (suc k) = (h, all-replicate P v h k)
 
 -- ---- flat and chop
 
@@ -139,3 +114,8 @@ flat-append (x ∷ a) b = ap (λ r. x ++ r) (flat-append a b) ∙ sym (append-as
 pub map-append : {A B : Type 0} (f : A → B) (a b : List A) → map f (a ++ b) ≡ map f a ++ map f b
 map-append f [] b = refl
 map-append f (x ∷ a) b = ap (λ r. f x ∷ r) (map-append f a b)
+
+-- ---- fill
+
+pub fill-length : {A : Type 0} (v : A) (k : ℕ) (l : List A) → k ≤ length l → length (fill v k l) ≡ length l
+fill-length v k l h = length-append (replicate k v) (drop k l) ∙ omega (arith, length-replicate k v, length-drop k l)

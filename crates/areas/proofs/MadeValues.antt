@@ -7,7 +7,7 @@ use native.Mathlib.Omega.{arith}
 use native.Mathlib.Nat.{mul-assoc, mul-le-mul-right}
 use lib.ListN.{length, replicate, length-append, length-replicate}
 use lib.IntN.{ℤ, pos, negℤ}
-use Rattle.kit.specs.Lists.{all-append}
+use Rattle.kit.specs.ListLaws.{all-append}
 use Rattle.kit.specs.Answer.{All}
 use Rattle.kit.specs.Parts.{neg-up, neg-dn, le-parts}
 use Rattle.forms.specs.Form as form

@@ -7,6 +7,8 @@ use Prim.Native.Nat.{ℕ, _*_}
 use native.Mathlib.Omega.{arith}
 use lib.ListN.{length, length-append, length-map}
 use Rattle.kit.specs.Answer.{All, pick, pick-yes, pick-no}
+use Rattle.kit.specs.ListLaws.{all-map}
+use Rattle.kit.specs.TruthLaws.{clash}
 use Rattle.mapset.specs.declared.Kind.{Kind}
 use Rattle.mapset.specs.declared.Kind.the-variants.{Tec, Rms, Height}
 use Rattle.mapset.specs.MapSet.{OtherMap, Maps, MapSet}
@@ -17,7 +19,7 @@ use Rattle.areas.specs.Lists.{tab}
 use Rattle.areas.specs.Flat.{found, slots, reads, tec-blocks, values-of, exponents-of, wanted, mark, there, areas-of, areas}
 use Rattle.areas.specs.Exact.{Exact}
 use Rattle.areas.specs.Formed.{MapRules, Rising, MapsRules, Formed}
-use Rattle.areas.proofs.ListLaws.{all-map, tab-length, tab-all, all-tab}
+use Rattle.areas.proofs.ListLaws.{tab-length, tab-all, all-tab}
 use Rattle.areas.proofs.KindLaws.{found-here, exponents-length, values-length, kind-exponents, kind-values}
 
 -- ---- the marks say which maps are there
@@ -27,9 +29,6 @@ abbrev pub of-kind : Kind → Bool → Bool → Bool
 of-kind Tec a b = true
 of-kind Rms a b = a
 of-kind Height a b = b
-
-clash : {X : Type 0} → _≡_ {A = ℕ} 0 1 → X
-clash z = absurd (omega arith)
 
 neither : {m a b : ℕ} {X : Type 0} → ¬ (m ≡ a) → ¬ (m ≡ b) → (m ≡ a) ⊎ (m ≡ b) → X
 neither p q s = absurd (⊎-elim p q s)

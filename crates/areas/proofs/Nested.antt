@@ -9,7 +9,7 @@ use native.Mathlib.Nat.{mul-one}
 use lib.ListN.{length, replicate, take, drop, length-map}
 use lib.Seq.{take-at, drop-at, take-all, drop-drop}
 use lib.IntN.{ℤ, pos, negsuc}
-use Rattle.kit.specs.Lists.{all-append}
+use Rattle.kit.specs.ListLaws.{all-append, all-turn, all-map}
 use Rattle.kit.specs.Answer.{All, pick-yes, pick-no}
 use Rattle.mapset.specs.declared.Kind.{Kind}
 use Rattle.mapset.specs.declared.Kind.the-variants.{Tec, Rms, Height}
@@ -22,7 +22,7 @@ use Rattle.areas.specs.Formed.{Value, BlockRules, MapRules, Rising, Maps
 use Rattle.areas.specs.Stores.{has}
 use Rattle.areas.specs.Nest.{a-block, a-tec, cut, third, if-there, kept, nest}
 use Rattle.areas.specs.Valid.{values-in, Blank}
-use Rattle.areas.proofs.ListLaws.{all-turn, all-map, all-flat, chop-flat, zip-back, tab-length, tab-all}
+use Rattle.areas.proofs.ListLaws.{all-flat, chop-flat, zip-back, tab-length, tab-all}
 use Rattle.areas.proofs.KindLaws.{all-blocks, widths, slots-fit, kind-rules, kind-count, kind-exponents}
 use Rattle.areas.proofs.KeptLaws.{kept-all}
 use Rattle.areas.proofs.Needs.{marks-of, others, kind-nowhere, wanted-length, tec-rules, tec-count, tec-values, tec-exponents, all-exponents}
@@ -57,7 +57,7 @@ module _ (s : ℕ) (a b c : List ℤ) (x : length a ≡ s) (y : length b ≡ s) 
   third-height : third Height s (a ++ (b ++ c)) ≡ c
   third-height = ap (take s) (sym (drop-drop s s (a ++ (b ++ c))) ∙ ap (drop s) (drop-at a (b ++ c) s x) ∙ drop-at b c s y) ∙ take-all s c (omega arith)
 
-mark-low : (a b : Bool) → mark a b ≤ 3
+pub mark-low : (a b : Bool) → mark a b ≤ 3
 mark-low false false = omega arith
 mark-low false true = omega arith
 mark-low true false = omega arith
@@ -123,23 +123,32 @@ module _ (n B C : ℕ) (k : Kind) (o : Other k) (m : Maps) (r : Rising n B C 0 (
 -- ---- all three kinds
 
 module _ (n B C : ℕ) (m : Maps) (f : MapsRules n B C m) where
-  abbrev t0 : List ℤ
-  t0 = exponents-of (tec-blocks m)
+  abbrev tecs : List ℤ
+  tecs = exponents-of (tec-blocks m)
 
-  abbrev t1 : List ℤ
-  t1 = exponents-of (reads B C (slots n (m .rms)))
+  abbrev rmss : List ℤ
+  rmss = exponents-of (reads B C (slots n (m .rms)))
 
-  abbrev t2 : List ℤ
-  t2 = exponents-of (reads B C (slots n (m .height)))
+  abbrev heights : List ℤ
+  heights = exponents-of (reads B C (slots n (m .height)))
 
-  l0 : length t0 ≡ n * B
-  l0 = tec-exponents n B C m f
+  tecs-length : length tecs ≡ n * B
+  tecs-length = tec-exponents n B C m f
 
-  l1 : length t1 ≡ n * B
-  l1 = kind-exponents n B C 0 (m .rms) (f .rms)
+  rmss-length : length rmss ≡ n * B
+  rmss-length = kind-exponents n B C 0 (m .rms) (f .rms)
 
-  l2 : length t2 ≡ n * B
-  l2 = kind-exponents n B C 0 (m .height) (f .height)
+  heights-length : length heights ≡ n * B
+  heights-length = kind-exponents n B C 0 (m .height) (f .height)
+
+  pub tec-third : third Tec (n * B) (tecs ++ (rmss ++ heights)) ≡ tecs
+  tec-third = third-tec (n * B) tecs rmss heights tecs-length rmss-length heights-length
+
+  pub rms-third : third Rms (n * B) (tecs ++ (rmss ++ heights)) ≡ rmss
+  rms-third = third-rms (n * B) tecs rmss heights tecs-length rmss-length heights-length
+
+  pub height-third : third Height (n * B) (tecs ++ (rmss ++ heights)) ≡ heights
+  height-third = third-height (n * B) tecs rmss heights tecs-length rmss-length heights-length
 
   pub areas-sixfold : Sixfold n B C (areas-of n B C m)
   unfolding areas-of
@@ -153,8 +162,8 @@ module _ (n B C : ℕ) (m : Maps) (f : MapsRules n B C m) where
         marks = tab-length 1 n _;
         low = tab-all (λ m. m ≤ 3) 1 n _ (λ j. mark-low (there (found (m .rms) j)) (there (found (m .height) j)));
         in-values = vals;
-        in-exponents = all-append Exponent t0 (t1 ++ t2) (exponents-ok B C (tec-blocks m) (tec-rules n B C m f))
-            (all-append Exponent t1 t2 (exponents-ok B C (reads B C (slots n (m .rms))) (kind-rules n B C 0 (m .rms) (f .rms))) (exponents-ok B C (reads B C (slots n (m .height))) (kind-rules n B C 0 (m .height) (f .height))));
+        in-exponents = all-append Exponent tecs (rmss ++ heights) (exponents-ok B C (tec-blocks m) (tec-rules n B C m f))
+            (all-append Exponent rmss heights (exponents-ok B C (reads B C (slots n (m .rms))) (kind-rules n B C 0 (m .rms) (f .rms))) (exponents-ok B C (reads B C (slots n (m .height))) (kind-rules n B C 0 (m .height) (f .height))));
         no-values = no-vals;
         no-exponents = no-exps;
       }
@@ -169,19 +178,19 @@ module _ (n B C : ℕ) (m : Maps) (f : MapsRules n B C m) where
       no-vals Rms = kind-no-values n B C Rms tt m (f .rms)
       no-vals Height = kind-no-values n B C Height tt m (f .height)
 
-      no-exps : (k : Kind) → Blank k B (negsuc 0) (marks-of n m) (third k (n * B) (t0 ++ (t1 ++ t2)))
+      no-exps : (k : Kind) → Blank k B (negsuc 0) (marks-of n m) (third k (n * B) (tecs ++ (rmss ++ heights)))
       no-exps Tec = blank-tec B (negsuc 0) (marks-of n m) _
-      no-exps Rms = rw (third-rms (n * B) t0 t1 t2 l0 l1 l2) (kind-no-exponents n B C Rms tt m (f .rms))
-      no-exps Height = rw (third-height (n * B) t0 t1 t2 l0 l1 l2) (kind-no-exponents n B C Height tt m (f .height))
+      no-exps Rms = rw rms-third (kind-no-exponents n B C Rms tt m (f .rms))
+      no-exps Height = rw height-third (kind-no-exponents n B C Height tt m (f .height))
 
   pub nest-areas : nest n B C (areas-of n B C m) ≡ m
   unfolding nest areas-of
   nest-areas =
       λ i. record {
         tec = (
-            ap (λ e. zipw a-tec (map (λ t. t .epoch) (m .tec)) (cut n B C e (values-of (tec-blocks m)))) (third-tec (n * B) t0 t1 t2 l0 l1 l2)
+            ap (λ e. zipw a-tec (map (λ t. t .epoch) (m .tec)) (cut n B C e (values-of (tec-blocks m)))) tec-third
             ∙ ap (zipw a-tec (map (λ t. t .epoch) (m .tec))) (cut-back n B C (tec-blocks m) (tec-count n B C m f) (tec-rules n B C m f))
             ∙ zip-back a-tec (λ t. t .epoch) (λ t. t .blocks) (λ x. refl) (m .tec)) i;
-        rms = kind-back n B C Rms tt m (f .rms) (third Rms (n * B) (t0 ++ (t1 ++ t2))) (third-rms (n * B) t0 t1 t2 l0 l1 l2) i;
-        height = kind-back n B C Height tt m (f .height) (third Height (n * B) (t0 ++ (t1 ++ t2))) (third-height (n * B) t0 t1 t2 l0 l1 l2) i;
+        rms = kind-back n B C Rms tt m (f .rms) (third Rms (n * B) (tecs ++ (rmss ++ heights))) rms-third i;
+        height = kind-back n B C Height tt m (f .height) (third Height (n * B) (tecs ++ (rmss ++ heights))) height-third i;
       }

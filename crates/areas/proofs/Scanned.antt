@@ -12,7 +12,7 @@ use Rattle.mapset.specs.Grid.{columns}
 use Rattle.mapset.specs.MapSet.{OtherMap, MapSet}
 use Rattle.mapset.specs.Areas.{Areas, Room}
 use Rattle.layout.specs.Labels.{name, aux-end}
-use Rattle.layout.specs.Layout.{Force, maps, per-map, Writes, Slots, Mode, plain, Heads, h-description, h-comment, h-exponent, h-field, h-system, h-aux, h-skip, h-back, h-end, Rows, rows-of}
+use Rattle.layout.specs.Layout.{Force, maps, per-map, Writes, Slots, Mode, plain, Heads, h-description, h-comment, h-exponent, h-field, h-system, h-aux, h-skip, h-back, h-end, Rows, rows-of, begins}
 use Rattle.reading.specs.RecordLaws.{known-head, known-heads, known-maps, rec-label, rec-name}
 use Rattle.areas.specs.Flat.{slots, reads, values-of, wanted, areas-of, areas}
 use Rattle.areas.specs.Formed.{Rising, Formed}
@@ -45,10 +45,6 @@ some-need : (n B C : ℕ) (xs : List OtherMap) (N : ℕ) → Rising n B C 0 xs �
 some-need n B C [] N r h l = absurd (omega arith)
 some-need n B C (x ∷ xs) N r h l = omega (arith, kind-values n B C 0 (x ∷ xs) r)
 
--- behind END OF HEADER, with e in force
-abbrev pub begun : ℤ → Force
-begun e = record { exponent = e; epochs = []; rms = 0; height = 0 }
-
 module _ {m : MapSet} (f : Formed m) where
   enough : (l : Areas) → Room (m .header) (areas m .marks) l → Enough (m .header) (lengths l) (m .maps .rms) (m .maps .height)
   unfolding areas-of
@@ -58,7 +54,7 @@ module _ {m : MapSet} (f : Formed m) where
         some-need _ _ _ (m .maps .height) (length (l .height)) (f .maps .height) (rw (e .height) (r .height)),
       )
 
-  module _ {e : ℤ} {rs : List (List ℕ)} (hw : Writes (m .header) (begun e) (maps (m .maps)) rs) where
+  module _ {e : ℤ} {rs : List (List ℕ)} (hw : Writes (m .header) (begins e) (maps (m .maps)) rs) where
     told-stays : Stays m (told hw)
     told-stays l r = inside (m .header) (lengths l) hw (r .tec) (enough l r)
 
@@ -82,7 +78,7 @@ module _ {m : MapSet} (f : Formed m) where
 -- ---- where the maps begin
 
 abbrev pub Begins : MapSet → ℤ × List (List ℕ) → Type 0
-Begins m b = Writes (m .header) (begun (b .0)) (maps (m .maps)) (b .1)
+Begins m b = Writes (m .header) (begins (b .0)) (maps (m .maps)) (b .1)
 
 heads-begin : {m : MapSet} {a : Mode} {e : ℤ} {left : Slots} {rs : List (List ℕ)} → Heads m a e left rs → Begins m (body a e rs)
 unfolding body

@@ -8,6 +8,7 @@ use lib.ListN.{length, take, drop, length-drop, take-append-drop}
 use lib.Seq.{take-all, length-take-le, drop-drop}
 use lib.IntN.{ℤ, pos, negsuc}
 use Rattle.kit.specs.Answer.{All, pick, pick-yes, pick-no}
+use Rattle.kit.specs.ListLaws.{all-take, all-drop}
 use Rattle.mapset.specs.declared.Kind.{Kind}
 use Rattle.mapset.specs.declared.Kind.the-variants.{Tec, Rms, Height}
 use Rattle.mapset.specs.MapSet.{Block, OtherMap}
@@ -19,7 +20,7 @@ use Rattle.areas.specs.Formed.{Value, MapRules, Rising, MapsRules}
 use Rattle.areas.specs.Stores.{has, first-of}
 use Rattle.areas.specs.Nest.{a-tec, cut, third, if-there, kept, nest}
 use Rattle.areas.specs.Valid.{values-in, Blank}
-use Rattle.areas.proofs.ListLaws.{all-take, all-drop, zip-length, zip-left, zip-right, zip-all}
+use Rattle.areas.proofs.ListLaws.{zip-length, zip-left, zip-right, zip-all}
 use Rattle.areas.proofs.KindLaws.{reads-rules}
 use Rattle.areas.proofs.KeptLaws.{kept-rising, slots-kept}
 use Rattle.areas.proofs.Marked.{has-mark, marks-zip}

@@ -4,14 +4,12 @@ use Prim.Native.Nat.{ℕ, zero, suc, _<_}
 use native.Mathlib.Omega.{arith}
 use lib.IntN.{ℤ}
 use lib.Ieee.{Float}
+use Rattle.kit.specs.TruthLaws.{clash}
 use Rattle.nodes.specs.Value.{kind-of}
 use Rattle.asker.specs.Ask as ask
 use Rattle.asker.specs.Ask.{Question, in-unit, Guard, stop, go, Answers}
 use Rattle.delay.specs.Delay.{Told}
 use Rattle.askdelay.specs.AskDelay.{AskDelays, refuses, serves, Turned}
-
-clash : {X : Type 0} → _≡_ {A = ℕ} 0 1 → X
-clash z = absurd (omega arith)
 
 -- kilometres are no refusal
 passed : {P : Type 0} {n : ℕ} {R : ask.Told → Type 0} {v : ℤ} (a : ask.Told) → Guard P n R a → a ≡ ask.km v → P × R a

@@ -3,6 +3,7 @@ use mathlib.Core.Path.{_≡_, refl, ap, subst}
 use Prim.Native.Nat.{ℕ}
 use native.Mathlib.Omega.{arith}
 use lib.Ieee.{Float}
+use Rattle.kit.specs.TruthLaws.{clash}
 use Rattle.asker.specs.Ask as ask
 use Rattle.asker.specs.Ask.{Question, number}
 use Rattle.asker.specs.Once.{answers-once, number-once}
@@ -16,9 +17,6 @@ use Rattle.delay.specs.declared.Delayed.the-variants as D
 use Rattle.askdelay.specs.AskDelay.{AskDelays, no-delay, refuses, serves, told}
 use Rattle.askdelay.specs.declared.AskedDelay.{AskedDelay}
 use Rattle.askdelay.specs.declared.AskedDelay.the-variants as A
-
-clash : {X : Type 0} → _≡_ {A = ℕ} 0 1 → X
-clash z = absurd (omega arith)
 
 module _ (q : Question) (f : Float) where
   pub ask-delays-once : (a b : Told) → AskDelays q f a → AskDelays q f b → a ≡ b

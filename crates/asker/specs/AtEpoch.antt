@@ -22,13 +22,14 @@ use Rattle.spans.specs.Time.{epoch, NearestMap, shared, Uses, nearest, between,
 use Rattle.spans.specs.Spans.{Regular}
 use Rattle.spans.specs.TimeLaws.{nearest-last, nearest-early}
 use Rattle.nodes.specs.Value.{kind-of, value}
-use Rattle.sums.specs.Mean.{corner, corners, spread, Term, terms, Valued, or-zero, weighted, weight}
+use Rattle.sums.specs.Mean.{corners, spread, Term, terms, Valued, weighted, weight}
 use Rattle.asker.specs.Ask.{Question, Told, refused, in-unit, in-told, Guard, stop, go, Known, epochs, Served, InTime, Inside, Weighs, area, shape, asked, Rounded, Blended, Answers}
 use Rattle.asker.specs.Sun.{in-time, moved, CellAt}
 use Rattle.asker.specs.AskLaws.{in-time-small, steady}
 use Rattle.asker.specs.Once.{mean-once, weighs-once, weighs-weight}
 use Rattle.cells.specs.declared.Cell.{Cell}
 use Rattle.nodes.specs.declared.Weighed.{Weighed}
+use Rattle.nodes.specs.Nodes.{corner, or-zero}
 
 -- ---- a map's epoch is the second: its share is all
 uses-at : (es : List ℕ) → Regular es → (t method i : ℕ) → method < 2 → i < length es → epoch es i ≡ t → (g : ℕ) × ((1 ≤ g) × Uses es t method (shared i g 0))

@@ -15,10 +15,11 @@ use Rattle.mapset.specs.declared.Kind.the-variants.{Tec as tec, Rms as rms, Hei
 use Rattle.rounding.specs.Round.{rounded}
 use Rattle.rounding.specs.RoundLaws.{round-above, round-below, round-nearest, nearest-unique}
 use Rattle.nodes.specs.Value.{kind-of}
-use Rattle.sums.specs.Mean.{Term, IsSome, Valued, Mean, or-zero, weighted, weight}
+use Rattle.sums.specs.Mean.{Term, IsSome, Valued, Mean, weighted, weight}
 use Rattle.asker.specs.Ask.{Question, Told, tecu, km, refused, in-unit, stop, go, Weighs, asked, Answers}
 use Rattle.asker.specs.Once.{weighs-once, weighs-weight}
 use Rattle.nodes.specs.declared.Weighed.{Weighed}
+use Rattle.nodes.specs.Nodes.{or-zero}
 
 -- a needed node's value lies from lo to hi
 abbrev pub Bounds : ℤ → ℤ → Term → Type 0

@@ -11,11 +11,12 @@ use lib.ListN.{length, take, getD}
 use lib.Seq.{getD-take, length-take-le}
 use Rattle.kit.specs.Parts.{parts-le, abs-parts, one-zero}
 use Rattle.kit.specs.Answer.{All, pick-no}
+use Rattle.kit.specs.ListLaws.{all-append}
 use Rattle.mapset.specs.Grid.{latitudes, longitudes, layers, rows, columns}
 use Rattle.mapset.specs.Areas.{Present, Nowhere, nowhere?, blocks, values, Sound}
 use Rattle.mapset.specs.declared.Kind.{Kind}
 use Rattle.mapset.specs.declared.Kind.the-variants.{Tec as tec, Rms as rms, Height as height}
-use Rattle.mapset.specs.SoundLaws.{header-groups, few-blocks, some-nodes}
+use Rattle.mapset.specs.SoundLaws.{header-groups, few-blocks, some-nodes, marked}
 use Rattle.cells.specs.Place.{InCell}
 use Rattle.nodes.specs.Value.{kind-of, block}
 use Rattle.sums.specs.Mean.{corners, spread, terms, weight}
@@ -60,16 +61,7 @@ module _ (s : Shape) (vs ks : List ℤ) (ms : List ℕ) where
   spread-weight h c d p q p′ q′ =
       weight-append (corners (h .early) (h .map) c) (corners (h .late) (h .map + 1) d) ∙ ap₂ _+_ (corners-weight (h .early) (h .map) c p q) (corners-weight (h .late) (h .map + 1) d p′ q′)
 
-pub all-append : (P : Weighed → Type 0) (l m : List Weighed) → All P l → All P m → All P (l ++ m)
-all-append P [] m a b = b
-all-append P (n ∷ l) m a b = (a .0, all-append P l m (a .1) b)
-
 -- ---- a kind with a map that is there has its values
-marked : (k : Kind) (ms : List ℕ) (i : ℕ) → i < length ms → Present k (getD ms i 0) → ¬ Nowhere k ms
-marked k [] i h p n = omega arith
-marked k (m ∷ ms) zero h p n = n .0 p
-marked k (m ∷ ms) (suc i) h p n = marked k ms i (omega arith) p (n .1)
-
 module _ (q : Question) (s : Sound (q .header) (q .texts) (q .areas)) where
   abbrev n : ℕ
   n = q .header .times .maps

@@ -7,6 +7,7 @@ use native.Mathlib.Decide.{ℕ-discrete}
 use native.Mathlib.Omega.{arith}
 use lib.IntN.{ℤ, natAbs}
 use Rattle.kit.specs.Answer.{All}
+use Rattle.kit.specs.ListLaws.{all-append}
 use Rattle.mapset.specs.Grid.{longitudes, AxisRules, layers, columns}
 use Rattle.mapset.specs.Areas.{Sound}
 use Rattle.mapset.specs.declared.Grid.{Grid}
@@ -18,7 +19,6 @@ use Rattle.spans.specs.Time.{epoch}
 use Rattle.asker.specs.Sun.{unit-of, lon-at, CellAt, Cells}
 use Rattle.asker.specs.Ask.{Question, epochs, Served, Inside, Weighs}
 use Rattle.asker.specs.AskLaws.{unit-small, plain-unit, plain-lon}
-use Rattle.asker.specs.ReachLaws.{all-append}
 use Rattle.asker.specs.Once.{first-once, second-once}
 use Rattle.cells.specs.declared.Cell.{Cell}
 use Rattle.spans.specs.declared.Shares.{Shares}

@@ -2,8 +2,9 @@
 ghost use mathlib.Core.Path.{_≡_};
 ghost use Prim.Native.Nat.{_<_, _^_};
 ghost use lib.IntN.{natAbs};
+ghost use Rattle.kit.specs.Truth.{Says};
 ghost use Rattle.cells.specs.Found.{CellFound};
-ghost use Rattle.spans.specs.Spans.{Regular, Says};
+ghost use Rattle.spans.specs.Spans.{Regular};
 ghost use Rattle.asker.specs.Sun.{in-time, unit-of, moved, lon-at, Serves};
 ghost use Rattle.asker.specs.Turned.{CanAsk, PairFound};
 use cells::Cell;

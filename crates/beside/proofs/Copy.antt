@@ -45,10 +45,6 @@ same-at (suc n) (suc j) v z h = same-at n j v z (omega arith)
 
 -- ---- copies one behind the other
 module _ {A : Type 0} where
-  -- nothing in front
-  pub front-none : (l : List A) → l ≡ front [] l
-  front-none l = refl
-
   -- y behind x
   pub front-more : (x y l : List A) (at n : ℕ) → at ≡ length x → n ≡ length y → length x + length y ≤ length l → paste (front x l) at y n ≡ front (x ++ y) l
   front-more x y l at n p q h =

@@ -7,14 +7,14 @@ use native.Mathlib.Omega.{arith}
 use lib.ListN.{length}
 use lib.IntN.{ℤ, pos, negsuc, natAbs}
 use Rattle.kit.specs.Answer.{bind, All}
-use Rattle.kit.specs.Lists.{all-front}
-use Rattle.kit.specs.Range.{Within}
+use Rattle.kit.specs.ListLaws.{all-front}
+use Rattle.kit.specs.Range.{Within, Printable}
 use Rattle.forms.specs.Form as form
 use Rattle.forms.specs.Show.{Room}
 use Rattle.forms.specs.ShowLaws.{spells-room}
 use Rattle.mapset.specs.Header.{Written}
 use Rattle.mapset.specs.MapSet.{MapSet}
-use Rattle.layout.specs.Text.{Printable, pad}
+use Rattle.layout.specs.Text.{pad}
 use Rattle.layout.specs.Records.{Item, I, F, D, X, A, U, Vals, Fields, f-end, f-int, f-tenths, f-thousandths, f-blank, f-text, f-unread}
 use Rattle.reading.specs.Feed.{Feed}
 use Rattle.reading.specs.LineLaws.{Carries, c-row, carries, Sized, sized}

@@ -91,11 +91,9 @@ system-yields l =
 -- ---- a satellite's row and a station's
 
 pub size-satellite : size satellite-items ≡ 60
-unfolding size
 size-satellite = refl
 
 pub size-station : size station-items ≡ 60
-unfolding size
 size-station = refl
 
 pub satellite-made : {s : Satellite} {r : List ℕ} → SatelliteRow s r → satellite-of r ≡ ok s

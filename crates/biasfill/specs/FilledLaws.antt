@@ -8,7 +8,7 @@ use lib.ListN.{length, length-append}
 use lib.IntN.{ℤ}
 use lib.Seq.{sets, length-sets}
 use Rattle.kit.specs.Answer.{Answer, ok, refused, Yields, y-ok, y-no, yields, bind-yields, amap-yields, yields-map}
-use Rattle.reading.specs.Feed.{Fault, Why, on-line, Feed, over as ends, bad, row}
+use Rattle.reading.specs.Feed.{Fault, Why, on-line, Feed, over as ends, bad, row, NoRow}
 use Rattle.reading.specs.Maps.{short}
 use Rattle.biases.specs.Biases.{Biases, nothing, one-satellite, one-station}
 use Rattle.biases.specs.Read.{role, satellite-of, station-of, same-satellite?, same-station?, new-satellite, new-station, on-role, gather}
@@ -22,7 +22,7 @@ use Rattle.biases.specs.declared.Role.{Role}
 use Rattle.biases.specs.declared.Role.the-variants.{Last, Skipped, OfSatellite, OfStation}
 use Rattle.numbers.proofs.SetLaws.{sets-append, sets-front}
 use Rattle.biasscan.specs.Walk.{with-satellite, with-station}
-use Rattle.biasscan.specs.Turns.{from, NoRow, Halts, OnRow}
+use Rattle.biasscan.specs.Turns.{from, Halts, OnRow}
 use Rattle.biasfill.specs.Flat.{Lent, lent, four, three, of-satellites, of-stations, names-of, flat, in-front}
 use Rattle.biasfill.specs.Filled.{told-role, told, one, fours, threes, named, stored, Fits, past, rest, Enough, Room, Fills, Stays, left}
 use Rattle.biasfill.specs.declared.Fill.{Fill}

@@ -13,7 +13,7 @@ use Rattle.kit.specs.Truth.{truth, tells}
 use Rattle.forms.specs.Form as form
 use Rattle.forms.specs.Read.{readField}
 use Rattle.forms.specs.Columns.{columns}
-use Rattle.forms.specs.ColumnLaws.{columns-padded, columns-first}
+use Rattle.forms.specs.ColumnLaws.{columns-padded, columns-first, one-column}
 use Rattle.forms.specs.declared.Field.{Field}
 use Rattle.forms.specs.declared.Field.the-variants.{Number, Bad}
 use Rattle.forms.specs.declared.Found.{Found}
@@ -97,9 +97,6 @@ module _ (b : ℕ) where
 
   pub letter-unknown : system-letter b ≡ 0 → system-of (b ∷ []) ≡ refused (fault 7 4)
   letter-unknown e = ⊎-elim (λ h. absurd (h .0 e)) (λ h. h .1) lettered
-
-pub one-column : (line : List ℕ) (a : ℕ) → columns line a 1 ≡ getD line a 32 ∷ []
-one-column line a = columns-first line a 0 ∙ (unfold columns in refl)
 
 -- ---- the records
 

@@ -10,8 +10,8 @@ use Rattle.kit.specs.Range.{Within}
 use Rattle.reading.specs.Feed.{Why, why}
 use Rattle.reading.specs.Read.{read}
 use Rattle.needs.specs.Needs.{first-short}
+use Rattle.needs.proofs.ShortLaws.{all-long}
 use Rattle.outcome.specs.Outcome.{at-place}
-use Rattle.input.proofs.StoreLaws.{all-long}
 use Rattle.biases.specs.Biases.{Biases, nothing}
 use Rattle.biases.specs.Read.{gather, biases}
 use Rattle.biases.specs.Exact.{read-biases}

@@ -12,7 +12,7 @@ use Rattle.kit.specs.Truth.{truth, truth-true, truth-false}
 use Rattle.forms.specs.Columns.{columns}
 use Rattle.forms.specs.ColumnLaws.{columns-first}
 use Rattle.layout.specs.Text.{pad}
-use Rattle.reading.specs.Feed.{Fault, why, Feed, over, bad, row, split, feed}
+use Rattle.reading.specs.Feed.{Fault, why, Feed, over, bad, row, split, feed, NoRow}
 use Rattle.reading.specs.Maps.{short}
 use Rattle.reading.specs.LabelLaws.{label-columns}
 use Rattle.lines.specs.Leads.{LeadsRow, after-all}
@@ -26,7 +26,7 @@ use Rattle.biases.specs.declared.Role.{Role}
 use Rattle.biases.specs.declared.Role.the-variants.{Last, Skipped, OfSatellite, OfStation}
 use Rattle.biasscan.specs.Walk.{Going, going, with-satellite, with-station, after-role, after}
 use Rattle.biasscan.specs.WalkLaws.{row-after}
-use Rattle.biasscan.specs.Turns.{from, NoRow, Halts, OnRow, OnLine, Heard, heard?, Unheard, Past, Twice, Still}
+use Rattle.biasscan.specs.Turns.{from, Halts, OnRow, OnLine, Heard, heard?, Unheard, Past, Twice, Still}
 
 -- ---- no row
 

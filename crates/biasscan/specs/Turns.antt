@@ -5,7 +5,7 @@ use Prim.Native.Nat.{ℕ, suc, _+_, _-_, _≤_, _<_}
 use lib.ListN.{length, take, drop}
 use Rattle.kit.specs.Answer.{Answer, ok, refused, All}
 use Rattle.layout.specs.Text.{pad}
-use Rattle.reading.specs.Feed.{Fault, why, Feed, over, bad, row, split, feed}
+use Rattle.reading.specs.Feed.{Fault, why, Feed, over, bad, row, split, feed, NoRow}
 use Rattle.biases.specs.Biases.{Biases, SameStation}
 use Rattle.biases.specs.Read.{role, same-station?, gather}
 use Rattle.biases.specs.declared.Station.{Station}
@@ -21,12 +21,6 @@ use Rattle.biasscan.specs.declared.Looked.the-variants as Looked
 -- the rows from a line's start on, after n lines
 abbrev pub from : List ℕ → ℕ → ℕ → Feed
 from t at n = feed (suc n) (split (drop at t))
-
--- the text is over, or its next line is refused
-abbrev pub NoRow : Feed → Type 0
-NoRow (over n) = Unit {0}
-NoRow (bad w) = Unit {0}
-NoRow (row n r f) = ⊥
 
 -- no row comes: whatever was given before, it is refused so, and stays
 pub record Halts (t : List ℕ) (at n : ℕ) (p : Place) (k l c : ℕ) : Type 0 where

@@ -10,6 +10,7 @@ use lib.Seq.{drop-drop, take-at, take-all}
 use lib.IntN.{ℤ}
 use Rattle.kit.specs.Answer.{Answer, ok, refused, need, bind, amap, pick-yes}
 use Rattle.kit.specs.AnswerLaws.{amap-amap, amap-same}
+use Rattle.kit.specs.TruthLaws.{clash}
 use Rattle.forms.specs.Form.{I}
 use Rattle.forms.specs.Read.{readField}
 use Rattle.forms.specs.declared.Field.{Field}
@@ -28,7 +29,6 @@ use Rattle.values.specs.declared.Cells.the-variants.{Fine, Wrong}
 use Rattle.blocks.specs.declared.Step.{Step}
 use Rattle.blocks.specs.declared.Turn.{Turn}
 use Rattle.lines.specs.declared.Line.the-variants.{Over, Bad as BadLine}
-use Rattle.values.proofs.ValueLaws.{clash}
 
 -- ---- the values, row by row
 

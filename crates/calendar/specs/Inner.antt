@@ -9,11 +9,6 @@ use Rattle.calendar.specs.declared.Epoch.{Epoch}
 use Rattle.calendar.specs.declared.Taken.{Taken}
 use Rattle.calendar.specs.declared.Taken.the-variants as K
 
--- the test says whether P holds
-abbrev pub Decides : Bool → Type 0 → Type 0
-Decides true P = P
-Decides false P = ¬ P
-
 abbrev pub IsDate : Epoch → Type 0
 IsDate e = All Within (numbersOf e)
 

@@ -2,8 +2,9 @@ ghost use mathlib.Core.Path.{_≡_};
 ghost use Prim.Native.Nat.{_<_};
 ghost use lib.IntN.{pos};
 ghost use Rattle.kit.specs.Range.{Natural};
+ghost use Rattle.kit.specs.Truth.{Says};
 ghost use Rattle.calendar.specs.Calendar.{columnOf, DateAt, Later, end, checked, recorded, The, toldChecked, toldTaken, toldWhen, toldFound};
-ghost use Rattle.calendar.specs.Inner.{Decides, IsDate, secondOf, datedOf, Moment, clip};
+ghost use Rattle.calendar.specs.Inner.{IsDate, secondOf, datedOf, Moment, clip};
 
 // The first second after 2199.
 const END: u64 = 9467107200;
@@ -131,7 +132,7 @@ pub fn take(year: i32, month: i32, day: i32, hour: i32, minute: i32, second: i32
 
 // Whether x is one of low to high.
 fn inside(x: u32, low: u64, high: u64) -> bool
-    ensures { λ r. ⌜ Decides r (Natural low high (pos x)) ⌝ }
+    ensures { λ r. ⌜ Says r (Natural low high (pos x)) ⌝ }
 {
     let v = x as u64;
     if v < low {

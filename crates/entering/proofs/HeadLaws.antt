@@ -13,7 +13,7 @@ use Rattle.kit.specs.Answer.{same, pick-yes, pick-no}
 use Rattle.kit.specs.Truth.{tested-at}
 use Rattle.layout.specs.Text.{pad}
 use Rattle.layout.specs.Labels.{Label, version, description, comment, system, exponent, aux-start, aux-end, header-end, epoch, block, file-end, head, start, end, name, labels}
-use Rattle.layout.specs.Layout.{plain, aux}
+use Rattle.layout.specs.Layout.{plain, aux, mode}
 use Rattle.layout.specs.Names.{names, number-of}
 use Rattle.reading.specs.Fields.{label}
 use Rattle.reading.specs.LabelLaws.{label-known, label-unknown, named, aux-number}
@@ -21,7 +21,7 @@ use Rattle.areas.specs.Scan.{by-label, exponent-in}
 use Rattle.lines.specs.Lines.{Skips, Rows}
 use Rattle.lines.proofs.Parts.{skip-in, row-in}
 use Rattle.index.specs.Made.{Placed, placed-from, maps-of}
-use Rattle.entering.specs.Enter.{mode, Passes, Walks, Begins}
+use Rattle.entering.specs.Enter.{Passes, Walks, Begins}
 use Rattle.entering.specs.declared.Past.{Past}
 use Rattle.entering.specs.declared.Walk.{Walk}
 use Rattle.entering.proofs.RowsAhead.{skip-rows, row-rows, end-rows}

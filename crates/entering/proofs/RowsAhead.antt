@@ -8,13 +8,13 @@ use lib.ListN.{length, take, drop, length-append, drop-of-length-le}
 use lib.Seq.{drop-drop, length-take-le}
 use Rattle.kit.specs.Answer.{pick-no}
 use Rattle.layout.specs.Text.{Clean, pad}
-use Rattle.reading.specs.Feed.{feed, split}
+use Rattle.reading.specs.Feed.{feed, split, NoRow}
 use Rattle.lines.specs.Cuts.{Cut, cuts, Starts}
 use Rattle.lines.specs.Lines as L
 use Rattle.lines.specs.declared.Line.the-variants as line
 use Rattle.index.specs.Found.{clean?}
 use Rattle.index.specs.Made.{placed, placed-from}
-use Rattle.index.proofs.FoundLaws.{Rowless, firsts, cuts-split, first-rowless}
+use Rattle.index.proofs.FoundLaws.{firsts, cuts-split, first-rowless}
 use Rattle.index.proofs.Lines.{skipped, kept}
 
 -- no rows ahead
@@ -22,20 +22,20 @@ unclean : (a : ℕ) (l e : List ℕ) (cs : List Cut) → ¬ Clean l → placed a
 unfolding placed
 unclean a l e cs n = pick-no (clean? l) _ _ n
 
-rowless : (cs : List Cut) (a n : ℕ) → Rowless (feed n (firsts cs)) → placed a cs ≡ []
+rowless : (cs : List Cut) (a n : ℕ) → NoRow (feed n (firsts cs)) → placed a cs ≡ []
 rowless [] a n h = unfold placed in refl
 rowless (x ∷ cs) a n h =
     ⊎-elim (λ k. unclean a (x .0) (x .1) cs k) (λ k. skipped a (x .0) (x .1) cs (k .0 .0) (k .0 .1) ∙ rowless cs _ (suc n) (k .1))
     (first-rowless n (x .0) (firsts cs) h)
 
-no-rows : (t : List ℕ) (at : ℕ) → Rowless (feed 0 (split (drop at t))) → placed-from t at ≡ []
-no-rows t at h = rowless (cuts (drop at t)) at 0 (subst (λ ls. Rowless (feed 0 ls)) (sym (cuts-split (drop at t))) h)
+no-rows : (t : List ℕ) (at : ℕ) → NoRow (feed 0 (split (drop at t))) → placed-from t at ≡ []
+no-rows t at h = rowless (cuts (drop at t)) at 0 (subst (λ ls. NoRow (feed 0 ls)) (sym (cuts-split (drop at t))) h)
 
 pub over-rows : (t : List ℕ) (at : ℕ) → L.Stands (drop at t) line.Over → placed-from t at ≡ []
-over-rows t at h = no-rows t at (subst Rowless (sym (h 0)) tt)
+over-rows t at h = no-rows t at (subst NoRow (sym (h 0)) tt)
 
 pub bad-rows : (t : List ℕ) (at k c : ℕ) → L.Stands (drop at t) (line.Bad k c) → placed-from t at ≡ []
-bad-rows t at k c h = no-rows t at (subst Rowless (sym (h 0)) tt)
+bad-rows t at k c h = no-rows t at (subst NoRow (sym (h 0)) tt)
 
 pub end-rows : (t : List ℕ) (at : ℕ) → length t ≤ at → placed-from t at ≡ []
 unfolding placed cuts

@@ -7,7 +7,8 @@ use native.Mathlib.Omega.{arith}
 use lib.IntN.{ℤ, negsuc}
 use lib.ListN.{length, take, drop}
 use Rattle.kit.specs.Answer.{All, same, pick, pick-no}
-use Rattle.kit.specs.Lists.{all-front, all-behind}
+use Rattle.kit.specs.ListLaws.{all-front, all-behind}
+use Rattle.kit.specs.TruthLaws.{clash}
 use Rattle.mapset.specs.declared.Kind.{Kind}
 use Rattle.mapset.specs.declared.Kind.the-variants.{Tec, Rms, Height}
 use Rattle.layout.specs.Text.{pad}
@@ -17,12 +18,13 @@ use Rattle.reading.specs.RecordLaws.{known-maps}
 use Rattle.areas.specs.Events as event
 use Rattle.areas.specs.Scan.{Now, Turn, at-first, values-ahead, turn, brought}
 use Rattle.areas.specs.Stores.{first-of, put-exponent, put-mark, Inside}
+use Rattle.areas.proofs.ListLaws.{fill-length}
 use Rattle.lines.specs.Lines.{Skips, Rows}
 use Rattle.lines.proofs.Parts.{skip-in, row-in}
 use Rattle.index.specs.Index.{Entries, entries}
 use Rattle.index.specs.Made.{Placed, placed-from, just-rows, opened, put-starts}
 use Rattle.index.proofs.Told.{value-row, block-row}
-use Rattle.index.proofs.AsRead.{fill-length, starts-length}
+use Rattle.index.proofs.AsRead.{starts-length}
 use Rattle.events.specs.Brings.{told, tells, due, turned, Takes, first-state}
 use Rattle.events.specs.declared.State.{State}
 use Rattle.events.specs.declared.Event.{Event}
@@ -35,9 +37,6 @@ use Rattle.entering.specs.declared.Step.{Step}
 use Rattle.entering.proofs.RowsAhead.{skip-rows, row-rows, end-rows}
 
 -- ---- a row that opens a block, and any other
-
-clash : {X : Type 0} → _≡_ {A = ℕ} 0 1 → X
-clash z = absurd (omega arith)
 
 lookup-name : (ls : List Label) (s : List ℕ) (l : Label) → lookup s ls ≡ some l → s ≡ name l
 unfolding lookup pick

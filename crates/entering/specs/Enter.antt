@@ -7,7 +7,7 @@ use lib.IntN.{ℤ, negsuc}
 use lib.ListN.{length, getD, set}
 use Rattle.kit.specs.Answer.{All}
 use Rattle.mapset.specs.declared.Kind.{Kind}
-use Rattle.layout.specs.Layout.{Mode, plain, aux}
+use Rattle.layout.specs.Layout.{Mode, plain, aux, mode}
 use Rattle.areas.specs.Events as event
 use Rattle.areas.specs.Scan.{at-first, brought}
 use Rattle.areas.specs.Stores.{before, first-of, put-exponent, with-mark, put-mark, Inside, scan, fill}
@@ -22,10 +22,6 @@ use Rattle.entering.specs.declared.Walk.{Walk}
 use Rattle.entering.specs.declared.Step.{Step}
 
 -- ---- the header
-
-abbrev pub mode : Bool → Mode
-mode true = aux
-mode false = plain
 
 -- behind a row of the header: the rows behind END OF HEADER are those that follow, or are still ahead
 abbrev pub Passes : Bool → ℤ → List ℕ → Past → Type 0

@@ -12,17 +12,15 @@ use lib.IntN.{ℤ}
 use lib.Dec.{leb, eqb}
 use borrow.Author.Tests.{le-leb, leb-true, ne-eqb, eqb-true}
 use Rattle.kit.specs.Answer.{All}
+use Rattle.kit.specs.ListLaws.{all-append, all-front, all-behind}
+use Rattle.kit.specs.TruthLaws.{and-true}
 use Rattle.forms.specs.Form.{fewest, decimal, I, Digit, numeral, sign, signed, pointed, Spells}
 use Rattle.forms.specs.Read.{readField, isNumber}
 use Rattle.forms.specs.FieldLaws.{read-made, made-read}
-use Rattle.forms.specs.ShowLaws.{all-append, numeral-append, numeral-below}
+use Rattle.forms.specs.ShowLaws.{numeral-append, numeral-below}
 use Rattle.forms.specs.Bytes.{isDigit, mayPrecede, hasMinus}
 use Rattle.forms.specs.declared.Field.{Field}
 use Rattle.forms.specs.declared.Field.the-variants.{Number, Bad}
-
-pub and-true : (x y : Bool) → (x && y) ≡ true → (x ≡ true) × (y ≡ true)
-and-true true y e = (refl, e)
-and-true false y e = (e, cc)
 
 or-true : (x y : Bool) → (x || y) ≡ true → (x ≡ true) ⊎ (y ≡ true)
 or-true true y e = inl refl
@@ -136,10 +134,6 @@ module _ {minus : Bool} {ds f : List ℕ} (w : Whole minus ds f) where
 
 -- ---- what may stand before a digit
 
-pub all-parts : (xs ys : List ℕ) → All Digit (xs ++ ys) → All Digit xs × All Digit ys
-all-parts [] ys h = (tt, h)
-all-parts (x ∷ xs) ys h = let k = all-parts xs ys (h .1) in ((h .0, k .0), k .1)
-
 -- the last of a list, and what stands before it
 snoc-of : (l : List ℕ) → 0 < length l → (xs : List ℕ) × (x : ℕ) × (l ≡ xs ++ (x ∷ []))
 snoc-of [] h = absurd (omega arith)
@@ -160,7 +154,7 @@ well-lead f d e =
     r .bytes ∙ ap (λ (l : List ℕ). replicate (r .blanks) 32 ++ (sign (w .0) ++ l)) (s .2) ∙ simp append-assoc in (
       w .0,
       s .0,
-      record { blanks = r .blanks; digits = all-parts (s .0) (s .1 ∷ []) (rw (s .2) at (r .digits)) .0; bytes = before-last f _ d (s .1) b },
+      record { blanks = r .blanks; digits = all-front Digit (s .0) (s .1 ∷ []) (rw (s .2) at (r .digits)); bytes = before-last f _ d (s .1) b },
     )
 
 pub well-last : (f : List ℕ) (d : ℕ) → well (f ++ (d ∷ [])) ≡ true → Digit d
@@ -172,7 +166,7 @@ pub lead-well : {minus : Bool} {ds f : List ℕ} {d : ℕ} → Whole minus ds f 
 lead-well {minus} {ds} {f} {d} w h =
     let k : length (ds ++ (d ∷ [])) ≡ length ds + 1 = length-append ds (d ∷ []) in
     let both : Whole minus (ds ++ (d ∷ [])) (f ++ (d ∷ [])) =
-    record { blanks = w .blanks; digits = all-append ds (d ∷ []) (w .digits) (h, tt); bytes = ap (λ (l : List ℕ). l ++ (d ∷ [])) (w .bytes) ∙ simp append-assoc } in
+    record { blanks = w .blanks; digits = all-append Digit ds (d ∷ []) (w .digits) (h, tt); bytes = ap (λ (l : List ℕ). l ++ (d ∷ [])) (w .bytes) ∙ simp append-assoc } in
     whole-well both (omega arith)
 
 -- ---- a number field: such a whole, and where the form has it the point and its digits
@@ -198,7 +192,7 @@ module _ {after : ℕ} {z : ℤ} {f : List ℕ} where
         minus = p .minus;
         whole = p .ds;
         part = p .part;
-        digits = all-append (p .ds) (p .part) (w .digits) (p .digits);
+        digits = all-append Digit (p .ds) (p .part) (w .digits) (p .digits);
         enough = p .enough;
         places = p .places;
         bytes = p .bytes ∙ ap (λ (l : List ℕ). l ++ pointed (p .part)) (w .bytes) ∙ simp append-assoc;
@@ -208,15 +202,14 @@ module _ {after : ℕ} {z : ℤ} {f : List ℕ} where
 
   spells-parts : {n : ℕ} → Spells (decimal after) n z f → Parts after z f
   spells-parts s =
-      let d = all-parts (s .whole) (s .part) (s .digits) in
       record {
         minus = s .minus;
         ds = s .whole;
         front = replicate (s .blanks) 32 ++ (sign (s .minus) ++ s .whole);
         part = s .part;
-        whole = record { blanks = s .blanks; digits = d .0; bytes = refl };
+        whole = record { blanks = s .blanks; digits = all-front Digit (s .whole) (s .part) (s .digits); bytes = refl };
         enough = s .enough;
-        digits = d .1;
+        digits = all-behind Digit (s .whole) (s .part) (s .digits);
         places = s .places;
         bytes = s .bytes ∙ simp append-assoc;
         number = s .number;

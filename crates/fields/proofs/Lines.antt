@@ -9,6 +9,7 @@ use lib.Seq.{take-suc-set}
 use lib.IntN.{ℤ}
 use borrow.Author.Tests.{eq-eqb, ne-eqb}
 use Rattle.kit.specs.Answer.{All}
+use Rattle.kit.specs.ListLaws.{all-behind}
 use Rattle.forms.specs.Form.{Form, fewest, decimal, Digit, sign, pointed, Spells}
 use Rattle.forms.specs.Read.{readField}
 use Rattle.forms.specs.Columns.{columns, further, firstNotBlank}
@@ -18,7 +19,6 @@ use Rattle.forms.specs.declared.Field.{Field}
 use Rattle.forms.specs.declared.Field.the-variants.{Number, Bad}
 use Rattle.forms.specs.declared.Found.{Found}
 use Rattle.forms.specs.declared.Found.the-variants.{At, Nowhere}
-use Rattle.fields.proofs.Judged.{all-parts}
 
 -- ---- the last byte
 
@@ -39,7 +39,7 @@ ends-digit : (whole part : List ℕ) → All Digit (whole ++ part) → 0 < lengt
 ends-digit [] [] h k = absurd (omega arith)
 ends-digit [] (d ∷ ds) h k = (46, d ∷ ds, refl, last-digit d ds h)
 ends-digit (w ∷ ws) [] h k = (w, ws ++ [], refl, last-digit w (ws ++ []) h)
-ends-digit (w ∷ ws) (d ∷ ds) h k = (w, ws ++ 46 ∷ d ∷ ds, refl, rw last-append (last-digit d ds (all-parts ws (d ∷ ds) (h .1) .1)))
+ends-digit (w ∷ ws) (d ∷ ds) h k = (w, ws ++ 46 ∷ d ∷ ds, refl, rw last-append (last-digit d ds (all-behind Digit ws (d ∷ ds) (h .1))))
 
 spells-ends : {fm : Form} {w : ℕ} {z : ℤ} {f : List ℕ} → 0 < fm .least + fm .after → Spells fm w z f → Digit (last 0 f)
 spells-ends h s =

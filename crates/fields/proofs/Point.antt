@@ -13,12 +13,13 @@ use lib.IntN.{ℤ}
 use lib.Dec.{eqb}
 use borrow.Author.Tests.{eq-eqb, eqb-true}
 use Rattle.kit.specs.Answer.{All}
+use Rattle.kit.specs.TruthLaws.{and-true}
 use Rattle.forms.specs.Form.{fewest, decimal, I, Digit, numeral, signed, pointed, dot}
 use Rattle.forms.specs.Read.{readField, isNumber}
 use Rattle.forms.specs.ShowLaws.{numeral-below}
 use Rattle.forms.specs.Bytes.{hasMinus, Small}
 use Rattle.forms.specs.declared.Field.the-variants.{Number}
-use Rattle.fields.proofs.Judged.{Parts, well, well-lead, well-last, lead-well, well-digits, digits-well, whole-below, and-true, judged, judged-parts, parts-number, int-judged}
+use Rattle.fields.proofs.Judged.{Parts, well, well-lead, well-last, lead-well, well-digits, digits-well, whole-below, judged, judged-parts, parts-number, int-judged}
 use Rattle.fields.proofs.Steps.{drop-next}
 
 -- a point in front of one or more digits
@@ -29,10 +30,6 @@ point-digits (d ∷ ds) h = refl
 pub dot-most : (after : ℕ) → dot after ≤ 1
 dot-most zero = omega arith
 dot-most (suc n) = omega arith
-
--- a part that goes to the end
-pub to-end : (f : List ℕ) (p : ℕ) → take (length f - p) (drop p f) ≡ drop p f
-to-end f p = take-all (length f - p) (drop p f) (rw length-drop (omega arith))
 
 -- where the point stands
 abbrev pub pointAt : List ℕ → ℕ → ℕ

@@ -1,6 +1,6 @@
 -- One byte of a field, as the loops pass it.
 use mathlib.Core.Path.{_≡_, refl, sym, ap, _∙_}
-use mathlib.Core.Bool.{Bool, true, false, _&&_, _||_}
+use mathlib.Core.Bool.{Bool, true, false, _&&_, _||_, or-false}
 use mathlib.Core.List.{List, [], _∷_, _++_}
 use Prim.Native.Nat.{ℕ, _+_, _-_, _*_, _^_, _≤_, _<_}
 use native.Mathlib.Nat.{pow-suc, pow-le-pow-right}
@@ -9,6 +9,7 @@ use native.Mathlib.Omega.{arith}
 use lib.ListN.{length, getD, drop, drop-of-length-le}
 use lib.Seq.{drop-cons}
 use lib.Dec.{eqb}
+use Rattle.kit.specs.TruthLaws.{and-assoc}
 use Rattle.forms.specs.Form.{numeral}
 use Rattle.forms.specs.Bytes.{isDigit, mayPrecede, hasMinus}
 use Rattle.fields.proofs.Judged.{well}
@@ -24,10 +25,6 @@ drop-end f i h = drop-of-length-le f h
 or-assoc : (x y z : Bool) → (x || (y || z)) ≡ ((x || y) || z)
 or-assoc true y z = refl
 or-assoc false y z = refl
-
-or-false : (x : Bool) → (x || false) ≡ x
-or-false true = refl
-or-false false = refl
 
 module _ (f : List ℕ) (i : ℕ) (minus : Bool) where
   pub minus-next : i < length f → (minus || hasMinus (drop i f)) ≡ ((minus || eqb (getD f i 0) 45) || hasMinus (drop (i + 1) f))
@@ -53,10 +50,6 @@ tens-small n i h k =
     omega arith
 
 -- ---- neighbours
-
-and-assoc : (x y z : Bool) → (x && (y && z)) ≡ ((x && y) && z)
-and-assoc true y z = refl
-and-assoc false y z = refl
 
 module _ (f : List ℕ) (i : ℕ) (ok : Bool) where
   pub well-next : i + 1 < length f → (ok && well (drop i f)) ≡ ((ok && mayPrecede (getD f i 0) (getD f (i + 1) 0)) && well (drop (i + 1) f))

@@ -15,7 +15,7 @@ use Rattle.mapset.specs.declared.Kind.{Kind}
 use mathlib.Core.Option.{some}
 use Rattle.layout.specs.Labels.{Label}
 use Rattle.layout.specs.Records.{Cells, ValueRows, v-last, v-full}
-use Rattle.layout.specs.Layout.{Force, Left, maps, per-map, Writes, w-end, w-comment, w-exponent, w-tec, w-epoch, w-other, w-again, w-block, w-close, w-file}
+use Rattle.layout.specs.Layout.{Force, Left, maps, per-map, Writes, w-end, w-comment, w-exponent, w-tec, w-epoch, w-other, w-again, w-block, w-close, w-file, begins}
 use Rattle.reading.specs.Feed.{Feed, split, feed}
 use Rattle.reading.specs.Fields.{label}
 use Rattle.reading.specs.Maps.{on-row}
@@ -28,13 +28,11 @@ use Rattle.areas.specs.Stores.{Inside, lengths, scanned, fill, cleared, fronts}
 use Rattle.areas.specs.Scan.{Now, at-first, brought}
 use Rattle.areas.proofs.Needs.{needs}
 use Rattle.areas.proofs.Scanned.{maps-leave, maps-stay}
+use Rattle.areas.proofs.ListLaws.{fill-length}
 use Rattle.fill.specs.Rows.{rows-of, due-behind, Valued}
-use Rattle.fill.specs.Filled.{begun, Accepted, Enough}
+use Rattle.fill.specs.Filled.{Accepted, Enough}
 use Rattle.fill.proofs.FeedLaws.{rows-numbered}
 use Rattle.fill.proofs.Going.{Sized, as-long}
-
-pub fill-length : {A : Type 0} (v : A) (k : ℕ) (l : List A) → k ≤ length l → length (fill v k l) ≡ length l
-fill-length v k l h = length-append (replicate k v) (drop k l) ∙ omega (arith, length-replicate k v, length-drop k l)
 
 -- ---- the rows of an accepted text
 
@@ -81,8 +79,8 @@ renamed N s n n′ B B′ C C′ rs rs′ p q o u h = rw (p, q, o, u) at h
 
 module _ (n B C r t : ℕ) (e : ℤ) (text : List ℕ) (l : Areas) (en : Enough n B C r t l) (m : MapSet) (a : Accepted n B C r t e text m) where
   -- the rows, and that they are written
-  made : (rs : List (List ℕ)) × Carries (feed (a .line) (split text)) rs × Writes (m .header) (begun e) (maps (m .maps)) rs
-  made = wrote-rows (yields _ (written (m .header) (feed (a .line) (split text)) (sized (a .line) (split text)) Between (begun e) 0) (a .read))
+  made : (rs : List (List ℕ)) × Carries (feed (a .line) (split text)) rs × Writes (m .header) (begins e) (maps (m .maps)) rs
+  made = wrote-rows (yields _ (written (m .header) (feed (a .line) (split text)) (sized (a .line) (split text)) Between (begins e) 0) (a .read))
 
   abbrev rows : List (List ℕ)
   rows = rows-of (feed 1 (split text))

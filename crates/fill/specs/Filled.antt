@@ -8,17 +8,13 @@ use Rattle.kit.specs.Answer.{ok}
 use Rattle.mapset.specs.Grid.{columns}
 use Rattle.mapset.specs.MapSet.{MapSet}
 use Rattle.mapset.specs.Areas.{Areas}
-use Rattle.layout.specs.Layout.{Force, per-map}
+use Rattle.layout.specs.Layout.{Force, per-map, begins}
 use Rattle.reading.specs.Feed.{split, feed}
 use Rattle.reading.specs.Maps.{run}
 use Rattle.reading.specs.declared.Place.the-variants.{Between}
 use Rattle.areas.specs.Flat.{areas}
 use Rattle.areas.specs.Formed.{Formed}
 use Rattle.areas.specs.Stores.{fronts}
-
--- behind END OF HEADER, with e in force
-abbrev pub begun : ℤ → Force
-begun e = record { exponent = e; epochs = []; rms = 0; height = 0 }
 
 -- with e in force, the text from END OF HEADER on is read as the maps of m: n of B blocks of C values. Its RMS and height values need r and t elements
 pub record Accepted (n B C r t : ℕ) (e : ℤ) (text : List ℕ) (m : MapSet) : Type 0 where
@@ -27,7 +23,7 @@ pub record Accepted (n B C r t : ℕ) (e : ℤ) (text : List ℕ) (m : MapSet) :
   pub blocks : per-map (m .header) ≡ B
   pub columns : columns (m .header .grid) ≡ C
   pub line : ℕ
-  pub read : run (m .header) Between (begun e) 0 (feed line (split text)) ≡ ok ([], m .maps)
+  pub read : run (m .header) Between (begins e) 0 (feed line (split text)) ≡ ok ([], m .maps)
   pub rms : length (areas m .rms) ≡ r
   pub height : length (areas m .height) ≡ t
 

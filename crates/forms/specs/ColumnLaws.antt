@@ -9,6 +9,7 @@ use lib.Seq.{drop-cons, take-suc, getD-drop, drop-append-le, take-append-le}
 use lib.Dec.{eqb}
 use borrow.Author.Tests.{eq-eqb, eqb-true, eqb-false}
 use Rattle.kit.specs.Answer.{All}
+use Rattle.kit.specs.TruthLaws.{clash}
 use Rattle.forms.specs.Columns.{columns, Blank, further, firstNotBlank}
 use Rattle.forms.specs.declared.Found.{Found}
 use Rattle.forms.specs.declared.Found.the-variants.{At, Nowhere}
@@ -68,10 +69,10 @@ module _ (line : List ℕ) (a n : ℕ) where
       let k : n < length (drop a l) = simp length-drop (omega arith) in
       take-suc (drop a l) n 0 k ∙ ap₂ (λ (x : List ℕ) (b : ℕ). x ++ (b ∷ [])) (padded line a n (a + suc n) (a + n) (omega arith) (omega arith)) (getD-drop a l n 0 ∙ column line (a + n) (a + suc n) (omega arith))
 
--- ---- the first byte that is no blank
+pub one-column : (line : List ℕ) (a : ℕ) → columns line a 1 ≡ getD line a 32 ∷ []
+one-column line a = columns-first line a 0 ∙ (unfold columns in refl)
 
-clash : {X : Type 0} → _≡_ {A = ℕ} 0 1 → X
-clash z = absurd (omega arith)
+-- ---- the first byte that is no blank
 
 pub blank-none : (l : List ℕ) → All Blank l → firstNotBlank l ≡ Nowhere
 unfolding firstNotBlank

@@ -9,15 +9,12 @@ use lib.ListN.{length, take, drop, replicate, length-append, length-drop, length
 use lib.Seq.{length-take-le, drop-at}
 use lib.IntN.{ℤ, pos, negsuc, natAbs}
 use Rattle.kit.specs.Answer.{All}
+use Rattle.kit.specs.ListLaws.{all-append}
 use Rattle.forms.specs.Form.{Form, F1, W1, Digit, numeral, sign, signed, dot, Spells}
 use Rattle.forms.specs.Show.{isMinus, figures, digits, withPoint, aligned, showField, digitColumns, Room}
 use Rattle.forms.specs.FieldLaws.{pointed-length}
 
 -- ---- digits and the number that they make
-
-pub all-append : (xs ys : List ℕ) → All Digit xs → All Digit ys → All Digit (xs ++ ys)
-all-append [] ys h k = k
-all-append (x ∷ xs) ys h k = (h .0, all-append xs ys (h .1) k)
 
 pub numeral-append : (a : ℕ) (xs ys : List ℕ) → numeral a (xs ++ ys) ≡ numeral (numeral a xs) ys
 numeral-append a [] ys = refl
@@ -33,12 +30,21 @@ numeral-below a b (d ∷ ds) h l =
 figures-all : (k n : ℕ) → All Digit (figures k n)
 figures-all zero n = tt
 figures-all (suc k) zero = tt
-figures-all (suc k) (suc n) = all-append (figures k (suc n / 10)) _ (figures-all k (suc n / 10)) (omega arith, tt)
+figures-all (suc k) (suc n) = all-append Digit (figures k (suc n / 10)) _ (figures-all k (suc n / 10)) (omega arith, tt)
 
 figures-number : (k n : ℕ) → n ≤ k → numeral 0 (figures k n) ≡ n
 figures-number zero n h = omega arith
 figures-number (suc k) zero h = refl
 figures-number (suc k) (suc n) h = rw numeral-append (omega (arith, figures-number k (suc n / 10) (omega arith)))
+
+pub figures-enough : (j k n : ℕ) → n ≤ j → n ≤ k → figures j n ≡ figures k n
+figures-enough zero zero n h g = refl
+figures-enough zero (suc k) zero h g = refl
+figures-enough zero (suc k) (suc n) h g = absurd (omega arith)
+figures-enough (suc j) zero zero h g = refl
+figures-enough (suc j) zero (suc n) h g = absurd (omega arith)
+figures-enough (suc j) (suc k) zero h g = refl
+figures-enough (suc j) (suc k) (suc n) h g = rw (figures-enough j k (suc n / 10) (omega arith) (omega arith))
 
 figures-length : (k n d : ℕ) → n < 10 ^ d → length (figures k n) ≤ d
 figures-length zero n d h = omega arith
@@ -59,7 +65,7 @@ zeros-number (suc k) = zeros-number k
 module _ (k n : ℕ) where
   digits-all : All Digit (digits k n)
   unfolding digits
-  digits-all = all-append (replicate (k - length (figures n n)) 48) (figures n n) (zeros-all (k - length (figures n n))) (figures-all n n)
+  digits-all = all-append Digit (replicate (k - length (figures n n)) 48) (figures n n) (zeros-all (k - length (figures n n))) (figures-all n n)
 
   digits-number : numeral 0 (digits k n) ≡ n
   unfolding digits

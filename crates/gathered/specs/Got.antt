@@ -11,7 +11,7 @@ use Rattle.mapset.specs.declared.Header.{Header}
 use Rattle.mapset.specs.declared.Texts.{Texts}
 use Rattle.mapset.specs.Header.{Content, count, tenths, epoch, axis, program, mapping, observables, system, Said, words, if-stands}
 use Rattle.layout.specs.Labels.{content}
-use Rattle.layout.specs.Layout.{Slots, Mode, plain, aux}
+use Rattle.layout.specs.Layout.{Slots, Mode, plain, aux, mode}
 use Rattle.reading.specs.Feed.{Fault, fault}
 use Rattle.reading.specs.Head.{Turn, more, done, axis-of, made, made-texts, head-step}
 use Rattle.records.specs.Records.{says}
@@ -60,10 +60,6 @@ abbrev pub texts-of : State → Texts
 texts-of s = record { program = s .program; agency = s .agency; date = s .date; mapping = s .mapping; observables = s .observables }
 
 -- ---- what a line does
-
-abbrev pub mode : Bool → Mode
-mode true = aux
-mode false = plain
 
 -- on with the header; or END OF HEADER, with the header record and its texts
 pub data Went : Type 0 where

@@ -13,12 +13,13 @@ use Rattle.mapset.specs.Grid.{heights, latitudes, longitudes, AxisRules, Limits
 use Rattle.mapset.specs.Header.{Dimension}
 use Rattle.mapset.specs.MapSet.{MapSet}
 use Rattle.layout.specs.Text.{pad}
+use Rattle.layout.specs.Layout.{mode}
 use Rattle.reading.specs.Feed.{Why, why, over, bad, row, split, feed}
 use Rattle.reading.specs.Maps.{run}
 use Rattle.reading.specs.Head.{heading}
 use Rattle.reading.specs.HeadLaws.{Got}
 use Rattle.reading.specs.declared.Place.the-variants.{Between}
-use Rattle.gathered.specs.Got.{slots-of, texts-of, mode}
+use Rattle.gathered.specs.Got.{slots-of, texts-of}
 use Rattle.gathered.specs.declared.State.{State}
 use Rattle.gathered.specs.declared.Next.{Next}
 use Rattle.gathered.specs.declared.Next.the-variants as Next

@@ -11,7 +11,7 @@ use lib.ListN.{length, getD, take, drop}
 use lib.Seq.{drop-drop}
 use lib.IntN.{ℤ, negsuc}
 use Rattle.kit.specs.Answer.{Answer, ok, refused, bind, amap, pick, yields}
-use Rattle.kit.specs.Range.{Within}
+use Rattle.kit.specs.Range.{Within, Printable}
 use Rattle.mapset.specs.declared.Version.{Version}
 use Rattle.mapset.specs.declared.Header.{Header}
 use Rattle.mapset.specs.declared.Texts.{Texts}
@@ -19,8 +19,9 @@ use Rattle.mapset.specs.MapSet.{MapSet}
 use Rattle.mapset.specs.Grid.{Line, AxisRules}
 use Rattle.mapset.specs.Header.{count, axis, Said, a-count, a-axis, starred}
 use Rattle.layout.specs.Text.{pad, Printable}
-use Rattle.layout.specs.Layout.{Slots, Mode, plain}
+use Rattle.layout.specs.Layout.{Slots, Mode, plain, mode}
 use Rattle.lines.specs.Leads.{LeadsRow, after-all}
+use Rattle.lines.specs.Lines.{Skips, Rows}
 use Rattle.reading.specs.Feed.{Fault, fault, Why, why, on-line, Feed, over, bad, row, split, feed}
 use Rattle.reading.specs.LineLaws.{Sized, sized}
 use Rattle.reading.specs.Maps.{short, run}
@@ -29,7 +30,7 @@ use Rattle.reading.specs.Head.{Turn, more, done, number-in, axis-in, made, made
 use Rattle.reading.specs.SlotLaws.{Fit, fit-no, fit, fit-none, complete-at}
 use Rattle.reading.specs.Read.{nothing-yet, version-of, begin, read}
 use Rattle.reading.specs.HeadLaws.{Got, Ends, fine-step}
-use Rattle.gathered.specs.Got.{slots-of, texts-of, mode, Went, went, ended, gone, toldNext, stepped}
+use Rattle.gathered.specs.Got.{slots-of, texts-of, Went, went, ended, gone, toldNext, stepped}
 use Rattle.head.specs.Opened.{HeaderFits, Sound, opened, Goes, Stops, Passes, onward, beside, Opens}
 use Rattle.gathered.specs.declared.State.{State}
 use Rattle.gathered.specs.declared.Next.{Next}

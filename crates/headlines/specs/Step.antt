@@ -11,13 +11,13 @@ use Rattle.mapset.specs.declared.Version.{Version}
 use Rattle.mapset.specs.Header.{system as a-system, starred, Said}
 use Rattle.mapset.specs.Decisions.{dimension?, limits?}
 use Rattle.layout.specs.Labels.{exponent, content, letters}
-use Rattle.layout.specs.Layout.{Slots, plain, aux}
+use Rattle.layout.specs.Layout.{Slots, plain, aux, mode}
 use Rattle.reading.specs.Feed.{Fault, fault}
 use Rattle.reading.specs.Fields.{fields}
 use Rattle.reading.specs.Maps.{missing, exponent?}
 use Rattle.reading.specs.Head.{place, none?, complete?, made, made-texts, on-end}
 use Rattle.records.specs.Records.{system-in, entry}
-use Rattle.gathered.specs.Got.{slots-of, mode, Went, went, ended, gone, kept}
+use Rattle.gathered.specs.Got.{slots-of, Went, went, ended, gone, kept}
 use Rattle.gathered.specs.declared.State.{State}
 
 -- END OF HEADER with its columns blank: 9, 8, 7

@@ -18,7 +18,7 @@ use Rattle.mapset.specs.Header.{Content, system as a-system, starred, Said, Dim
 use Rattle.mapset.specs.Decisions.{dimension?, limits?}
 use Rattle.layout.specs.Text.{pad}
 use Rattle.layout.specs.Labels.{Label, version, description, comment, system, exponent, aux-start, aux-end, header-end, epoch, block, file-end, head, start, end, name, labels, content, letters}
-use Rattle.layout.specs.Layout.{Slots, plain, aux}
+use Rattle.layout.specs.Layout.{Slots, plain, aux, mode}
 use Rattle.layout.specs.Names.{names, number-of}
 use Rattle.reading.specs.Feed.{Fault, fault}
 use Rattle.reading.specs.Fields.{scan, fields}
@@ -27,7 +27,7 @@ use Rattle.reading.specs.Maps.{missing, exponent?}
 use Rattle.reading.specs.Head.{more, done, place, none?, Complete, complete?, made, once, on-system, on-end, at-head, head-step}
 use Rattle.reading.specs.ScanLaws.{unless, blank-to}
 use Rattle.records.specs.Records.{system-in, entry}
-use Rattle.gathered.specs.Got.{said, slot, slots-of, texts-of, mode, went, ended, gone, kept, stepped}
+use Rattle.gathered.specs.Got.{said, slot, slots-of, texts-of, went, ended, gone, kept, stepped}
 use Rattle.records.specs.Tables.{action, place-at}
 use Rattle.records.specs.RecordLaws.{blank-says, bind-amap, bind-same}
 use Rattle.gathered.specs.GotLaws.{stands, is-missing, texts-got}

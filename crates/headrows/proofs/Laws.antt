@@ -11,13 +11,10 @@ use Rattle.forms.specs.Show.{showField}
 use Rattle.forms.specs.ShowLaws.{show-width}
 use Rattle.mapset.specs.declared.Version.{Version}
 use Rattle.layout.specs.Labels.{codes, bytes, name, version}
-use Rattle.layout.proofs.Laws.{every-at}
+use Rattle.layout.proofs.Laws.{code-length}
 use Rattle.writer.specs.Canon.{columns-of, version-row}
 use Rattle.rowtext.proofs.RowLaws.{field-next, longer}
 use Rattle.headrows.specs.HeadRows.{eight, twenties, four, sixty, letter-counts}
-
-pub code-length : (k : ℕ) → k < 11 → length (getD codes k []) ≡ 3
-code-length k h = eqb→eq _ _ (every-at (λ (l : List ℕ). eqb (length l) 3) codes tt k h)
 
 -- a text of w bytes takes w of the blanks behind p
 text-next : (p x n row row′ : List ℕ) (a w m : ℕ) → length x ≡ w → length p ≡ a → row ≡ p ++ (replicate (w + m) 32 ++ n)

@@ -25,11 +25,12 @@ use Rattle.areas.specs.Events as event
 use Rattle.areas.specs.Events.{Event, told}
 use Rattle.areas.specs.Stores.{before, place, first-of, put-values, put-exponent, Inside as Stored, scan, scanned, fill, cleared, fronts as all-fronts, lengths}
 use Rattle.areas.specs.Scan.{body, events}
-use Rattle.areas.proofs.ListLaws.{tab-length, tab-all}
+use Rattle.areas.proofs.ListLaws.{tab-length, tab-all, fill-length}
 use Rattle.areas.proofs.Needs.{needs, present-bit}
 use Rattle.areas.proofs.Made.{rows-formed}
 use Rattle.areas.proofs.ScanRows.{at-maps, brings-told}
-use Rattle.areas.proofs.Scanned.{begun, rows-begin, scan-leaves, scan-stays}
+use Rattle.areas.proofs.Scanned.{rows-begin, scan-leaves, scan-stays}
+use Rattle.areas.proofs.Nested.{mark-low}
 use Rattle.index.specs.Stands.{Stands}
 use Rattle.index.specs.Index.{Index, Fit, Node, Inside, Entries, index, done, entry, block-in, number-in, exponent-in, given, go, position, exponent, Pointed, Replies}
 use Rattle.nodes.specs.Value.{kind-of}
@@ -45,9 +46,6 @@ use Rattle.index.proofs.Cover.{Among, cover}
 front-self : {A : Type 0} (l : List A) → front l l ≡ l
 front-self l = ap (λ r. l ++ r) (drop-length l) ∙ append-nil l
 
-pub fill-length : {A : Type 0} (v : A) (k : ℕ) (l : List A) → k ≤ length l → length (fill v k l) ≡ length l
-fill-length v k l h = simp (length-append, length-replicate, length-drop) (omega arith)
-
 pub starts-length : (n B : ℕ) (es : List Event) (os l : List ℕ) → length (put-starts n B es os l) ≡ length l
 starts-length n B [] os l = refl
 starts-length n B (event.epoch i e ∷ es) os l = starts-length n B es os l
@@ -59,12 +57,6 @@ tab-at : {A : Type 0} (i k j : ℕ) (f : ℕ → A) (d : A) → j < k → getD (
 tab-at i zero j f d h = absurd (omega arith)
 tab-at i (suc k) zero f d h = ap f (omega arith)
 tab-at i (suc k) (suc j) f d h = let e : suc i + j ≡ i + suc j = omega arith in tab-at (suc i) k j f d (omega arith) ∙ ap f e
-
-mark-small : (a b : Bool) → mark a b ≤ 3
-mark-small true true = omega arith
-mark-small true false = omega arith
-mark-small false true = omega arith
-mark-small false false = omega arith
 
 -- ---- the index of a text's rows
 
@@ -181,7 +173,7 @@ module _ {m : MapSet} {rs : List (List ℕ)} (r : Rows m rs) (t : List ℕ) wher
 
   small : All (λ c. c ≤ 3) (areas m .marks)
   unfolding areas-of
-  small = tab-all (λ c. c ≤ 3) 1 (h .times .maps) _ (λ i. mark-small (there (found (m .maps .rms) i)) (there (found (m .maps .height) i)))
+  small = tab-all (λ c. c ≤ 3) 1 (h .times .maps) _ (λ i. mark-low (there (found (m .maps .rms) i)) (there (found (m .maps .height) i)))
 
   module _ (l : Entries) where
     abbrev made : Index

@@ -5,13 +5,14 @@ use Prim.Native.Nat.{ℕ}
 use native.Mathlib.Omega.{arith}
 use native.Mathlib.Decide.{ℕ-discrete}
 use Rattle.kit.specs.Answer.{All, ×-dec, pick, pick-yes, pick-no, pick-elim}
-use Rattle.kit.specs.Range.{Within}
+use Rattle.kit.specs.Range.{Within, Printable}
 use Rattle.forms.specs.Columns.{Blank}
-use Rattle.layout.specs.Text.{Printable, Clean}
+use Rattle.layout.specs.Text.{Clean}
 use Rattle.reading.specs.Feed.{Opens, opens?}
 use Rattle.index.specs.Stands as at
 use Rattle.index.specs.Stands.{Over, Eol}
 use Rattle.lines.specs.Cuts.{Cut, with-byte, with-cr, cuts}
+use Rattle.lines.proofs.Firsts.{cuts-lf, cuts-crlf}
 
 -- ---- a clean line and its end
 
@@ -19,14 +20,6 @@ cuts-front : (b : ℕ) (t : List ℕ) → Within 32 126 b → cuts (b ∷ t) ≡
 unfolding cuts
 cuts-front b t p =
     pick-no (ℕ-discrete b 10) _ _ (λ e. omega arith) ∙ pick-no (×-dec (ℕ-discrete b 13) (opens? 10 t)) _ _ (λ h. let e = h .0 in omega arith)
-
-cuts-lf : (u : List ℕ) → cuts (10 ∷ u) ≡ ([], 10 ∷ []) ∷ cuts u
-unfolding cuts pick ℕ-discrete
-cuts-lf u = refl
-
-cuts-crlf : (u : List ℕ) → cuts (13 ∷ 10 ∷ u) ≡ ([], 13 ∷ 10 ∷ []) ∷ cuts u
-unfolding cuts pick ℕ-discrete ×-dec opens?
-cuts-crlf u = refl
 
 cuts-eol : {e : List ℕ} (u : List ℕ) → Eol e → cuts (e ++ u) ≡ ([], e) ∷ cuts u
 cuts-eol u at.lf = cuts-lf u

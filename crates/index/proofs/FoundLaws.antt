@@ -17,12 +17,11 @@ use Rattle.layout.specs.Text.{Clean, pad}
 use Rattle.layout.specs.Records.{Vals, Cells, ValueRows, v-last, v-full}
 use Rattle.layout.specs.Labels.{name, block, layout, Rec}
 use Rattle.layout.specs.Layout.{Opens}
-use Rattle.reading.specs.Feed.{Fault, Feed, over, bad, row, front, opens?, split, feed}
+use Rattle.reading.specs.Feed.{Fault, Feed, over, bad, row, front, opens?, split, feed, NoRow}
 use Rattle.reading.specs.Fields.{fields, cells}
 use Rattle.reading.specs.Maps.{on-row}
 use Rattle.reading.specs.RecordLaws.{blank-spaces, rec-name, rec-fields, named-rec, cells-of, cells-yields}
-use Rattle.areas.proofs.ListLaws.{all-drop}
-use Rattle.kit.specs.Lists.{all-append}
+use Rattle.kit.specs.ListLaws.{all-append, all-drop}
 use Rattle.index.specs.Stands as at
 use Rattle.index.specs.Stands.{Over, Eol, Blanks, Shown, Stands}
 use Rattle.index.specs.Found.{clean?, blank?, agrees?, Found, in-front, on-ok, values-at, block-at}
@@ -59,11 +58,6 @@ module _ (c : ℕ) (l e : List ℕ) (cs : List Cut) (k : Clean l) where
 
 -- ---- no row, no values
 
-abbrev pub Rowless : Feed → Type 0
-Rowless (over n) = Unit {0}
-Rowless (bad w) = Unit {0}
-Rowless (row n r f) = ⊥
-
 abbrev pub firsts : List Cut → List (List ℕ)
 firsts [] = []
 firsts (c ∷ cs) = c .0 ∷ firsts cs
@@ -91,12 +85,12 @@ cuts-split [] = refl
 cuts-split (b ∷ t) = split-by (ℕ-discrete b 10) (×-dec (ℕ-discrete b 13) (opens? 10 t)) b (cuts t) (split t) (cuts-split t)
 
 -- a line by itself: not clean, blank, or a row of the feed
-pub first-rowless : (n : ℕ) (l : List ℕ) (ls : List (List ℕ)) → Rowless (feed n (l ∷ ls)) → (¬ Clean l) ⊎ ((Clean l × All Blank l) × Rowless (feed (suc n) ls))
+pub first-rowless : (n : ℕ) (l : List ℕ) (ls : List (List ℕ)) → NoRow (feed n (l ∷ ls)) → (¬ Clean l) ⊎ ((Clean l × All Blank l) × NoRow (feed (suc n) ls))
 unfolding feed
 first-rowless n l ls =
-    pick-elim (λ f. Rowless f → (¬ Clean l) ⊎ ((Clean l × All Blank l) × Rowless (feed (suc n) ls))) (decLe (length l) 80)
-    (λ s. pick-elim (λ f. Rowless f → (¬ Clean l) ⊎ ((Clean l × All Blank l) × Rowless (feed (suc n) ls))) (all-dec (within? 32 126) l)
-    (λ p. pick-elim (λ f. Rowless f → (¬ Clean l) ⊎ ((Clean l × All Blank l) × Rowless (feed (suc n) ls))) (all-dec (λ b. ℕ-discrete b 32) l)
+    pick-elim (λ f. NoRow f → (¬ Clean l) ⊎ ((Clean l × All Blank l) × NoRow (feed (suc n) ls))) (decLe (length l) 80)
+    (λ s. pick-elim (λ f. NoRow f → (¬ Clean l) ⊎ ((Clean l × All Blank l) × NoRow (feed (suc n) ls))) (all-dec (within? 32 126) l)
+    (λ p. pick-elim (λ f. NoRow f → (¬ Clean l) ⊎ ((Clean l × All Blank l) × NoRow (feed (suc n) ls))) (all-dec (λ b. ℕ-discrete b 32) l)
     (λ b h. inr (((s, p), b), h)) (λ b h. absurd h))
     (λ p h. inl (λ k. p (k .1))))
     (λ s h. inl (λ k. s (k .0)))
@@ -105,14 +99,14 @@ unclean : (c : ℕ) (l e : List ℕ) (cs : List Cut) → ¬ Clean l → values-a
 unfolding values-at
 unclean c l e cs n = pick-no (clean? l) _ _ n
 
-values-rowless : (c n : ℕ) (cs : List Cut) → Rowless (feed n (firsts cs)) → values-at c cs ≡ none
+values-rowless : (c n : ℕ) (cs : List Cut) → NoRow (feed n (firsts cs)) → values-at c cs ≡ none
 values-rowless c n [] h = unfold values-at in refl
 values-rowless c n (x ∷ cs) h =
     ⊎-elim (λ k. unclean c (x .0) (x .1) cs k) (λ k. skip-line c (x .0) (x .1) cs (k .0 .0) (k .0 .1) ∙ ap (in-front [] (x .0 ++ x .1)) (values-rowless c (suc n) cs (k .1)))
     (first-rowless n (x .0) (firsts cs) h)
 
-pub no-values-ahead : (c n : ℕ) (u : List ℕ) → Rowless (feed n (split u)) → values-at c (cuts u) ≡ none
-no-values-ahead c n u h = values-rowless c n (cuts u) (subst (λ ls. Rowless (feed n ls)) (sym (cuts-split u)) h)
+pub no-values-ahead : (c n : ℕ) (u : List ℕ) → NoRow (feed n (split u)) → values-at c (cuts u) ≡ none
+no-values-ahead c n u h = values-rowless c n (cuts u) (subst (λ ls. NoRow (feed n ls)) (sym (cuts-split u)) h)
 
 -- ---- what stands is found
 

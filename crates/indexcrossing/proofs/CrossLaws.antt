@@ -24,6 +24,7 @@ use Rattle.outcome.specs.declared.ReadOut.{ReadOut}
 use Rattle.crossing.specs.Own.{too-short}
 use Rattle.crossing.proofs.OwnLaws.{unless-none, unless-short}
 use Rattle.crossing.specs.ReadExported.{told-header, told-texts, Small}
+use Rattle.crossing.proofs.ReadLaws.{in-years}
 use Rattle.index.specs.Index as index
 use Rattle.index.specs.Index.{Entries}
 use Rattle.pointed.specs.Told as pointed
@@ -55,9 +56,6 @@ ordered t (reply.Given z e a b) i = i .0
 ordered t (reply.Refused w) i = tt
 
 -- ---- the epochs of an accepted header are small
-
-in-years : (m : MapSet) → Formed m → (m .header .times .first < 9223372036854775808) × (m .header .times .last < 9223372036854775808)
-in-years m f = let g = header-groups (m .header) (m .texts) (f .header) .1 .1 .0 in (omega (arith, g .0), omega (arith, g .1 .0))
 
 roomy : (m : MapSet) (t : List ℕ) (l : Entries) (s : Option (ℕ × ℕ)) {h : Header} → with-room m t l s .told ≡ accepted h → m .header ≡ h
 unfolding with-room

@@ -11,12 +11,14 @@ use lib.IntN.{ℤ, pos}
 use lib.ListN.{length, getD, take, drop, length-drop, length-append, length-replicate, List·getD-append}
 use lib.Seq.{drop-drop, take-nil, take-take, take-add, length-take-le, getD-append-add}
 use Rattle.kit.specs.Answer.{Answer, ok, refused, pick, amap, pick-yes, pick-no, yields}
+use Rattle.kit.specs.TruthLaws.{clash}
+use Rattle.kit.specs.ListLaws.{drop-take}
 use Rattle.forms.specs.Form.{I}
 use Rattle.forms.specs.Read.{readField, isNumber}
 use Rattle.forms.specs.declared.Field.{Field}
 use Rattle.forms.specs.declared.Field.the-variants.{Number, Bad}
 use Rattle.layout.specs.Text.{pad}
-use Rattle.reading.specs.Feed.{Fault, fault, why, feed, split, over, bad}
+use Rattle.reading.specs.Feed.{Fault, fault, why, feed, split, over, bad, NoRow}
 use Rattle.reading.specs.Fields.{cells, number}
 use Rattle.reading.specs.Maps.{on-row}
 use Rattle.reading.specs.RecordLaws.{cells-yields}
@@ -28,12 +30,9 @@ use Rattle.values.specs.declared.Cells.{Cells}
 use Rattle.values.specs.declared.Cells.the-variants.{Fine, Wrong}
 use Rattle.values.proofs.ValueLaws.{field-of, field-short, field-whole}
 use Rattle.index.specs.Found.{Found, in-front, values-at}
-use Rattle.index.proofs.FoundLaws.{in-front-none, in-front-twice, skip-line, row-line, wrong-line, Rowless, no-values-ahead}
+use Rattle.index.proofs.FoundLaws.{in-front-none, in-front-twice, skip-line, row-line, wrong-line, no-values-ahead}
 use Rattle.indexed.specs.Hits.{between, values-from, Skips, Holds, Stepped, spot-of, Reads, At}
 use Rattle.indexed.specs.declared.Step.{Step}
-
-clash : {X : Type 0} → _≡_ {A = ℕ} 0 1 → X
-clash z = absurd (omega arith)
 
 -- ---- a field of a row
 
@@ -48,10 +47,10 @@ room l k e = by (decLe (k * 5 + 5) (length l))
 
 module _ (t : List ℕ) (at c : ℕ) (inside : at ≤ length t) where
   pub at-over : L.Stands (drop at t) line.Over → values-from t at c ≡ none
-  at-over h = no-values-ahead c 0 (drop at t) (subst Rowless (sym (h 0)) tt)
+  at-over h = no-values-ahead c 0 (drop at t) (subst NoRow (sym (h 0)) tt)
 
   pub at-bad : (k col : ℕ) → L.Stands (drop at t) (line.Bad k col) → values-from t at c ≡ none
-  at-bad k col h = no-values-ahead c 0 (drop at t) (subst Rowless (sym (h 0)) tt)
+  at-bad k col h = no-values-ahead c 0 (drop at t) (subst NoRow (sym (h 0)) tt)
 
   -- where the next line starts
   onward : (next : ℕ) → next ≤ length (drop at t) → at + next ≤ length t
@@ -107,12 +106,6 @@ module _ (t : List ℕ) (at c : ℕ) (inside : at ≤ length t) where
 padded : (l : List ℕ) → length l ≤ 80 → length (pad l) ≡ 80
 unfolding pad
 padded l k = simp (length-append, length-replicate) (omega arith)
-
-drop-take : {A : Type 0} (k n : ℕ) (l : List A) → drop k (take n l) ≡ take (n - k) (drop k l)
-drop-take zero n l = let e : n - 0 ≡ n = omega arith in ap (λ j. take j l) (sym e)
-drop-take (suc k) zero l = let e : 0 - suc k ≡ 0 = omega arith in ap (λ j. take j (drop (suc k) l)) (sym e)
-drop-take (suc k) (suc n) [] = sym (take-nil (suc n - suc k))
-drop-take (suc k) (suc n) (x ∷ l) = let e : suc n - suc k ≡ n - k = omega arith in drop-take k n l ∙ ap (λ j. take j (drop k l)) (sym e)
 
 module _ (c m : ℕ) (bs : List ℕ) (zs : List ℤ) (z : ℤ) where
   tail-of : (x : Answer Fault (List ℤ)) → amap (λ zs. z ∷ zs) x ≡ ok zs → (ys : List ℤ) × ((x ≡ ok ys) × (zs ≡ z ∷ ys))

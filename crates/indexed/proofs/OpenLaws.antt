@@ -15,6 +15,7 @@ use lib.Seq.{drop-drop}
 use Rattle.kit.specs.Answer.{Answer, ok, refused, All, same, pick, pick-yes, pick-no, pick-elim}
 use Rattle.kit.specs.Integer.{int?}
 use Rattle.kit.specs.Truth.{truth, holds, fails, truth-true, truth-false, tells, tested-at}
+use Rattle.kit.specs.TruthLaws.{clash}
 use Rattle.mapset.specs.Grid.{layers, rows, columns}
 use Rattle.mapset.specs.declared.Axis.{Axis}
 use Rattle.mapset.specs.declared.Header.{Header}
@@ -23,7 +24,7 @@ use Rattle.layout.specs.Records.{Vals}
 use Rattle.layout.specs.Labels.{Label, version, description, comment, system, exponent, aux-start, aux-end, header-end, epoch, block, file-end, head, start, end, name, labels, layout}
 use Rattle.layout.specs.Layout.{per-map, node, Height-of, Opens}
 use Rattle.layout.specs.Names.{names, number-of}
-use Rattle.reading.specs.Feed.{Fault, feed, split}
+use Rattle.reading.specs.Feed.{Fault, feed, split, NoRow}
 use Rattle.reading.specs.Fields.{lookup, label, fields}
 use Rattle.reading.specs.LabelLaws.{label-known, label-unknown, named}
 use Rattle.reading.specs.RecordLaws.{known-maps}
@@ -33,14 +34,11 @@ use Rattle.lines.specs.Cuts.{Cut, cuts}
 use Rattle.lines.specs.Lines as L
 use Rattle.lines.specs.declared.Line.the-variants as line
 use Rattle.index.specs.Found.{clean?, agrees?, Found, in-front, on-ok, values-at, block-at}
-use Rattle.index.proofs.FoundLaws.{opening-found, named-full, Rowless, firsts, cuts-split, first-rowless}
+use Rattle.index.proofs.FoundLaws.{opening-found, named-full, firsts, cuts-split, first-rowless}
 use Rattle.indexed.specs.Hits.{between, values-from, At, Hits, Opening, block-from}
 use Rattle.indexed.specs.declared.Hit.{Hit}
 use Rattle.indexed.specs.declared.Hit.the-variants as hit
 use Rattle.indexed.proofs.HitLaws.{between-join}
-
-clash : {X : Type 0} → _≡_ {A = ℕ} 0 1 → X
-clash z = absurd (omega arith)
 
 -- ---- the label
 
@@ -182,22 +180,22 @@ module _ (h : Header) (d : ℕ) where
   unfolding block-at
   unclean l e cs n = pick-no (clean? l) _ _ n
 
-  none-ahead : (n : ℕ) (cs : List Cut) → Rowless (feed n (firsts cs)) → block-at h d cs ≡ none
+  none-ahead : (n : ℕ) (cs : List Cut) → NoRow (feed n (firsts cs)) → block-at h d cs ≡ none
   none-ahead n [] r = no-line
   none-ahead n (x ∷ cs) r = ⊎-elim (λ k. unclean (x .0) (x .1) cs k) (λ k. blank-none (x .0) (x .1) cs (k .0 .1)) (first-rowless n (x .0) (firsts cs) r)
 
-  rowless : (u : List ℕ) → Rowless (feed 0 (split u)) → block-at h d (cuts u) ≡ none
-  rowless u r = none-ahead 0 (cuts u) (subst (λ ls. Rowless (feed 0 ls)) (sym (cuts-split u)) r)
+  rowless : (u : List ℕ) → NoRow (feed 0 (split u)) → block-at h d (cuts u) ≡ none
+  rowless u r = none-ahead 0 (cuts u) (subst (λ ls. NoRow (feed 0 ls)) (sym (cuts-split u)) r)
 
   module _ (t : List ℕ) (at : ℕ) where
     pub from-behind : length t ≤ at → block-from h d t at ≡ none
     from-behind l = let z : cuts [] ≡ [] = unfold cuts in refl in ap (block-at h d) (ap cuts (drop-of-length-le t l) ∙ z) ∙ no-line
 
     pub from-over : L.Stands (drop at t) line.Over → block-from h d t at ≡ none
-    from-over s = rowless (drop at t) (subst Rowless (sym (s 0)) tt)
+    from-over s = rowless (drop at t) (subst NoRow (sym (s 0)) tt)
 
     pub from-bad : (k col : ℕ) → L.Stands (drop at t) (line.Bad k col) → block-from h d t at ≡ none
-    from-bad k col s = rowless (drop at t) (subst Rowless (sym (s 0)) tt)
+    from-bad k col s = rowless (drop at t) (subst NoRow (sym (s 0)) tt)
 
     pub from-skip : (next : ℕ) → L.Skips (drop at t) next → block-from h d t at ≡ none
     from-skip next s = ap (block-at h d) (s .starts .cut) ∙ blank-none _ _ _ (s .blank)

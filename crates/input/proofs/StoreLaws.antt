@@ -26,17 +26,7 @@ use Rattle.judging.specs.Scanned.{set-of, Accepts}
 use Rattle.judging.proofs.NeedLaws.{formed, need-by}
 use Rattle.needs.specs.declared.Elements.{Elements}
 use Rattle.needs.specs.declared.Others.{Others}
-
--- ---- each area is long enough where none is the first too short
-pub all-long : (i : ℕ) (xs : List (ℕ × ℕ)) → first-short i xs ≡ none → All (λ x. x .0 ≤ x .1) xs
-unfolding first-short pick
-all-long i [] e = tt
-all-long i (x ∷ xs) e = by (decLe (x .0) (x .1)) e (all-long (suc i) xs)
-  where
-    by : (d : Dec (x .0 ≤ x .1)) → pick d (first-short (suc i) xs) (some (i, x .0)) ≡ none
-        → (first-short (suc i) xs ≡ none → All (λ x. x .0 ≤ x .1) xs) → All (λ x. x .0 ≤ x .1) (x ∷ xs)
-    by (yes p) e f = (p, f e)
-    by (no n) e f = let z : _≡_ {A = ℕ} 0 1 = cc in absurd (omega arith)
+use Rattle.needs.proofs.ShortLaws.{all-long}
 
 -- ---- a refusal leaves all areas as found
 pub outcome-refused : (t : List ℕ) (l : Areas) (k n c : ℕ) → read t ≡ refused (why k n c) → record { told = at-place k n c; texts = blank-texts; areas = l } ≡ outcome t l

@@ -7,6 +7,7 @@ use Prim.Native.Nat.{ℕ, suc, _≤_, _<_}
 use native.Mathlib.Omega.{arith}
 use native.Mathlib.Decide.{decLe}
 use Rattle.kit.specs.Answer.{Answer, ok, refused, pick, pick-yes, pick-no, All}
+use Rattle.kit.specs.TruthLaws.{clash}
 use Rattle.mapset.specs.declared.Header.{Header}
 use Rattle.mapset.specs.MapSet.{MapSet}
 use Rattle.mapset.specs.Areas.{Areas}
@@ -17,6 +18,7 @@ use Rattle.reading.specs.Exact.{read-made, made-read}
 use Rattle.areas.specs.Flat.{areas}
 use Rattle.areas.specs.Stores.{fronts}
 use Rattle.needs.specs.Needs.{needed-and-lent, first-short}
+use Rattle.needs.proofs.ShortLaws.{none-short}
 use Rattle.outcome.specs.Once.{told-once}
 use Rattle.outcome.specs.Outcome.{accepted, at-place, eleven, Outcome, with-room, outcome-of, outcome, told-reason, told, comes}
 use Rattle.outcome.specs.declared.Reason.{Reason}
@@ -54,11 +56,6 @@ pub record Given (m : MapSet) (l : Areas) (r : ReadOut) (l′ : Areas) : Type 0 
   pub answer : r .answer ≡ Accepted (m .header)
   pub texts : r .texts ≡ m .texts
   pub areas : l′ ≡ fronts (areas m) l
-
-none-short : (i : ℕ) (xs : List (ℕ × ℕ)) → All (λ x. x .0 ≤ x .1) xs → first-short i xs ≡ none
-unfolding first-short
-none-short i [] a = refl
-none-short i (x ∷ xs) a = pick-yes (decLe (x .0) (x .1)) _ _ (a .0) ∙ none-short (suc i) xs (a .1)
 
 first-is : (i a n : ℕ) (xs : List (ℕ × ℕ)) → FirstShort i a n xs → first-short i xs ≡ some (a, n)
 unfolding first-short
@@ -102,9 +99,6 @@ outcomes t l = by (read t) refl
     by : (a : Answer Why MapSet) → read t ≡ a → Outcomes t l (outcome-of a l)
     by (ok m) e = from-room t l m (made-read t e) _ (room 1 (needed-and-lent (areas m) l))
     by (refused w) e = not-made w
-
-clash : {X : Type 0} → _≡_ {A = ℕ} 0 1 → X
-clash z = absurd (omega arith)
 
 -- what is told is not what another outcome tells
 short-clash : {X : Type 0} {h : Header} (m : MapSet) (l : Areas) (a n : ℕ) → with-room m l (some (a, n)) .told ≡ accepted h → X

@@ -7,6 +7,7 @@ use native.Mathlib.Decide.{ℕ-discrete, decLe}
 use lib.IntN.{pos, natAbs}
 use lib.ListN.{getD, replicate}
 use Rattle.kit.specs.Answer.{pick}
+use Rattle.kit.specs.TruthLaws.{clash}
 use Rattle.mapset.specs.declared.Header.{Header}
 use Rattle.mapset.specs.declared.Texts.{Texts}
 use Rattle.mapset.specs.Areas.{Areas}
@@ -54,9 +55,6 @@ short-comes = ap (λ a. outcome-of a short-areas .told) small-read
 faults-come : (l : Areas) → outcome (lines two-faults) l .told ≡ at-place 8 15 0
 unfolding outcome-of
 faults-come l = ap (λ a. outcome-of a l .told) eight-before-seven
-
-clash : {X : Type 0} → _≡_ {A = ℕ} 0 1 → X
-clash z = absurd (omega arith)
 
 -- a reader that refuses everything
 pub not-refused : (w : Reason) (x : Texts) (l′ : Areas) → ¬ Reads (lines small-text) small-areas (record { answer = Refused w; texts = x }) l′

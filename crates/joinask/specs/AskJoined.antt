@@ -15,6 +15,7 @@ use Rattle.mapset.specs.Sound.{Runs}
 use Rattle.mapset.specs.declared.Kind.the-variants.{Rms, Height}
 use Rattle.mapset.specs.declared.Grid.{Grid}
 use Rattle.mapset.specs.declared.Header.{Header}
+use Rattle.mapset.specs.SoundLaws.{run-below}
 use Rattle.layout.specs.Layout.{per-map}
 use Rattle.areas.specs.Flat.{areas-of, areas}
 use Rattle.areas.specs.Formed.{MapsRules, Formed}
@@ -61,13 +62,9 @@ module _ (m : MapSet) (f : Formed m) where
   formed-sound = valid-formed (m .header) (m .texts) (areas m) .1 (m, f, refl, refl, all-needed) .sound
 
 -- ---- epochs
-run-last : (i last e : ℕ) (es : List ℕ) → Run i last e es → e ≤ last
-run-last i last e [] r = omega (arith, r)
-run-last i last e (f ∷ es) r = omega (arith, r .0 .0 .0, run-last i last f es (r .1))
-
 first-last : (h : Header) (es : List ℕ) → EpochRules h es → h .times .first ≤ h .times .last
 first-last h [] r = absurd r
-first-last h (e ∷ es) r = omega (arith, r .0, run-last (h .times .interval) (h .times .last) e es (r .1))
+first-last h (e ∷ es) r = omega (arith, r .0, run-below (h .times .interval) (h .times .last) e es (r .1))
 
 first-is : (h : Header) (es : List ℕ) → EpochRules h es → epoch es 0 ≡ h .times .first
 first-is h [] r = absurd r

@@ -16,6 +16,7 @@ use Rattle.mapset.specs.declared.Kind.{Kind}
 use Rattle.mapset.specs.declared.Kind.the-variants.{Tec, Rms, Height}
 use Rattle.mapset.specs.declared.Header.{Header}
 use Rattle.mapset.specs.declared.Texts.{Texts}
+use Rattle.mapset.specs.SoundLaws.{marked}
 use Rattle.areas.specs.Flat.{areas-of, areas}
 use Rattle.areas.specs.Stores.{fronts}
 use Rattle.areas.specs.Valid.{needed, Valid}
@@ -35,7 +36,7 @@ use Rattle.join.specs.JoinedFormed.{joined-formed}
 use Rattle.join.specs.Into.{Lent, lent, meaning}
 use Rattle.join.specs.IntoLaws.{MayLent}
 use Rattle.joinask.specs.Epochs.{moved}
-use Rattle.joinask.specs.Values.{worth-same, marked}
+use Rattle.joinask.specs.Values.{worth-same}
 use Rattle.joinask.specs.Terms.{later}
 use Rattle.joinask.specs.Parts.{with-grid, Stands, Within-whole, asked-of-whole}
 use Rattle.joinask.specs.AskJoined.{asking, formed-sound, ask-late, ask-early}

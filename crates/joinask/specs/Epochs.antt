@@ -10,6 +10,7 @@ use lib.Seq.{length-take-le, getD-append-add, getD-take}
 use Rattle.spans.specs.Time.{epoch, gap, NearestMap, alone, shared, Uses, nearest, between, last}
 use Rattle.spans.specs.Spans.{Regular, Close}
 use Rattle.spans.specs.declared.Shares.{Shares}
+use Rattle.spans.specs.TimeLaws.{rises-past, rises-to}
 
 -- ---- getD of two lists
 module _ {X : Type 0} (z : X) where
@@ -20,27 +21,6 @@ module _ {X : Type 0} (z : X) where
 
   pub at-behind : (a b : List X) (k i : ℕ) → length a ≡ k → getD (a ++ b) (k + i) z ≡ getD b i z
   at-behind a b k i e = ap (λ n. getD (a ++ b) (n + i) z) (sym e) ∙ getD-append-add a b i z
-
--- ---- rising
-module _ (es : List ℕ) (r : Regular es) where
-  rises-by : (i k : ℕ) → i + suc k < length es → epoch es i < epoch es (i + suc k)
-  rises-by i zero h = r .rises i (omega arith)
-  rises-by i (suc k) h =
-      let e : i + suc (suc k) ≡ (i + suc k) + 1 = omega arith in
-      let s : epoch es (i + suc k) < epoch es ((i + suc k) + 1) = r .rises (i + suc k) (omega arith) in
-      rw e (omega (arith, s, rises-by i k (omega arith)))
-
-  rises : (i j : ℕ) → i < j → j < length es → epoch es i < epoch es j
-  rises i j h l =
-      let e : i + suc (j - i - 1) ≡ j = omega arith in
-      subst (λ n. epoch es i < epoch es n) e (rises-by i (j - i - 1) (omega arith))
-
-  rises-to : (i j : ℕ) → i ≤ j → j < length es → epoch es i ≤ epoch es j
-  rises-to i j h l = by (decLt i j)
-    where
-      by : Dec (i < j) → epoch es i ≤ epoch es j
-      by (yes p) = omega (arith, rises i j p l)
-      by (no p) = let e : i ≡ j = omega arith in rw e (omega arith)
 
 -- d maps later
 abbrev pub moved : ℕ → Shares → Shares
@@ -107,14 +87,14 @@ module _ (k : ℕ) (cs bs : List ℕ) (la : length cs ≡ k + 1) (lb : 1 ≤ len
           }
         where
           near : (j : ℕ) → j < length both → Dec (j < k) → gap t (epoch both (k + i)) ≤ gap t (epoch both j)
-          near j h (yes p) = rw (at-late i) (omega (arith, n .near 0 (omega arith), rises both r j k p (omega (arith, all)), first-is))
+          near j h (yes p) = rw (at-late i) (omega (arith, n .near 0 (omega arith), rises-past both r j k p (omega (arith, all)), first-is))
           near j h (no p) =
               let e : k + (j - k) ≡ j = omega arith in
               let f : epoch both j ≡ epoch bs (j - k) = ap (epoch both) (sym e) ∙ at-late (j - k) in
               rw (at-late i, f) (n .near (j - k) (omega (arith, all)))
 
           earlier : (j : ℕ) → j < k + i → Dec (j < k) → gap t (epoch both (k + i)) < gap t (epoch both j)
-          earlier j h (yes p) = rw (at-late i) (omega (arith, n .near 0 (omega arith), rises both r j k p (omega (arith, all)), first-is))
+          earlier j h (yes p) = rw (at-late i) (omega (arith, n .near 0 (omega arith), rises-past both r j k p (omega (arith, all)), first-is))
           earlier j h (no p) =
               let e : k + (j - k) ≡ j = omega arith in
               let f : epoch both j ≡ epoch bs (j - k) = ap (epoch both) (sym e) ∙ at-late (j - k) in
@@ -133,7 +113,7 @@ module _ (k : ℕ) (cs bs : List ℕ) (la : length cs ≡ k + 1) (lb : 1 ≤ len
     -- up to the earlier set's last epoch but one
     module _ (some : 1 ≤ k) (to : t ≤ epoch cs (k - 1)) where
       pub penult : epoch cs (k - 1) < epoch cs k
-      penult = omega (arith, rises both r (k - 1) k (omega arith) (omega (arith, all)), at-early (k - 1) (omega arith), at-early k (omega arith))
+      penult = omega (arith, rises-past both r (k - 1) k (omega arith) (omega (arith, all)), at-early (k - 1) (omega arith), at-early k (omega arith))
 
       before : t < epoch cs k
       before = omega (arith, penult)
@@ -150,7 +130,7 @@ module _ (k : ℕ) (cs bs : List ℕ) (la : length cs ≡ k + 1) (lb : 1 ≤ len
           near j h (yes p) = rw (at-early i (omega (arith, n .map)), at-early j p) (n .near j (omega arith))
           near j h (no p) =
               rw (at-early i (omega (arith, n .map)))
-              (omega (arith, n .near k (omega arith), before, rises both r k j (omega arith) h, at-early k (omega arith)))
+              (omega (arith, n .near k (omega arith), before, rises-past both r k j (omega arith) h, at-early k (omega arith)))
 
       pub uses-early : {s : Shares} → Uses cs t method s → Uses both t method s
       uses-early (nearest i m n) = nearest i m (nearest-early i n)

@@ -7,7 +7,7 @@ use native.Mathlib.Omega.{arith}
 use lib.IntN.{ℤ}
 use lib.ListN.{take}
 use Rattle.kit.specs.Answer.{All}
-use Rattle.kit.specs.Lists.{all-append}
+use Rattle.kit.specs.ListLaws.{all-append, all-turn}
 use Rattle.mapset.specs.Grid.{layers, rows, columns}
 use Rattle.mapset.specs.Areas.{Areas, Sound}
 use Rattle.mapset.specs.declared.Grid.{Grid}
@@ -30,10 +30,6 @@ with-grid g h =
     record { version = h .version; times = h .times; model = h .model; grid = g; stations = h .stations; satellites = h .satellites; systems = h .systems }
 
 -- ---- the nodes d maps later
-all-turned : {P Q : Weighed → Type 0} → ((w : Weighed) → P w → Q w) → (ns : List Weighed) → All P ns → All Q ns
-all-turned f [] a = tt
-all-turned f (n ∷ ns) a = (f n (a .0), all-turned f ns (a .1))
-
 spread-later : (d : ℕ) (s : Shares) (c e : Cell) → map (later d) (spread s c e) ≡ spread (moved d s) c e
 unfolding spread corners
 spread-later d s c e = let o : d + (s .map + 1) ≡ d + s .map + 1 = omega arith in ap (λ m. corners (s .early) (d + s .map) c ++ corners (s .late) m e) o
@@ -148,6 +144,6 @@ module _ (g : Grid) (part whole : Header) (t u : Texts) (a b : Areas) (kind meth
           },
           like-answer (kind-of kind) r
               (like-terms (shape p) (shape q) (area (kind-of kind) a) (a .exponents) (area (kind-of kind) b) (b .exponents) (a .marks) (b .marks) d ns
-              (all-turned (λ n. ⊎-elim inl (λ z. inr (x .agrees (k .0) (i .layer) n z))) ns l)) z,
+              (all-turn _ _ ns (λ n. ⊎-elim inl (λ z. inr (x .agrees (k .0) (i .layer) n z))) l)) z,
         ),
       )))))

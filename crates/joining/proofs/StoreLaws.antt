@@ -12,7 +12,8 @@ use lib.IntN.{ℤ, pos}
 use lib.ListN.{length, take, drop, replicate}
 use lib.Seq.{take-take, length-take-le}
 use Rattle.kit.specs.Answer.{Answer, ok, refused, bind, pick, pick-yes, pick-no, All}
-use Rattle.kit.specs.Lists.{all-append, all-front, all-behind, front}
+use Rattle.kit.specs.Lists.{front}
+use Rattle.kit.specs.ListLaws.{all-append, all-front, all-behind}
 use Rattle.mapset.specs.declared.Kind.{Kind}
 use Rattle.mapset.specs.declared.Kind.the-variants.{Tec, Rms, Height}
 use Rattle.mapset.specs.Grid.{Limits, layers, rows, columns}
@@ -26,6 +27,7 @@ use Rattle.areas.specs.Stores.{first-of, fronts}
 use Rattle.areas.specs.Valid.{needed}
 use Rattle.areas.proofs.Needs.{needs}
 use Rattle.needs.specs.Needs.{lengths, needed-and-lent, first-short, pairs, needs-of}
+use Rattle.needs.proofs.ShortLaws.{all-long}
 use Rattle.beside.specs.Lists.{or-absent, values-of-two, third-of-two, thirds-of-two}
 use Rattle.join.specs.Join.{header-from, joined}
 use Rattle.join.specs.JoinedFormed.{joined-formed}
@@ -33,10 +35,11 @@ use Rattle.join.specs.Beside.{beside}
 use Rattle.join.specs.Into.{Lent, IsValid, lent, meaning, Why, with-room, lent-join, join-into, left}
 use Rattle.join.specs.IntoLaws.{MayLent, lent-areas}
 use Rattle.join.specs.IntoExactly.{given, lent-once}
-use Rattle.joining.specs.Joined.{some-of, kinds-left, kept, some-left, kind-beside, KindFits, Fillable, all-beside, count-of, per, short-of, Ready, Put, puts, by-room, stored, told-why, comes, came}
+use Rattle.joining.specs.Joined.{some-of, kinds-left, kept, some-left, kind-beside, KindFits, Fillable, all-beside, count-of, short-of, Ready, Put, puts, by-room, stored, told-why, comes, came}
 use Rattle.joining.specs.declared.Refusal.{Refusal}
 use Rattle.joining.specs.declared.Joining.{Joining}
 use Rattle.joining.specs.declared.Joining.the-variants.{Done, Refused}
+use Rattle.layout.specs.Layout.{per-map}
 
 -- ---- kinds
 pub has-told : (k : Kind) (ms : List ℕ) {n : ℕ} → n ≡ pick (nowhere? k ms) 0 1 → ltb 0 n ≡ some-of k ms
@@ -105,16 +108,6 @@ third-needed Tec s t es e = part-of s 0 (3 * t) es (omega arith)
 third-needed Rms s t es e = part-of s s (3 * t) es (omega arith)
 third-needed Height s t es e = part-of s (s + s) (3 * t) es (omega arith)
 
-all-long : (i : ℕ) (xs : List (ℕ × ℕ)) → first-short i xs ≡ none → All (λ x. x .0 ≤ x .1) xs
-unfolding first-short pick
-all-long i [] e = tt
-all-long i (x ∷ xs) e = by (decLe (x .0) (x .1)) e (all-long (suc i) xs)
-  where
-    by : (d : Dec (x .0 ≤ x .1)) → pick d (first-short (suc i) xs) (some (i, x .0)) ≡ none
-        → (first-short (suc i) xs ≡ none → All (λ x. x .0 ≤ x .1) xs) → All (λ x. x .0 ≤ x .1) (x ∷ xs)
-    by (yes p) e f = (p, f e)
-    by (no n) e f = let z : _≡_ {A = ℕ} 0 1 = cc in absurd (omega arith)
-
 pub maps-of : (x : Lent) → IsValid x → (1 ≤ x .header .times .maps) × (x .header .times .maps ≤ 300)
 maps-of x v = let w = header-groups (x .header) (x .texts) (v .sound .header) .1 .1 .0 .1 .1 .1 in (w .0, w .1)
 
@@ -127,7 +120,7 @@ module _ (x y : Lent) (j : MayLent x y) where
   n = y .header .times .maps
 
   abbrev B : ℕ
-  B = per (y .header)
+  B = per-map (y .header)
 
   abbrev C : ℕ
   C = columns (y .header .grid)

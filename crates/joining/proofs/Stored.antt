@@ -13,7 +13,7 @@ use Rattle.needs.specs.Needs.{lengths, first-short, needs-of, pairs}
 use Rattle.needs.specs.declared.Elements.{Elements}
 use Rattle.needs.specs.declared.Others.{Others}
 use Rattle.join.specs.Join.{header-from}
-use Rattle.joining.specs.Joined.{kinds-left, Fillable, all-beside, count-of, per, short-of, Ready, puts, by-room, stored}
+use Rattle.joining.specs.Joined.{kinds-left, Fillable, all-beside, count-of, short-of, Ready, puts, by-room, stored}
 use Rattle.joining.specs.declared.Refusal.the-variants.{AreaTooShort}
 use Rattle.joining.specs.declared.Joining.the-variants.{Done, Refused}
 
@@ -22,7 +22,7 @@ module _ (e : Times) (h : Header) {H : Header} (p : H ≡ header-from e h) {N B 
   maps-is : N ≡ count-of e h
   maps-is = q ∙ ap (λ h. h .times .maps) p
 
-  blocks-is : B ≡ per h
+  blocks-is : B ≡ per-map h
   blocks-is = r ∙ ap per-map p
 
   columns-is : C ≡ columns (h .grid)
@@ -47,5 +47,5 @@ module _ (e : Times) (h : Header) {H : Header} (p : H ≡ header-from e h) {N B 
       pub done-put : (l′ : Areas) → l′ ≡ all-beside (e .maps) (h .times .maps) B C a b l → puts (Done H) l′ ≡ stored e h a b l
       unfolding stored by-room
       done-put l′ z =
-          let w : l′ ≡ all-beside (e .maps) (h .times .maps) (per h) (columns (h .grid)) a b l = z ∙ (λ i. all-beside (e .maps) (h .times .maps) (blocks-is i) (columns-is i) a b l) in
+          let w : l′ ≡ all-beside (e .maps) (h .times .maps) (per-map h) (columns (h .grid)) a b l = z ∙ (λ i. all-beside (e .maps) (h .times .maps) (blocks-is i) (columns-is i) a b l) in
           (λ i. puts (Done (p i)) (w i)) ∙ sym (ap (by-room e h a b l) (sym room-is ∙ x))

@@ -27,6 +27,7 @@ use Rattle.joining.specs.declared.Joining.{Joining}
 use Rattle.joining.specs.declared.Joining.the-variants.{Done, Refused}
 use Rattle.joining.specs.declared.Verdict.{Verdict}
 use Rattle.joining.specs.declared.Verdict.the-variants.{Fine, Wrong}
+use Rattle.layout.specs.Layout.{per-map}
 
 -- ---- kinds
 
@@ -82,17 +83,14 @@ all-beside m n B C a b l =
 
 -- ---- two sets that may be joined
 
--- n of both, and L·R
+-- n of both
 abbrev pub count-of : Times → Header → ℕ
 count-of e h = e .maps - 1 + h .times .maps
-
-abbrev pub per : Header → ℕ
-per h = layers (h .grid) * rows (h .grid)
 
 -- the first area too short for both sets
 abbrev pub short-of : (early : Times) (late : Header) (a b l : Areas) → Option (ℕ × ℕ)
 short-of e h a b l =
-    first-short 1 (pairs (needs-of (count-of e h) (per h) (columns (h .grid)) (kinds-left (take (e .maps - 1) (a .marks)) (take (h .times .maps) (b .marks)))) (lengths l))
+    first-short 1 (pairs (needs-of (count-of e h) (per-map h) (columns (h .grid)) (kinds-left (take (e .maps - 1) (a .marks)) (take (h .times .maps) (b .marks)))) (lengths l))
 
 pub record Ready (early : Times) (late : Header) (a b : Areas) : Type 0 where
   pub maps : 1 ≤ early .maps
@@ -102,7 +100,7 @@ pub record Ready (early : Times) (late : Header) (a b : Areas) : Type 0 where
   pub marks : early .maps ≤ length (a .marks)
   pub marks-late : late .times .maps ≤ length (b .marks)
   -- whatever has the room can be filled
-  pub fits : (l : Areas) → short-of early late a b l ≡ none → Fillable (early .maps) (late .times .maps) (per late) (columns (late .grid)) a b l
+  pub fits : (l : Areas) → short-of early late a b l ≡ none → Fillable (early .maps) (late .times .maps) (per-map late) (columns (late .grid)) a b l
 
 pub record Put : Type 0 where
   pub answer : Joining
@@ -112,7 +110,7 @@ abbrev pub puts : Joining → Areas → Put
 puts r l = record { answer = r; areas = l }
 
 unfoldable pub by-room : (early : Times) (late : Header) (a b l : Areas) → Option (ℕ × ℕ) → Put
-by-room e h a b l none = puts (Done (header-from e h)) (all-beside (e .maps) (h .times .maps) (per h) (columns (h .grid)) a b l)
+by-room e h a b l none = puts (Done (header-from e h)) (all-beside (e .maps) (h .times .maps) (per-map h) (columns (h .grid)) a b l)
 by-room e h a b l (some s) = puts (Refused (AreaTooShort (s .0) (s .1))) l
 
 unfoldable pub stored : (early : Times) (late : Header) (a b l : Areas) → Put

@@ -11,7 +11,7 @@ use Rattle.kit.specs.Answer.{Answer, ok, refused, amap, yields}
 use Rattle.kit.specs.Range.{Within}
 use Rattle.mapset.specs.declared.Header.{Header}
 use Rattle.mapset.specs.MapSet.{Maps, MapSet}
-use Rattle.layout.specs.Layout.{Force}
+use Rattle.layout.specs.Layout.{Force, begins}
 use Rattle.reading.specs.Feed.{Why, why, split, feed}
 use Rattle.reading.specs.Maps.{run, short}
 use Rattle.reading.specs.Read.{read}
@@ -25,7 +25,6 @@ use Rattle.head.specs.declared.HeaderRead.{HeaderRead}
 use Rattle.head.specs.declared.Headed.the-variants as Headed
 use Rattle.maps.specs.Turns.{stands, told}
 use Rattle.maps.specs.declared.Verdict.the-variants as Verdict
-use Rattle.fill.specs.Filled.{begun}
 use Rattle.judging.specs.Scanned.{set-of, Accepts}
 
 -- ---- what is judged of the maps
@@ -68,7 +67,7 @@ module _ (t : List ℕ) (r : HeaderRead) (o : Opens (read t) t r) where
     maps-start = subst (Sound t) q (o .sound)
 
     abbrev rest : Answer Why (List ℤ × Maps)
-    rest = run h Between (begun e) 0 (feed (suc n) (split (drop at t)))
+    rest = run h Between (begins e) 0 (feed (suc n) (split (drop at t)))
 
     read-is : read t ≡ amap (λ w. set-of h (r .texts) (w .1)) rest
     unfolding opened
@@ -87,7 +86,7 @@ module _ (t : List ℕ) (r : HeaderRead) (o : Opens (read t) t r) where
           reads = read-is ∙ ap (amap (λ w. set-of h (r .texts) (w .1))) (w .is);
           within = maps-start .within;
           line = suc n;
-          behind = bare-run h (begun e) (suc n) (split (drop at t)) (w .with-values) (w .is);
+          behind = bare-run h (begins e) (suc n) (split (drop at t)) (w .with-values) (w .is);
           rms = w .rms;
           height = w .height;
         }

@@ -1,5 +1,5 @@
 -- An accepted text: what the six areas need is the lengths of its map set's lists.
-use mathlib.Core.Path.{_≡_, refl, sym, ap, _∙_}
+use mathlib.Core.Path.{_≡_, refl, sym, ap, _∙_, subst}
 use mathlib.Core.Bool.{cond}
 use mathlib.Core.List.{List, [], _∷_}
 use Prim.Native.Nat.{ℕ, _*_, _≤_}
@@ -21,7 +21,11 @@ use Rattle.maps.specs.Turns.{stands}
 use Rattle.needs.specs.Needs.{lengths, needs-of}
 use Rattle.needs.specs.declared.Elements.{Elements}
 use Rattle.needs.specs.declared.Others.{Others}
-use Rattle.judging.specs.Scanned.{set-of, Accepts}
+use Rattle.judging.specs.Scanned.{set-of, Accepts, Judges}
+use Rattle.judging.specs.declared.Judged.{Judged}
+
+pub judged : (t : List ℕ) (x : Texts) (a b : Judged) → Judges t a x → a ≡ b → Judges t b x
+judged t x a b j e = subst (λ z. Judges t z x) e j
 
 -- a kind with no map needs no value area
 stands-length : (n B C : ℕ) (xs : List OtherMap) → Rising n B C 0 xs → length (wanted xs (values-of (reads B C (slots n xs)))) ≡ cond (stands xs) (n * B * C) 0

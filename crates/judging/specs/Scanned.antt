@@ -13,10 +13,10 @@ use Rattle.reading.specs.Maps.{run}
 use Rattle.reading.specs.Read.{read}
 use Rattle.reading.specs.declared.Place.the-variants.{Between}
 use Rattle.maps.specs.Turns.{stands}
-use Rattle.fill.specs.Filled.{begun}
 use Rattle.needs.specs.declared.Others.{Others}
 use Rattle.judging.specs.declared.Judged.{Judged}
 use Rattle.judging.specs.declared.Judged.the-variants.{Wrong, Fine}
+use Rattle.layout.specs.Layout.{begins}
 
 abbrev pub set-of : Header → Texts → Maps → MapSet
 set-of h x m = record { header = h; texts = x; maps = m }
@@ -27,7 +27,7 @@ pub record Accepts (t : List ℕ) (x : Texts) (h : Header) (e : ℤ) (at : ℕ) 
   pub reads : read t ≡ ok (set-of h x maps)
   pub within : at ≤ length t
   pub line : ℕ
-  pub behind : run h Between (begun e) 0 (feed line (split (drop at t))) ≡ ok ([], maps)
+  pub behind : run h Between (begins e) 0 (feed line (split (drop at t))) ≡ ok ([], maps)
   pub rms : o .rms ≡ stands (maps .rms)
   pub height : o .height ≡ stands (maps .height)
 

@@ -13,12 +13,6 @@ use Rattle.kit.specs.Integer.{int?, between?}
 use Rattle.kit.specs.Parts.{from-bits, le-parts, parts-le, lt-true, lt-false}
 use Rattle.kit.specs.Truth.{truth, holds, fails, truth-same, eq-tells}
 
--- equal bits, equal numbers
-pub same-bits : (w : Width) (x y : ℤ) → SFits w x → SFits w y → eqb (ofZ w x) (ofZ w y) ≡ truth (int? x y)
-same-bits w x y f g =
-    eq-tells (ofZ w x) (ofZ w y)
-    ∙ truth-same (ℕ-discrete (ofZ w x) (ofZ w y)) (int? x y) (λ e. from-bits w x (ofZ w y) f e ∙ toZ-ofZ g) (λ e. ap (ofZ w) e)
-
 -- a number of 32 bits is the same in 64
 pub widened : (x : ℤ) → SFits w32 x → toZ w64 (ofZ w64 (toZ w32 (ofZ w32 x))) ≡ x
 widened x f = rw (toZ-ofZ f) (toZ-ofZ (sfits-widen tt f))

@@ -7,3 +7,6 @@ pub mod Integer
 pub mod Truth
 pub mod Lists
 pub mod AnswerLaws
+pub mod ListLaws
+pub mod TruthLaws
+pub mod IntegerLaws

@@ -1,8 +1,9 @@
 -- Ranges of naturals.
+use mathlib.Core.List.{List}
 use Prim.Native.Nat.{ℕ, _≤_}
 use native.Mathlib.Decide.{decLe}
 use lib.IntN.{ℤ, pos, negsuc}
-use Rattle.kit.specs.Answer.{×-dec}
+use Rattle.kit.specs.Answer.{×-dec, All}
 
 -- x is from low to high
 abbrev pub Within : ℕ → ℕ → ℕ → Type 0
@@ -10,6 +11,10 @@ Within low high x = (low ≤ x) × (x ≤ high)
 
 unfoldable pub within? : (low high x : ℕ) → Dec (Within low high x)
 within? low high x = ×-dec (decLe low x) (decLe x high)
+
+-- each byte from 32 to 126
+abbrev pub Printable : List ℕ → Type 0
+Printable l = All (Within 32 126) l
 
 -- an integer that is a natural from low to high
 abbrev pub Natural : ℕ → ℕ → ℤ → Type 0

@@ -16,6 +16,11 @@ unfoldable pub truth : {P : Type 0} → Dec P → Bool
 truth (yes p) = true
 truth (no n) = false
 
+-- what a Bool says of P
+abbrev pub Says : Bool → Type 0 → Type 0
+Says true P = P
+Says false P = ¬ P
+
 module _ {P : Type 0} where
   pub holds : (d : Dec P) → P → true ≡ truth d
   unfolding truth

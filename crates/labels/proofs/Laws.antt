@@ -11,6 +11,7 @@ use lib.ListN.{length, getD, drop, drop-of-length-le}
 use borrow.Author.Tests.{eq-eqb, ne-eqb, eqb-true}
 use lib.Seq.{drop-cons}
 use Rattle.kit.specs.Truth.{and-left, and-right}
+use Rattle.kit.specs.TruthLaws.{and-true, and-assoc}
 use Rattle.layout.specs.Labels.{name}
 use Rattle.layout.specs.Names.{holds, place-of, names, number-of}
 
@@ -35,10 +36,6 @@ pub holds-end : (s : List ℕ) (a : ℕ) (l : List ℕ) (j : ℕ) → length l �
 holds-end s a l j h i = rw (drop-of-length-le l h) at i
 
 -- ---- a byte at a time, with no branch
-
-and-assoc : (x y z : Bool) → (x && (y && z)) ≡ ((x && y) && z)
-and-assoc true y z = refl
-and-assoc false y z = refl
 
 and-true-right : (x : Bool) → (x && true) ≡ x
 and-true-right true = refl
@@ -68,17 +65,13 @@ clashes [] ys = false
 clashes (x ∷ xs) [] = false
 clashes (x ∷ xs) (y ∷ ys) = cond (eqb x y) (clashes xs ys) true
 
-two : (x y : Bool) → (x && y) ≡ true → (x ≡ true) × (y ≡ true)
-two true y e = (refl, e)
-two false y e = (e, cc)
-
 holds-clash : (s : List ℕ) (a : ℕ) (xs ys : List ℕ) → holds s a xs ≡ true → T (clashes xs ys) → holds s a ys ≡ false
 holds-clash s a [] ys e t = absurd t
 holds-clash s a (x ∷ xs) [] e t = absurd t
 holds-clash s a (x ∷ xs) (y ∷ ys) e t = by (eqb x y) refl t (holds-clash s (suc a) xs ys (r .1))
   where
     r : (eqb (getD s a 32) x ≡ true) × (holds s (suc a) xs ≡ true)
-    r = two (eqb (getD s a 32) x) (holds s (suc a) xs) e
+    r = and-true (eqb (getD s a 32) x) (holds s (suc a) xs) e
 
     by : (q : Bool) → eqb x y ≡ q → T (cond q (clashes xs ys) true) → (T (clashes xs ys) → holds s (suc a) ys ≡ false) → (eqb (getD s a 32) y && holds s (suc a) ys) ≡ false
     by true p t f = rw (f t) (and-false (eqb (getD s a 32) y))

@@ -7,7 +7,7 @@ use native.Mathlib.Nat.{le-of-suc-le-suc, not-suc-le-zero}
 use lib.Dec.{T, eqb, eqb→eq}
 use lib.ListN.{length, getD}
 use Rattle.kit.specs.Truth.{and-left, and-right}
-use Rattle.layout.specs.Labels.{name}
+use Rattle.layout.specs.Labels.{name, codes}
 use Rattle.layout.specs.Names.{names}
 
 -- what a test says of each list of a table, it says of the one at k
@@ -24,3 +24,7 @@ every-at f (l ∷ ls) t (suc k) h = every-at f ls (and-right (f l) (every f ls) 
 pub label-length : (k : ℕ) → k < 32 → length (getD names k []) ≡ 20
 unfolding names name
 label-length k h = eqb→eq _ _ (every-at (λ (l : List ℕ). eqb (length l) 20) names tt k h)
+
+-- each code has 3
+pub code-length : (k : ℕ) → k < 11 → length (getD codes k []) ≡ 3
+code-length k h = eqb→eq _ _ (every-at (λ (l : List ℕ). eqb (length l) 3) codes tt k h)

@@ -31,6 +31,10 @@ pub record Force : Type 0 where
   pub rms : ℕ
   pub height : ℕ
 
+-- before the first map
+abbrev pub begins : ℤ → Force
+begins e = record { exponent = e; epochs = []; rms = 0; height = 0 }
+
 abbrev pub under : ℤ → Force → Force
 under e p = record { exponent = e; epochs = p .epochs; rms = p .rms; height = p .height }
 
@@ -170,6 +174,10 @@ systems = 15
 pub data Mode : Type 0 where
   plain aux : Mode
 
+abbrev pub mode : Bool → Mode
+mode true = aux
+mode false = plain
+
 -- `Heads m a e left rs`: with the exponent e in force and the records `left` still to be written, rs write those, in any order, and then the maps
 pub data Heads (m : MapSet) : Mode → ℤ → Slots → List (List ℕ) → Type 0 where
   h-description : {e : ℤ} {left : Slots} {r : List ℕ} {rs : List (List ℕ)} → Rec description tt r → Heads m plain e left rs → Heads m plain e left (r ∷ rs)
@@ -190,7 +198,7 @@ pub data Heads (m : MapSet) : Mode → ℤ → Slots → List (List ℕ) → Typ
   h-end : {e : ℤ} {left : Slots} {r : List ℕ} {rs : List (List ℕ)}
       → Rec header-end tt r → All (λ o. o ≡ none) left → Fillers (m .header)
       → Dimension (m .header .model .dimension) (m .header .grid .heights) → Limits (m .header .times .maps) (m .header .grid)
-      → Writes (m .header) (record { exponent = e; epochs = []; rms = 0; height = 0 }) (maps (m .maps)) rs → Heads m plain e left (r ∷ rs)
+      → Writes (m .header) (begins e) (maps (m .maps)) rs → Heads m plain e left (r ∷ rs)
 
 -- ---- the text
 

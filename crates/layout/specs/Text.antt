@@ -3,7 +3,7 @@ use Prim.Native.Nat.{ℕ, _-_, _≤_}
 use mathlib.Core.List.{List, [], _∷_, _++_}
 use lib.ListN.{length, replicate}
 use Rattle.kit.specs.Answer.{All}
-use Rattle.kit.specs.Range.{Within}
+use Rattle.kit.specs.Range.{Within, Printable}
 use Rattle.forms.specs.Columns.{Blank}
 
 -- `Ended ls t`: the text t has the lines ls, each ended by LF or CR LF; a last line may have no end if it has a byte
@@ -12,10 +12,6 @@ pub data Ended : List (List ℕ) → List ℕ → Type 0 where
   last : {b : ℕ} {l : List ℕ} → Ended ((b ∷ l) ∷ []) (b ∷ l)
   lf : {l : List ℕ} {ls : List (List ℕ)} {t : List ℕ} → Ended ls t → Ended (l ∷ ls) (l ++ 10 ∷ t)
   crlf : {l : List ℕ} {ls : List (List ℕ)} {t : List ℕ} → Ended ls t → Ended (l ∷ ls) (l ++ 13 ∷ 10 ∷ t)
-
--- each byte from 32 to 126
-abbrev pub Printable : List ℕ → Type 0
-Printable l = All (Within 32 126) l
 
 -- at most 80 bytes
 abbrev pub Clean : List ℕ → Type 0

@@ -8,10 +8,11 @@ use native.Mathlib.Decide.{ℕ-discrete, decLe}
 use lib.ListN.{length, getD, take, drop, take-append-drop, drop-of-length-le, length-append}
 use lib.Seq.{drop-cons, take-suc, length-take-le, take-all, take-at, drop-at}
 use Rattle.kit.specs.Answer.{×-dec, pick, pick-yes, pick-no, pick-elim, All, all-dec}
-use Rattle.kit.specs.Lists.{all-front, all-behind}
+use Rattle.kit.specs.ListLaws.{all-front, all-behind}
 use Rattle.kit.specs.Range.{Within, within?}
 use Rattle.layout.specs.Text.{Clean, pad}
 use Rattle.reading.specs.Feed.{why, front, Opens, opens?, split, Feed, over, bad, row, feed, bad-column}
+use Rattle.reading.specs.LineLaws.{split-lf, split-crlf}
 use Rattle.lines.specs.Lines.{passing, not-lf?, printable?, blank?, look-of, Spans, Skips, Rows}
 use Rattle.lines.specs.Cuts.{Cut, with-byte, cuts, Starts}
 use Rattle.lines.specs.declared.Look.{Look}
@@ -20,14 +21,6 @@ use Rattle.lines.specs.declared.Span.{Span}
 use Rattle.lines.proofs.Passing.{passing-le, passing-all, passing-next, passing-whole, passing-not}
 
 -- ---- the text's first line
-
-pub split-lf : (t : List ℕ) → split (10 ∷ t) ≡ [] ∷ split t
-unfolding split pick ℕ-discrete
-split-lf t = refl
-
-pub split-crlf : (t : List ℕ) → split (13 ∷ 10 ∷ t) ≡ [] ∷ split t
-unfolding split pick ℕ-discrete ×-dec opens?
-split-crlf t = refl
 
 -- a line without the CR that ends it
 unfoldable pub chop : List ℕ → List ℕ
@@ -56,11 +49,11 @@ split-last b (c ∷ l) a = split-front b (c ∷ l) (a .0) (λ h. a .1 .0 (h .1))
 
 -- ---- and its end
 
-cuts-lf : (t : List ℕ) → cuts (10 ∷ t) ≡ ([], 10 ∷ []) ∷ cuts t
+pub cuts-lf : (t : List ℕ) → cuts (10 ∷ t) ≡ ([], 10 ∷ []) ∷ cuts t
 unfolding cuts pick ℕ-discrete
 cuts-lf t = refl
 
-cuts-crlf : (t : List ℕ) → cuts (13 ∷ 10 ∷ t) ≡ ([], 13 ∷ 10 ∷ []) ∷ cuts t
+pub cuts-crlf : (t : List ℕ) → cuts (13 ∷ 10 ∷ t) ≡ ([], 13 ∷ 10 ∷ []) ∷ cuts t
 unfolding cuts pick ℕ-discrete ×-dec opens?
 cuts-crlf t = refl
 

@@ -5,12 +5,9 @@ use native.Mathlib.Omega.{arith}
 use mathlib.Core.List.{List}
 use lib.ListN.{length, take, drop, length-drop, length-take}
 use lib.Seq.{take-all}
+use Rattle.kit.specs.ListLaws.{rest-of}
 use Rattle.lines.specs.Lines.{Stands, Skips, Rows}
 use Rattle.lines.specs.declared.Line.{Line}
-
--- a part that goes to the end
-pub rest-of : (t : List ℕ) (at : ℕ) → take (length t - at) (drop at t) ≡ drop at t
-rest-of t at = take-all (length t - at) (drop at t) (simp length-drop (omega arith))
 
 pub stands : (t : List ℕ) (at : ℕ) (r o : Line) → Stands (take (length t - at) (drop at t)) r → r ≡ o → Stands (drop at t) o
 stands t at r o h e = subst (Stands (drop at t)) e (subst (λ (x : List ℕ). Stands x r) (rest-of t at) h)

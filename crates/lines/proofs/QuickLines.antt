@@ -10,11 +10,11 @@ use lib.ListN.{length, getD, take, drop, length-drop}
 use lib.Seq.{drop-drop, length-take-le}
 use borrow.Author.Tests.{leb-true}
 use Rattle.kit.specs.Range.{Within}
+use Rattle.kit.specs.ListLaws.{rest-of}
 use Rattle.lines.specs.Lines.{passing, not-lf?, printable?, blank?, Spans, Skips, Rows}
 use Rattle.lines.specs.Quick.{Sixteen, Ahead}
 use Rattle.lines.proofs.Passing.{passing-le, passing-all, passing-step, passing-end, passing-skip, passing-before, passing-is, passing-full}
 use Rattle.lines.proofs.Firsts.{spans-empty, spans-lf, look-full, look-blank, stand-skip, stand-row}
-use Rattle.lines.proofs.Parts.{rest-of}
 
 -- ---- 16 bytes
 

@@ -29,9 +29,9 @@ use Rattle.areas.proofs.Needs.{needs}
 use Rattle.areas.proofs.Made.{rows-formed, made-formed}
 use Rattle.areas.proofs.Scanned.{scan-leaves, scan-stays}
 use Rattle.needs.specs.Needs.{first-short}
+use Rattle.needs.proofs.ShortLaws.{all-long}
 use Rattle.judging.specs.Scanned.{set-of}
 use Rattle.outcome.specs.Outcome.{accepted, at-place, eleven}
-use Rattle.input.proofs.StoreLaws.{all-long}
 use Rattle.index.specs.Index.{Entries, entries}
 use Rattle.index.specs.Made.{just-rows, placed-from, opened, put-starts, positions-of, entries-of, fronts}
 use Rattle.index.proofs.Lines.{lies}

@@ -6,6 +6,7 @@ use Prim.Native.Nat.{ℕ, _-_, _<_}
 use native.Mathlib.Omega.{arith}
 use lib.ListN.{getD}
 use Rattle.kit.specs.Answer.{ok, refused}
+use Rattle.kit.specs.TruthLaws.{clash}
 use Rattle.mapset.specs.declared.Header.{Header}
 use Rattle.mapset.specs.MapSet.{MapSet}
 use Rattle.mapset.specs.Areas.{Areas, Present}
@@ -41,9 +42,6 @@ index-once t l r s l′ l″ p q =
 pub refused-as-read : (t : List ℕ) (l : Entries) (a : Areas) (w : Why) → read t ≡ refused w → made t l .told ≡ outcome t a .told
 unfolding made-of outcome-of
 refused-as-read t l a w e = ap (λ r. made-of r t l .told) e ∙ sym (ap (λ r. outcome-of r a .told) e)
-
-clash : {X : Type 0} → _≡_ {A = ℕ} 0 1 → X
-clash z = absurd (omega arith)
 
 -- an index that is accepted: header record, texts and lists of the map set
 pub record Given (m : MapSet) (t : List ℕ) (l : Entries) (h : Header) (r : ReadOut) (l′ : Entries) : Type 0 where

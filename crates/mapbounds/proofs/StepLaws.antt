@@ -11,6 +11,7 @@ use Rattle.kit.specs.Answer.{Answer, ok, refused, need, need-yes, need-no, bind
 use Rattle.kit.specs.Integer.{int?}
 use Rattle.kit.specs.Parts.{up}
 use Rattle.kit.specs.Truth.{truth, truth-true, truth-false}
+use Rattle.kit.specs.TruthLaws.{clash}
 use Rattle.mapset.specs.declared.Kind.{Kind}
 use Rattle.mapset.specs.declared.Kind.the-variants.{Tec, Rms, Height}
 use Rattle.mapset.specs.declared.Header.{Header}
@@ -27,9 +28,6 @@ use Rattle.mapbounds.specs.declared.Past.{Past}
 use Rattle.mapbounds.specs.declared.Push.the-variants.{Keep}
 use Rattle.mapbounds.specs.declared.Move.{Move}
 use Rattle.mapbounds.specs.declared.Move.the-variants.{Go, Stop}
-
-pub clash : {X : Type 0} → _≡_ {A = ℕ} 0 1 → X
-clash z = absurd (omega arith)
 
 -- ---- answers and tests
 

@@ -1,7 +1,7 @@
 -- What every step keeps: the epochs grow by at most the one that is remembered, there is room for it, and the maps handed back are those that
 -- were seen.
 use mathlib.Core.Path.{_≡_, refl, sym, _∙_}
-use mathlib.Core.Bool.{Bool, true, false, _||_}
+use mathlib.Core.Bool.{Bool, true, false, _||_, or-true}
 use mathlib.Core.List.{List, [], _∷_, _++_}
 use Prim.Native.Nat.{ℕ, suc, _+_, _<_}
 use native.Mathlib.Omega.{arith}
@@ -39,10 +39,6 @@ none-new es = rw (drop-length es)
 
 one-new : (es : List ℕ) (t : ℕ) → es ++ (t ∷ []) ≡ grow (first-of (drop (length es) (es ++ (t ∷ [])))) es
 one-new es t = rw (drop-append-seam es (t ∷ []))
-
-or-true : (b : Bool) → (b || true) ≡ true
-or-true true = refl
-or-true false = refl
 
 -- the map that starts is seen
 starts : (i k : ℕ) (ns : List OtherMap) → 0 < i → (ltb 0 k || true) ≡ seen i ns

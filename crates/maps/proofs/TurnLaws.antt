@@ -1,6 +1,6 @@
 -- The maps, line by line.
 use mathlib.Core.Path.{_≡_, refl, sym, ap, _∙_, subst}
-use mathlib.Core.Bool.{Bool, true, false, _||_}
+use mathlib.Core.Bool.{Bool, true, false, _||_, or-false}
 use mathlib.Core.List.{List, [], _∷_}
 use Prim.Native.Nat.{ℕ, suc, _+_, _-_, _≤_, _<_, _^_}
 use native.Mathlib.Numerals.{add-one}
@@ -10,6 +10,7 @@ use lib.IntN.{ℤ}
 use lib.ListN.{length, take, drop, set, length-set, length-append}
 use lib.Seq.{length-take-le, take-suc-set}
 use Rattle.kit.specs.Answer.{Answer, ok, refused, bind, amap}
+use Rattle.kit.specs.TruthLaws.{clash}
 use Rattle.mapset.specs.declared.Header.{Header}
 use Rattle.mapset.specs.MapSet.{Maps}
 use Rattle.layout.specs.Layout.{Force}
@@ -37,9 +38,6 @@ use Rattle.maps.specs.declared.Turn.the-variants.{On, Halt, Out}
 use Rattle.maps.specs.declared.Verdict.the-variants.{Fine, Wrong}
 use Rattle.maps.proofs.FairLaws.{Fair, step-fair}
 
-clash : {X : Type 0} → _≡_ {A = ℕ} 0 1 → X
-clash z = absurd (omega arith)
-
 -- ---- the start and the end
 
 pub told-start : (p : Past) → p .rms ≡ 0 → p .height ≡ 0 → (x : Answer Why (List ℤ × Maps)) → told-after Between (force-of p []) x ≡ told x
@@ -52,13 +50,9 @@ unfolding told-after
 any-epochs q p es (ok w) = refl
 any-epochs q p es (refused w) = refl
 
-or-false : (b : Bool) → b ≡ (b || false)
-or-false true = refl
-or-false false = refl
-
 pub finish-ended : (p : Past) (n : ℕ) → Fine (ltb 0 (p .rms)) (ltb 0 (p .height)) ≡ ended-with Ended (force-of p []) n
 unfolding finish told-after
-finish-ended p n = λ i. Fine (or-false (ltb 0 (p .rms)) i) (or-false (ltb 0 (p .height)) i)
+finish-ended p n = λ i. Fine (sym (or-false (ltb 0 (p .rms))) i) (sym (or-false (ltb 0 (p .height))) i)
 
 module _ (p : Force) (n : ℕ) (h : n < 2 ^ 63) where
   ten : (q : Place) → finish q (suc n) ≡ short (suc n) → Wrong 10 (n + 1) 0 ≡ ended-with q p (suc n)

@@ -8,7 +8,7 @@ use native.Mathlib.Decide.{ℕ-discrete, decLe, decLt}
 use lib.ListN.{length, take}
 use lib.IntN.{ℤ}
 use Rattle.kit.specs.Answer.{All, all-dec, ×-dec, ⊎-dec, ¬-dec}
-use Rattle.kit.specs.Range.{Within, within?}
+use Rattle.kit.specs.Range.{Within, within?, Printable}
 use Rattle.kit.specs.Truth.{dec-by}
 use Rattle.calendar.specs.Calendar.{end}
 use Rattle.mapset.specs.Grid.{Line, heights, latitudes, longitudes, AxisRules, Limits}
@@ -31,10 +31,6 @@ use Rattle.mapset.specs.declared.Lengths.{Lengths}
 
 abbrev pub VersionSays : Version → Type 0
 VersionSays v = Within 10 11 (v .tenths) × ((v .kind ≡ 73) × TakesCode (v .tenths) (v .code))
-
--- the bytes of a text field
-abbrev pub Printable : List ℕ → Type 0
-Printable t = All (Within 32 126) t
 
 abbrev pub TextsSay : Texts → Type 0
 TextsSay t = Written 20 (t .program) × (Written 20 (t .agency) × (Written 20 (t .date) × (Written 4 (t .mapping) × Written 60 (t .observables))))

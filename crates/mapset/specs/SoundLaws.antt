@@ -4,7 +4,7 @@ use mathlib.Core.Bool.{Bool, true, false}
 use mathlib.Core.Logic.{inl, inr}
 use mathlib.Core.List.{List, [], _∷_}
 use mathlib.Core.Option.{Option, some}
-use Prim.Native.Nat.{ℕ, suc, _+_, _*_, _≤_, _<_}
+use Prim.Native.Nat.{ℕ, suc, _+_, _*_, _≤_, _<_, zero}
 use native.Mathlib.Nat.{mul-assoc, mul-le-mul-left}
 use native.Mathlib.Omega.{arith}
 use native.Mathlib.Numerals.{add-one}
@@ -19,7 +19,7 @@ use Rattle.calendar.specs.Calendar.{end}
 use Rattle.mapset.specs.Grid.{Line, AxisRules, Limits, nodes, layers, rows, columns}
 use Rattle.mapset.specs.Header.{Content, count, tenths, epoch, axis, program, mapping, observables, system, Said, number, along, words, counts, Written, Accepts, a-count, a-tenths, a-epoch, a-axis, a-program, a-mapping, a-observables, a-system, if-stands, Filled, TakesCode, Stand, stand-end, stand-some, stand-none, HeaderRules}
 use Rattle.mapset.specs.declared.Kind.the-variants as K
-use Rattle.mapset.specs.Areas.{Areas, present?, nowhere?, values, value-need, Follows, EpochRules, Sound}
+use Rattle.mapset.specs.Areas.{Areas, present?, nowhere?, values, value-need, Follows, EpochRules, Sound, Run, Present, Nowhere}
 use Rattle.mapset.specs.Judged.{judged}
 use Rattle.mapset.specs.JudgedLaws.{fine, rules}
 use Rattle.mapset.specs.Sound.{Count, HeaderSays, StartsAt, EpochsSay, SoundSays, printable?, written?, axis?, runs?, starts?, sound-says?}
@@ -29,6 +29,7 @@ use Rattle.mapset.specs.declared.Header.{Header}
 use Rattle.mapset.specs.declared.Texts.{Texts}
 use Rattle.mapset.specs.declared.axes.Judged.{Judged}
 use Rattle.mapset.specs.declared.axes.Judged.the-variants as J
+use Rattle.mapset.specs.declared.Kind.{Kind}
 
 -- a code that a version takes is one of the list's eleven
 pub takes-known : {v c : ℕ} → TakesCode v c → c < 11
@@ -194,11 +195,20 @@ say-epochs : (h : Header) (es : List ℕ) → EpochsSay (h .times) es → EpochR
 say-epochs h [] r = absurd (r .0)
 say-epochs h (e ∷ es) r = (r .0, r .1)
 
-from-zero : (ms : List ℕ) → All (λ m. m ≤ 3) ms → All (Within 0 3) ms
+pub run-below : (i last e : ℕ) (fs : List ℕ) → Run i last e fs → e ≤ last
+run-below i last e [] r = omega (arith, r)
+run-below i last e (f ∷ fs) r = let b = run-below i last f fs (r .1) in omega (arith, r .0 .0)
+
+pub marked : (k : Kind) (ms : List ℕ) (i : ℕ) → i < length ms → Present k (getD ms i 0) → ¬ Nowhere k ms
+marked k [] i h p n = omega arith
+marked k (m ∷ ms) zero h p n = n .0 p
+marked k (m ∷ ms) (suc i) h p n = marked k ms i (omega arith) p (n .1)
+
+pub from-zero : (ms : List ℕ) → All (λ m. m ≤ 3) ms → All (Within 0 3) ms
 from-zero [] a = tt
 from-zero (m ∷ ms) a = ((omega arith, a .0), from-zero ms (a .1))
 
-to-three : (ms : List ℕ) → All (Within 0 3) ms → All (λ m. m ≤ 3) ms
+pub to-three : (ms : List ℕ) → All (Within 0 3) ms → All (λ m. m ≤ 3) ms
 to-three [] a = tt
 to-three (m ∷ ms) a = (a .0 .1, to-three ms (a .1))
 

@@ -11,6 +11,7 @@ use lib.IntN.{ℤ}
 use Rattle.kit.specs.Answer.{Answer, ok, refused, need, need-yes, need-no, bind, pick}
 use Rattle.kit.specs.Integer.{int?}
 use Rattle.kit.specs.Truth.{truth}
+use Rattle.kit.specs.TruthLaws.{clash}
 use Rattle.calendar.specs.declared.Taken.{Taken}
 use Rattle.calendar.specs.declared.Taken.the-variants.{At, Wrong}
 use Rattle.mapset.specs.declared.Kind.the-variants.{Tec}
@@ -31,7 +32,7 @@ use Rattle.mapsteps.specs.ByLabel.{opened}
 use Rattle.mapbounds.specs.declared.Past.{Past}
 use Rattle.mapbounds.specs.declared.Push.the-variants.{Keep, New}
 use Rattle.mapbounds.specs.declared.Move.the-variants.{Go}
-use Rattle.mapbounds.proofs.StepLaws.{clash, bind-ok, bind-no, need-true, need-false}
+use Rattle.mapbounds.proofs.StepLaws.{bind-ok, bind-no, need-true, need-false}
 
 -- ---- EPOCH OF CURRENT MAP
 

@@ -12,9 +12,9 @@ use Rattle.kit.specs.Answer.{pick, pick-yes, pick-no, pick-elim, ×-dec}
 use Rattle.kit.specs.Integer.{Between}
 use Rattle.mapset.specs.Areas.{Present, present?}
 use Rattle.mapset.specs.declared.Kind.{Kind}
-use Rattle.mapset.specs.declared.Kind.the-variants.{Height as height}
+use Rattle.mapset.specs.declared.Kind.the-variants.{Tec as tec, Rms as rms, Height as height}
 use Rattle.nodes.specs.Value.{IsValue, thousandths, is-value?, worth, kind-of, value}
-use Rattle.nodes.specs.Nodes.{power-of, plain, in-node, Small}
+use Rattle.nodes.specs.Nodes.{power-of, plain, in-node, Small, bare}
 use Rattle.nodes.specs.declared.Shape.{Shape}
 use Rattle.nodes.specs.declared.Weighed.{Weighed}
 use Rattle.nodes.specs.declared.Node.the-variants as N
@@ -121,3 +121,10 @@ pub km-node : (kind : ℕ) (v : ℤ) → 2 ≤ kind → N.Km (record { 0 = v }) 
 km-node zero v h = absurd (omega arith)
 km-node (suc zero) v h = absurd (omega arith)
 km-node (suc (suc k)) v h = refl
+
+-- ---- the unit taken off
+pub bare-node : (k : Kind) (o : Option ℤ) → bare (in-node k o) ≡ o
+bare-node k none = refl
+bare-node tec (some v) = refl
+bare-node rms (some v) = refl
+bare-node height (some v) = refl

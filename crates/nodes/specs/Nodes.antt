@@ -34,6 +34,20 @@ in-node tec (some v) = N.Tecu (record { 0 = v })
 in-node rms (some v) = N.Tecu (record { 0 = v })
 in-node height (some v) = N.Km (record { 0 = v })
 
+-- the unit taken off
+abbrev pub bare : Node → Option ℤ
+bare N.Nothing = none
+bare (N.Tecu v) = some (v .0)
+bare (N.Km v) = some (v .0)
+
+abbrev pub or-zero : Option ℤ → ℤ
+or-zero none = pos 0
+or-zero (some v) = v
+
+-- a node of a map with a weight
+abbrev pub corner : ℕ → ℕ → ℕ → ℕ → Weighed
+corner weight map row column = record { weight = weight; map = map; row = row; column = column }
+
 -- a node whose number, exponent and mark stand in the areas
 pub record Reached (values exponents : List ℤ) (marks : List ℕ) (s : Shape) (n : Weighed) : Type 0 where
   pub mark : n .map < length marks

@@ -14,17 +14,9 @@ use borrow.Author.Tests.{lt-ltb, le-ltb}
 use Rattle.forms.specs.Form.{Form, I, W1, sign}
 use Rattle.forms.specs.Show.{isMinus, figures, digits, withPoint, aligned, showField}
 use Rattle.forms.specs.Bytes.{leftByte}
+use Rattle.forms.specs.ShowLaws.{figures-enough}
 
 -- ---- one digit more at the end
-
-figures-enough : (j k n : ℕ) → n ≤ j → n ≤ k → figures j n ≡ figures k n
-figures-enough zero zero n h g = refl
-figures-enough zero (suc k) zero h g = refl
-figures-enough zero (suc k) (suc n) h g = absurd (omega arith)
-figures-enough (suc j) zero zero h g = refl
-figures-enough (suc j) zero (suc n) h g = absurd (omega arith)
-figures-enough (suc j) (suc k) zero h g = refl
-figures-enough (suc j) (suc k) (suc n) h g = rw (figures-enough j k (suc n / 10) (omega arith) (omega arith))
 
 figures-more : (n : ℕ) → figures (suc n) (suc n) ≡ figures (suc n / 10) (suc n / 10) ++ ((48 + suc n % 10) ∷ [])
 figures-more n = rw (figures-enough n (suc n / 10) (suc n / 10) (omega arith) (omega arith))

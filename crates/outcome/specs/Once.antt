@@ -5,6 +5,7 @@ use Prim.Native.Nat.{ℕ}
 use native.Mathlib.Omega.{arith}
 use native.Mathlib.Decide.{ℕ-discrete}
 use Rattle.kit.specs.Answer.{pick}
+use Rattle.kit.specs.TruthLaws.{clash}
 use Rattle.areas.specs.Flat.{areas}
 use Rattle.needs.specs.Needs.{lengths}
 use Rattle.outcome.specs.Outcome.{Told, accepted, at-place, eleven, told-reason, told}
@@ -52,9 +53,6 @@ back-told (Refused w) = back-reason w
 
 pub told-once : (a b : Reading) → told a ≡ told b → a ≡ b
 told-once a b e = sym (back-told a) ∙ ap back e ∙ back-told b
-
-clash : {X : Type 0} → _≡_ {A = ℕ} 0 1 → X
-clash z = absurd (omega arith)
 
 pub needs-once : (t : List ℕ) (a b : Measured) → Measures t a → Measures t b → a ≡ b
 needs-once t (M.Needs n) (M.Needs k) (m, (p, q)) (m′, (p′, q′)) = let z : m ≡ m′ = cc in ap M.Needs (q ∙ ap (λ x. lengths (areas x)) z ∙ sym q′)

@@ -12,14 +12,14 @@ use lib.ListN.{length, getD, take, drop, length-drop}
 use lib.Seq.{length-take-le}
 use Rattle.kit.specs.Answer.{All, all-dec}
 use Rattle.kit.specs.Range.{Within, within?}
-use Rattle.kit.specs.Truth.{truth, truth-true, truth-false}
+use Rattle.kit.specs.Truth.{truth, truth-true, truth-false, Says}
 use Rattle.forms.specs.Form.{I}
 use Rattle.forms.specs.Read.{readField}
 use Rattle.forms.specs.declared.Field.the-variants.{Number}
 use Rattle.mapset.specs.Areas.{Present, blocks}
 use Rattle.mapset.specs.Grid.{layers, rows, columns, Limits}
 use Rattle.mapset.specs.Sound.{HeaderSays}
-use Rattle.mapset.specs.SoundLaws.{header-groups, groups-header}
+use Rattle.mapset.specs.SoundLaws.{header-groups, groups-header, from-zero, to-three}
 use Rattle.mapset.specs.declared.Header.{Header}
 use Rattle.mapset.specs.declared.Texts.{Texts}
 use Rattle.layout.specs.Layout.{Exponent, per-map}
@@ -30,35 +30,21 @@ use Rattle.index.proofs.FoundLaws.{stands-found, found-stands}
 use Rattle.index.proofs.Kept.{first-in}
 use Rattle.index.proofs.AsRead.{done-in, before-in}
 use Rattle.indexed.specs.Hits.{between, block-from, At}
-use Rattle.pointed.specs.Told.{Decides, InGrid, told-part, Inside as InText, Numbers, Finds, Bounded}
+use Rattle.pointed.specs.Told.{InGrid, told-part, Inside as InText, Numbers, Finds, Bounded}
 use Rattle.pointed.specs.declared.Why.the-variants.{Unknown, Unfit, Outside, Absent, Astray}
 use Rattle.pointed.specs.declared.Reply.{Reply}
 use Rattle.pointed.specs.declared.Reply.the-variants.{Given, Refused}
 
-pub decides-true : (P : Type 0) (b : Bool) → Decides P b → b ≡ true → P
-decides-true P b d e = subst (Decides P) e d
-
-pub decides-false : (P : Type 0) (b : Bool) → Decides P b → b ≡ false → ¬ P
-decides-false P b d e = subst (Decides P) e d
-
 -- ---- 31
-
-loose : (l : List ℕ) → All (Within 0 3) l → All (λ m. m ≤ 3) l
-loose [] a = tt
-loose (m ∷ l) a = (a .0 .1, loose l (a .1))
-
-tight : (l : List ℕ) → All (λ m. m ≤ 3) l → All (Within 0 3) l
-tight [] a = tt
-tight (m ∷ l) a = ((omega arith, a .0), tight l (a .1))
 
 module _ (h : Header) (x : Texts) (ps : List ℕ) (es : List ℤ) (ms : List ℕ) where
   pub no-header : ¬ HeaderSays h x → ¬ Fit (index h x (entries ps es ms))
   no-header n f = n (header-groups h x (f .header))
 
   pub marks-decide : HeaderSays h x → 3 * blocks h ≤ length ps → 3 * blocks h ≤ length es → h .times .maps ≤ length ms
-      → (b : Bool) → b ≡ truth (all-dec (within? 0 3) (take (h .times .maps) ms)) → Decides (Fit (index h x (entries ps es ms))) b
-  marks-decide s p e m true q = record { header = groups-header h x s; positions = p; exponents = e; marks = m; marked = loose (take (h .times .maps) ms) (truth-true (all-dec (within? 0 3) (take (h .times .maps) ms)) (sym q)) }
-  marks-decide s p e m false q = λ f. truth-false (all-dec (within? 0 3) (take (h .times .maps) ms)) (sym q) (tight (take (h .times .maps) ms) (f .marked))
+      → (b : Bool) → b ≡ truth (all-dec (within? 0 3) (take (h .times .maps) ms)) → Says b (Fit (index h x (entries ps es ms)))
+  marks-decide s p e m true q = record { header = groups-header h x s; positions = p; exponents = e; marks = m; marked = to-three (take (h .times .maps) ms) (truth-true (all-dec (within? 0 3) (take (h .times .maps) ms)) (sym q)) }
+  marks-decide s p e m false q = λ f. truth-false (all-dec (within? 0 3) (take (h .times .maps) ms)) (sym q) (from-zero (take (h .times .maps) ms) (f .marked))
 
 pub limits : (h : Header) (x : Texts) → HeaderSays h x → Limits (h .times .maps) (h .grid)
 limits h x s = s .1 .1 .1 .1 .1 .1 .1 .1 .1
@@ -68,14 +54,14 @@ fit-limits x f = limits (x .header) (x .texts) (header-groups (x .header) (x .te
 
 -- ---- 21
 
-pub less-decides : (a n m : ℕ) → n ≡ m → Decides (a < m) (ltb a n)
+pub less-decides : (a n m : ℕ) → n ≡ m → Says (ltb a n) (a < m)
 less-decides a n m e = by (ltb a n) refl
   where
-    by : (b : Bool) → ltb a n ≡ b → Decides (a < m) b
+    by : (b : Bool) → ltb a n ≡ b → Says b (a < m)
     by true h = omega (arith, ltb-true a n h)
     by false h = λ k. omega (arith, ltb-false a n h)
 
-pub column-decides : (h : Header) (i l r c : ℕ) → Within 1 (h .times .maps) i → l < layers (h .grid) → r < rows (h .grid) → (b : Bool) → Decides (c < columns (h .grid)) b → Decides (InGrid h i l r c) b
+pub column-decides : (h : Header) (i l r c : ℕ) → Within 1 (h .times .maps) i → l < layers (h .grid) → r < rows (h .grid) → (b : Bool) → Says b (c < columns (h .grid)) → Says b (InGrid h i l r c)
 column-decides h i l r c m p q true d = (m, (p, (q, d)))
 column-decides h i l r c m p q false d = λ g. d (g .1 .1 .1)
 

@@ -17,11 +17,6 @@ use Rattle.pointed.specs.declared.Bounds.{Bounds}
 use Rattle.pointed.specs.declared.Reply.{Reply}
 use Rattle.pointed.specs.declared.Reply.the-variants.{Given, Refused}
 
--- a Bool that says whether P holds
-abbrev pub Decides : Type 0 → Bool → Type 0
-Decides P true = P
-Decides P false = ¬ P
-
 -- the map is one of 1 to n, and the node in the grid
 abbrev pub InGrid : Header → (map layer row column : ℕ) → Type 0
 InGrid h map layer row column =

@@ -1,13 +1,14 @@
 // A node by an index and its text: its number as written with its exponent, and the lines of its block.
 ghost use mathlib.Core.Path.{_≡_};
 ghost use Prim.Native.Nat.{_+_, _*_, _<_, _≤_};
+ghost use Rattle.kit.specs.Truth.{Says};
 ghost use Rattle.mapset.specs.Areas.{blocks};
 ghost use Rattle.mapset.specs.Grid.{rows, columns, Limits};
 ghost use Rattle.layout.specs.Layout.{per-map};
 ghost use Rattle.areas.specs.Stores.{before, first-of};
 ghost use Rattle.nodes.specs.Value.{kind-of};
 ghost use Rattle.index.specs.Index.{entries, index, node, Fit};
-ghost use Rattle.pointed.specs.Told.{Decides, InGrid, Inside as InText, Numbers, Finds, told-part, Bounded, HandsBack};
+ghost use Rattle.pointed.specs.Told.{InGrid, Inside as InText, Numbers, Finds, told-part, Bounded, HandsBack};
 use indexed::Hit;
 use mapset::Header;
 use mapset::Texts;
@@ -36,7 +37,7 @@ pub struct Bounds {
 
 // Whether an index has a valid header, lengths and marks.
 fn fits(header: Header, texts: Texts, positions: &[u64], exponents: &[i32], marks: &[u8]) -> bool
-    ensures { λ r. ⌜ Decides (Fit (index header texts (entries (now (positions .entry)) (now (exponents .entry)) (now (marks .entry))))) r ⌝ }
+    ensures { λ r. ⌜ Says r (Fit (index header texts (entries (now (positions .entry)) (now (exponents .entry)) (now (marks .entry))))) ⌝ }
 {
     if !headsound::header_fits(header, texts) {
         return false;
@@ -57,7 +58,7 @@ fn fits(header: Header, texts: Texts, positions: &[u64], exponents: &[i32], mark
 
 // Whether the map is one of 1 to n, and the node in the grid.
 fn in_grid(header: Header, map: u64, layer: u64, row: u64, column: u64) -> bool
-    ensures { λ r. ⌜ Decides (InGrid header map layer row column) r ⌝ }
+    ensures { λ r. ⌜ Says r (InGrid header map layer row column) ⌝ }
 {
     if map < 1 {
         return false;

@@ -27,6 +27,7 @@ use Rattle.writer.specs.Exact.{canon-of}
 use Rattle.output.specs.Write as W
 use Rattle.output.specs.declared.Written.{Written}
 use Rattle.needs.specs.Needs.{needed-and-lent, first-short}
+use Rattle.needs.proofs.ShortLaws.{none-short}
 use Rattle.outcome.specs.Outcome.{Told, with-room, outcome-of, told-reason, told}
 use Rattle.outcome.specs.Once.{told-once}
 use Rattle.input.specs.Once.{Reads, accepts-exactly}
@@ -35,7 +36,6 @@ use Rattle.outcome.specs.declared.Reading.{Reading}
 use Rattle.outcome.specs.declared.Reading.the-variants.{Accepted, Refused}
 use Rattle.outcome.specs.declared.ReadOut.{ReadOut}
 use Rattle.refusals.specs.Lines.{big-line, need-line, unsound-line, line-of}
-use Rattle.printing.specs.Exactly.{none-short}
 use Rattle.printing.specs.Printed.{fitted, canonical, shown, Stands, answered, Had, needed-and-had, set-printed, answer-printed, printed}
 
 -- ---- after writing into o, which becomes o′, y is to be printed

@@ -17,18 +17,13 @@ use Rattle.reading.specs.Exact.{read-made}
 use Rattle.areas.specs.Flat.{areas}
 use Rattle.writer.specs.Canon.{canon}
 use Rattle.needs.specs.Needs.{first-short}
+use Rattle.needs.proofs.ShortLaws.{none-short}
 use Rattle.refusals.specs.Lines.{place-line, Begins}
 use Rattle.printing.specs.Printed.{fitted, needed-and-had, set-printed, answer-printed, printed}
 
 -- no second line or text fits
 pub once : (t o o′ : List ℕ) (r r′ : ℕ) → Begins o r (printed t) → Begins o′ r′ (printed t) → take r o ≡ take r′ o′
 once t o o′ r r′ b b′ = b .front ∙ sym (b′ .front)
-
--- no area is too short
-pub none-short : (i : ℕ) (xs : List (ℕ × ℕ)) → All (λ x. x .0 ≤ x .1) xs → first-short i xs ≡ none
-unfolding first-short
-none-short i [] a = refl
-none-short i (x ∷ xs) a = pick-yes (decLe (x .0) (x .1)) _ _ (a .0) ∙ none-short (suc i) xs (a .1)
 
 -- a text that the rules make of m prints the canonical text of m, where there is room
 pub made-printed : (m : MapSet) (t : List ℕ) → Makes m t → length t ≤ 32768 → All (λ x. x .0 ≤ x .1) (needed-and-had (areas m)) → length (canon m) ≤ 65536 → printed t ≡ canon m

@@ -9,7 +9,7 @@ use mathlib.Core.List.{List, [], _∷_}
 use lib.ListN.{length, getD, replicate}
 use lib.IntN.{ℤ, pos, negsuc, natAbs}
 use Rattle.kit.specs.Answer.{ok, refused, bind, get, pick, same, sames, All, need-yes, Yields, y-ok, y-no, yields, need-yields, get-yields, bind-yields, yields-map}
-use Rattle.kit.specs.Lists.{below}
+use Rattle.kit.specs.ListLaws.{below}
 use Rattle.kit.specs.Range.{Natural, Within}
 use Rattle.mapset.specs.declared.Version.{Version}
 use Rattle.mapset.specs.Header.{Said, VersionRules, says}

@@ -56,6 +56,12 @@ pub data Feed : Type 0 where
   bad : Why → Feed
   row : ℕ → List ℕ → Feed → Feed
 
+-- the text is over, or its next line is refused
+abbrev pub NoRow : Feed → Type 0
+NoRow (over n) = Unit {0}
+NoRow (bad w) = Unit {0}
+NoRow (row n r f) = ⊥
+
 -- the column of the first byte that is not printable
 unfoldable pub bad-column : List ℕ → ℕ
 bad-column [] = 1

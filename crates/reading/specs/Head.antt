@@ -21,7 +21,7 @@ use Rattle.mapset.specs.Decisions.{end?, step?, together?, limits?, dimension?}
 use Rattle.mapset.specs.MapSet.{MapSet}
 use Rattle.layout.specs.Records.{Vals}
 use Rattle.layout.specs.Labels.{Label, version, description, comment, system, exponent, aux-start, aux-end, header-end, epoch, block, file-end, head, start, end, name, items, content, letters}
-use Rattle.layout.specs.Layout.{Slots, systems, Mode, plain, aux}
+use Rattle.layout.specs.Layout.{Slots, systems, Mode, plain, aux, begins}
 use Rattle.reading.specs.Feed.{Fault, fault, Why, on-line, Feed, over, bad, row}
 use Rattle.reading.specs.Fields.{label, fields}
 use Rattle.reading.specs.Maps.{misplaced, missing, date, on-date, exponent?, short, run}
@@ -206,5 +206,5 @@ heading c a e got (row n r f) =
     (λ t. elim t [
       | more a′ e′ got′ ↦ heading c a′ e′ got′ f
       | done ↦ amap (λ w. record { header = made c got; texts = made-texts got; maps = w .1 })
-          (run (made c got) Between (record { exponent = e; epochs = []; rms = 0; height = 0 }) 0 f)
+          (run (made c got) Between (begins e) 0 f)
     ])

@@ -8,8 +8,8 @@ use native.Mathlib.Decide.{ℕ-discrete}
 use lib.ListN.{length, getD, set, drop, length-set}
 use lib.IntN.{ℤ, pos, natAbs}
 use Rattle.kit.specs.Answer.{ok, bind, amap, get, pick, same, need-yes, pick-yes, pick-no, pick-elim, pick-yields, Yields, y-ok, y-no, yields, need-yields, get-yields, bind-yields, amap-yields, yields-map}
-use Rattle.kit.specs.Lists.{below}
-use Rattle.kit.specs.Range.{Natural}
+use Rattle.kit.specs.ListLaws.{below}
+use Rattle.kit.specs.Range.{Natural, Printable}
 use Rattle.calendar.specs.DateLaws.{dated-below}
 use Rattle.mapset.specs.declared.Version.{Version}
 use Rattle.mapset.specs.declared.Header.{Header}
@@ -17,10 +17,9 @@ use Rattle.mapset.specs.declared.Texts.{Texts}
 use Rattle.mapset.specs.Grid.{Limits}
 use Rattle.mapset.specs.Header.{Content, count, tenths, epoch as an-epoch, axis, program, mapping, observables, system as a-system, starred, Said, number, counts, Accepts, a-count, a-tenths, a-epoch, a-axis, a-program, a-mapping, a-observables, a-system as accepts-system, says, Fillers, Dimension}
 use Rattle.mapset.specs.MapSet.{MapSet, Maps}
-use Rattle.layout.specs.Text.{Printable}
 use Rattle.layout.specs.Records.{Vals, Fields, f-blank, f-text}
 use Rattle.layout.specs.Labels.{Label, version, description, comment, system, exponent, aux-start, aux-end, header-end, epoch, block, file-end, head, start, end, name, items, content, layout, letters, Rec, rec}
-use Rattle.layout.specs.Layout.{Force, maps, Slots, Shows, s-count, s-tenths, s-epoch, s-axis, s-program, s-mapping, s-observables, Mode, plain, aux, Heads, h-description, h-comment, h-exponent, h-field, h-system, h-aux, h-skip, h-back, h-end}
+use Rattle.layout.specs.Layout.{Force, maps, Slots, Shows, s-count, s-tenths, s-epoch, s-axis, s-program, s-mapping, s-observables, Mode, plain, aux, Heads, h-description, h-comment, h-exponent, h-field, h-system, h-aux, h-skip, h-back, h-end, begins}
 use Rattle.reading.specs.Feed.{Why, on-line, Feed, over, bad, row}
 use Rattle.reading.specs.Fields.{label, fields}
 use Rattle.reading.specs.Maps.{short, run}
@@ -132,7 +131,7 @@ on-end-of h t c x d g = rw (rec-fields x) (need-yes _ _ _ (complete-says h t) �
 
 end-row : (m : MapSet) (e : ℤ) (n : ℕ) {r : List ℕ} (y : Feed) → Rec header-end tt r → Fillers (m .header)
     → Dimension (m .header .model .dimension) (m .header .grid .heights) → Limits (m .header .times .maps) (m .header .grid)
-    → run (m .header) Between (record { exponent = e; epochs = []; rms = 0; height = 0 }) 0 y ≡ ok ([], m .maps)
+    → run (m .header) Between (begins e) 0 y ≡ ok ([], m .maps)
     → heading (m .header .version) plain e (says (m .header) (m .texts)) (row n r y) ≡ ok m
 unfolding heading head-step get bind amap at-head on-line
 end-row m e n y c f d g q =
@@ -304,9 +303,6 @@ module _ (c : Version) (e : ℤ) (got : Slots) (g : Got got) (r : List ℕ) (z :
 -- the map set that END OF HEADER and the maps make
 abbrev set-of : (c : Version) → Slots → Maps → MapSet
 set-of c got ms = record { header = made c got; texts = made-texts got; maps = ms }
-
-abbrev begins : ℤ → Force
-begins e = record { exponent = e; epochs = []; rms = 0; height = 0 }
 
 module _ (c : Version) (e : ℤ) (got : Slots) (g : Got got) (n : ℕ) (r : List ℕ) (f : Feed) where
   headed-end : (w : List ℤ × Maps) → Ends c got r → Wrote (made c got) Between (begins e) 0 f w → Headed c plain e got (row n r f) (set-of c got (w .1))

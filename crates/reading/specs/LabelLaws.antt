@@ -12,6 +12,7 @@ use lib.Seq.{take-all}
 use borrow.Author.Tests.{eq-eqb, eqb-true}
 use Rattle.kit.specs.Truth.{and-left, and-right}
 use Rattle.kit.specs.Answer.{pick, pick-yes, pick-no, same, sames}
+use Rattle.kit.specs.TruthLaws.{and-true}
 use Rattle.forms.specs.Columns.{columns}
 use Rattle.forms.specs.ColumnLaws.{columns-padded, columns-first}
 use Rattle.layout.specs.Text.{pad}
@@ -26,10 +27,6 @@ placed s (n ∷ ns) = pick (same s n) 0 (suc (placed s ns))
 
 -- ---- columns hold a name exactly where they are that name
 
-both-true : (a b : Bool) → (a && b) ≡ true → (a ≡ true) × (b ≡ true)
-both-true true b e = (refl, e)
-both-true false b e = let z : _≡_ {A = ℕ} 0 1 = cc in absurd (omega arith)
-
 pub held : (s : List ℕ) (a : ℕ) (n : List ℕ) → columns s a (length n) ≡ n → holds s a n ≡ true
 held s a [] e = refl
 held s a (x ∷ n) e =
@@ -43,7 +40,7 @@ nothing s a = refl
 pub holding : (s : List ℕ) (a : ℕ) (n : List ℕ) → holds s a n ≡ true → columns s a (length n) ≡ n
 holding s a [] e = nothing s a
 holding s a (x ∷ n) e =
-    let b = both-true (eqb (getD s a 32) x) (holds s (suc a) n) e in
+    let b = and-true (eqb (getD s a 32) x) (holds s (suc a) n) e in
     columns-first s a (length n) ∙ (λ i. eqb-true (getD s a 32) x (b .0) i ∷ holding s (suc a) n (b .1) i)
 
 -- each name has w bytes

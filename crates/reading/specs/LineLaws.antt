@@ -6,10 +6,10 @@ use mathlib.Core.List.{List, [], _∷_, _++_}
 use native.Mathlib.Decide.{ℕ-discrete, decLe}
 use lib.ListN.{length, replicate, length-append, length-replicate}
 use Rattle.kit.specs.Answer.{×-dec, pick, pick-yes, pick-no, pick-elim, All, all-dec}
-use Rattle.kit.specs.Lists.{all-append}
-use Rattle.kit.specs.Range.{Within, within?}
+use Rattle.kit.specs.ListLaws.{all-append}
+use Rattle.kit.specs.Range.{Within, within?, Printable}
 use Rattle.forms.specs.Columns.{Blank}
-use Rattle.layout.specs.Text.{Ended, none, last, lf, crlf, Printable, Clean, pad, Laid, blank, line}
+use Rattle.layout.specs.Text.{Ended, none, last, lf, crlf, Clean, pad, Laid, blank, line}
 use Rattle.reading.specs.Feed.{Why, front, Opens, opens?, split, Feed, over, bad, row, feed}
 
 -- ---- text and lines
@@ -31,7 +31,7 @@ begin b t h cr =
     pick-elim (λ ls. Ended ls (b ∷ t)) (ℕ-discrete b 10) (λ e. rw e (lf h))
     (λ _. pick-elim (λ ls. Ended ls (b ∷ t)) (×-dec (ℕ-discrete b 13) (opens? 10 t)) cr (λ _. fronted b (split t) t h))
 
-split-lf : (t : List ℕ) → split (10 ∷ t) ≡ [] ∷ split t
+pub split-lf : (t : List ℕ) → split (10 ∷ t) ≡ [] ∷ split t
 unfolding split pick ℕ-discrete
 split-lf t = refl
 
@@ -40,7 +40,7 @@ ended [] = unfold split in none
 ended (b ∷ []) = begin b [] (ended []) (λ h. absurd (h .1))
 ended (b ∷ c ∷ t) = begin b (c ∷ t) (ended (c ∷ t)) (λ h. rw (h .0, h .1, split-lf t) (crlf (ended t)))
 
-split-crlf : (t : List ℕ) → split (13 ∷ 10 ∷ t) ≡ [] ∷ split t
+pub split-crlf : (t : List ℕ) → split (13 ∷ 10 ∷ t) ≡ [] ∷ split t
 unfolding split pick ℕ-discrete ×-dec opens?
 split-crlf t = refl
 

@@ -10,7 +10,7 @@ use Rattle.mapset.specs.declared.Version.{Version}
 use Rattle.mapset.specs.declared.Header.{Header}
 use Rattle.mapset.specs.MapSet.{MapSet}
 use Rattle.layout.specs.Labels.{Label, version, description, comment, system, exponent, aux-start, aux-end, header-end, epoch, block, file-end, head, start, end}
-use Rattle.layout.specs.Layout.{Force, Slots, Mode, plain}
+use Rattle.layout.specs.Layout.{Force, Slots, Mode, plain, begins}
 use Rattle.reading.specs.Feed.{Fault, fault, Why, on-line, Feed, over, bad, row}
 use Rattle.reading.specs.Fields.{label, cells}
 use Rattle.reading.specs.Maps.{Todo, misplaced, loose, on-comment, on-exponent, on-start, on-end, on-epoch, on-block, on-file, taken, step, short, finish, on-row, run}
@@ -45,7 +45,7 @@ abbrev pub turn : (c : Version) (a : Mode) (e : ℤ) (got : Slots) → Turn → 
 turn c a e got (more a′ e′ got′) = record { to = header c a′ e′ got′; back = λ m. m }
 turn c a e got done =
     record {
-      to = maps (made c got) Between (record { exponent = e; epochs = []; rms = 0; height = 0 }) 0;
+      to = maps (made c got) Between (begins e) 0;
       back = λ w. record { header = made c got; texts = made-texts got; maps = w .1 };
     }
 
@@ -121,7 +121,7 @@ from-row (header c a e got) n r f = through n _ _ _ (head-step c a e got r) by
   where
     by : (t : Turn) → elim t as (λ x. Answer Why MapSet) [
       | more a′ e′ got′ ↦ heading c a′ e′ got′ f
-      | done ↦ amap (λ w. record { header = made c got; texts = made-texts got; maps = w .1 }) (run (made c got) Between (record { exponent = e; epochs = []; rms = 0; height = 0 }) 0 f)
+      | done ↦ amap (λ w. record { header = made c got; texts = made-texts got; maps = w .1 }) (run (made c got) Between (begins e) 0 f)
     ] ≡ amap (turn c a e got t .back) (from (turn c a e got t .to) f)
     by (more a′ e′ got′) = sym (amap-id (heading c a′ e′ got′ f))
     by done = refl

@@ -9,8 +9,9 @@ use lib.ListN.{length, replicate, take, drop, length-append, length-replicate, l
 use lib.Seq.{take-at, drop-at, length-take-le}
 use lib.IntN.{ℤ}
 use Rattle.kit.specs.Answer.{Answer, ok, amap, pick, same, sames, all-dec, ×-dec, All, need-yes, pick-elim, Yields, y-ok, y-no, yields, need-yields, amap-yields, yields-map}
-use Rattle.kit.specs.Lists.{below, all-front, all-behind}
+use Rattle.kit.specs.ListLaws.{below, all-front, all-behind}
 use Rattle.kit.specs.Truth.{decided}
+use Rattle.kit.specs.Range.{Printable}
 use Rattle.forms.specs.Form as form
 use Rattle.forms.specs.Form.{Form, Spells}
 use Rattle.forms.specs.Read.{readField}
@@ -21,7 +22,6 @@ use Rattle.forms.specs.declared.Field.the-variants.{Number, Bad}
 use Rattle.mapset.specs.declared.Kind.{Kind}
 use Rattle.mapset.specs.declared.Kind.the-variants.{Tec, Rms, Height}
 use Rattle.mapset.specs.Header.{Content, count, tenths, epoch as an-epoch, axis, program, mapping, observables, system as a-system, Written}
-use Rattle.layout.specs.Text.{Printable}
 use Rattle.layout.specs.Records.{Item, I, F, D, X, A, U, Vals, Fields, f-end, f-int, f-tenths, f-thousandths, f-blank, f-text, f-unread, Cells, c-blank, c-value}
 use Rattle.layout.specs.Labels.{Label, version, description, comment, system, exponent, aux-start, aux-end, header-end, epoch, block, file-end, head, start, end, name, items, content, layout, labels, Rec, rec}
 use Rattle.reading.specs.Feed.{Fault}
@@ -69,7 +69,7 @@ scan-of (f-blank {w} {rest = rest} h) c =
 scan-of (f-text {w} bs {rest = rest} e h) c = rw (take-at bs rest w e, drop-at bs rest w e, scan-of h (c + w))
 scan-of (f-unread {w} bs {rest = rest} e h) c = rw (drop-at bs rest w e) (scan-of h (c + w))
 
-unfoldable pub size : List Item → ℕ
+abbrev pub size : List Item → ℕ
 size [] = 0
 size (I w ∷ is) = w + size is
 size (F w ∷ is) = w + size is
@@ -79,7 +79,6 @@ size (A w ∷ is) = w + size is
 size (U w ∷ is) = w + size is
 
 pub length-fields : {is : List Item} {vs : Vals is} {bs : List ℕ} → Fields is vs bs → length bs ≡ size is
-unfolding size
 length-fields f-end = refl
 length-fields (f-int bs {rest = rest} s h) = let i = length-fields h in let e = spells-width s in simp length-append (omega arith)
 length-fields (f-tenths bs {rest = rest} s h) = let i = length-fields h in let e = spells-width s in simp length-append (omega arith)
@@ -117,7 +116,7 @@ rest-size : (w s : ℕ) (bs : List ℕ) → length bs ≡ w + s → length (drop
 rest-size w s bs z = simp length-drop (omega arith)
 
 pub scan-yields : (c : ℕ) (is : List Item) (bs : List ℕ) → length bs ≡ size is → Yields (λ vs. Fields is vs bs) (scan c is bs)
-unfolding scan size
+unfolding scan
 scan-yields c [] [] z = y-ok f-end
 scan-yields c [] (b ∷ bs) z = absurd (omega arith)
 scan-yields c (I w ∷ is) bs z =
@@ -135,7 +134,6 @@ scan-yields c (U w ∷ is) bs z = yields-map (λ vs h. cut-unread w bs (omega ar
 -- ---- every layout has 60 columns
 
 size-items : (k : Content) → size (items k) ≡ 60
-unfolding size
 size-items (count low high) = refl
 size-items (tenths low high) = refl
 size-items an-epoch = refl
@@ -146,7 +144,6 @@ size-items observables = refl
 size-items a-system = refl
 
 pub size-layout : (l : Label) → size (layout l) ≡ 60
-unfolding size
 size-layout version = refl
 size-layout description = refl
 size-layout comment = refl

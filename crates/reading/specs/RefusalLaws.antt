@@ -10,11 +10,11 @@ use lib.IntN.{ℤ}
 use lib.Dec.{T, leb, leb→le}
 use lib.ListN.{length, take, drop, getD}
 use Rattle.kit.specs.Answer.{Answer, ok, refused, bind, amap, all-dec, All, pick-yes, pick-no, Yields, y-ok, y-no, yields, amap-yields}
-use Rattle.kit.specs.Range.{Within, within?}
+use Rattle.kit.specs.Range.{Within, within?, Printable}
 use Rattle.forms.specs.Columns.{Blank}
 use Rattle.mapset.specs.declared.Version.{Version}
 use Rattle.mapset.specs.declared.Header.{Header}
-use Rattle.layout.specs.Text.{Printable, Clean, pad}
+use Rattle.layout.specs.Text.{Clean, pad}
 use Rattle.layout.specs.Layout.{Force, Slots, Mode}
 use Rattle.reading.specs.Feed.{Fault, Why, why, on-line, over, bad, row, bad-column, feed}
 use Rattle.reading.specs.Maps.{short}
@@ -132,7 +132,7 @@ starts-with k l ls [] e = let z : _≡_ {A = ℕ} 0 1 = cc in absurd (omega arit
 starts-with k l ls (x ∷ ls′) e = (ls′, cc, cc)
 
 -- nothing was read yet
-at-once : (s : State) (n : ℕ) → Fine s n []
+pub at-once : (s : State) (n : ℕ) → Fine s n []
 unfolding feed
 at-once s n = ⊎-elim (λ f. inl (f n ∙ ap short (omega arith))) (λ o. inr (o .out, o .accepted n)) (from-over s)
 
@@ -149,7 +149,7 @@ here s n l ls w e x y f =
       decided = λ ls′ q. let t = begins-with l [] ls′ q in ap (λ x. from s (feed n x)) (t .1) ∙ f (t .0);
     }
 
-amap-short : {A B : Type 0} (b : A → B) (n : ℕ) → amap b (short n) ≡ short n
+pub amap-short : {A B : Type 0} (b : A → B) (n : ℕ) → amap b (short n) ≡ short n
 unfolding amap short
 amap-short b n = refl
 

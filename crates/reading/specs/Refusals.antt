@@ -8,10 +8,9 @@ use lib.ListN.{length, take, drop, getD}
 use lib.Seq.{drop-cons, take-length}
 use native.Mathlib.Decide.{decLe}
 use Rattle.kit.specs.Answer.{Answer, ok, refused, All, all-dec, pick-yes, pick-no}
-use Rattle.kit.specs.Range.{Within, within?}
+use Rattle.kit.specs.Range.{Within, within?, Printable}
 use Rattle.forms.specs.Columns.{Blank}
 use Rattle.mapset.specs.MapSet.{MapSet}
-use Rattle.layout.specs.Text.{Printable}
 use Rattle.reading.specs.Feed.{Why, why, split, bad, bad-column, feed}
 use Rattle.reading.specs.Maps.{short}
 use Rattle.reading.specs.Read.{begin, read}

@@ -9,6 +9,7 @@ use lib.ListN.{length, take, drop}
 use lib.Seq.{drop-drop, take-take, take-nil}
 use borrow.Author.Tests.{eq-eqb, ne-eqb}
 use Rattle.kit.specs.Answer.{Answer, ok, refused, need, need-yes, need-no, amap, pick-yes, pick-no, all-dec}
+use Rattle.kit.specs.ListLaws.{drop-take}
 use Rattle.forms.specs.Form as form
 use Rattle.forms.specs.Read.{readField}
 use Rattle.forms.specs.Columns.{columns, further, firstNotBlank}
@@ -19,6 +20,7 @@ use Rattle.layout.specs.Text.{pad}
 use Rattle.layout.specs.Records.{Item, I, F, D, X, A, U, Vals}
 use Rattle.reading.specs.Feed.{Fault, fault}
 use Rattle.reading.specs.Fields.{number, blanks, blank, scan}
+use Rattle.reading.specs.RecordLaws.{size}
 
 -- ---- columns that must be blank
 
@@ -56,12 +58,6 @@ blank-first (b ∷ bs) c x = blank-cons b bs c x (ℕ-discrete b 32) (blank-firs
 
 -- ---- the columns of a padded line
 
-drop-take : {A : Type 0} (a n : ℕ) (l : List A) → drop a (take n l) ≡ take (n - a) (drop a l)
-drop-take zero n l = rw sub-zero
-drop-take (suc a) zero l = let e : 0 - suc a ≡ 0 = omega arith in rw e
-drop-take (suc a) (suc n) [] = sym (take-nil (suc n - suc a))
-drop-take (suc a) (suc n) (x ∷ l) = let e : suc n - suc a ≡ n - a = omega arith in rw e (drop-take a n l)
-
 -- the values of the columns after the first a, by the line's columns
 abbrev pub scanned : ℕ → (is : List Item) → List ℕ → Answer Fault (Vals is)
 scanned a [] line = ok tt
@@ -72,15 +68,6 @@ scanned a (X w ∷ is) line = unless (further (suc a) (firstNotBlank (columns li
 scanned a (A w ∷ is) line = amap (λ vs. (columns line a w, vs)) (scanned (a + w) is line)
 scanned a (U w ∷ is) line = scanned (a + w) is line
 
-abbrev width : List Item → ℕ
-width [] = 0
-width (I w ∷ is) = w + width is
-width (F w ∷ is) = w + width is
-width (D w ∷ is) = w + width is
-width (X w ∷ is) = w + width is
-width (A w ∷ is) = w + width is
-width (U w ∷ is) = w + width is
-
 module _ (line : List ℕ) (fits : length line ≤ 80) where
   column-run : (a w : ℕ) → a + w ≤ 60 → take w (drop a (take 60 (pad line))) ≡ columns line a w
   unfolding pad
@@ -90,7 +77,7 @@ module _ (line : List ℕ) (fits : length line ≤ 80) where
       → scan (suc a + w) is (drop w (drop a (take 60 (pad line)))) ≡ scanned (a + w) is line
   later w is a e = rw (drop-drop w a (take 60 (pad line)), suc-add a w) e
 
-  scan-is : (is : List Item) (a : ℕ) → a + width is ≤ 60 → scan (suc a) is (drop a (take 60 (pad line))) ≡ scanned a is line
+  scan-is : (is : List Item) (a : ℕ) → a + size is ≤ 60 → scan (suc a) is (drop a (take 60 (pad line))) ≡ scanned a is line
   unfolding scan
   scan-is [] a h = refl
   scan-is (I w ∷ is) a h =
@@ -106,5 +93,5 @@ module _ (line : List ℕ) (fits : length line ≤ 80) where
       ap₂ (λ (bs : List ℕ) (x : Answer Fault (Vals is)). amap (λ vs. (bs, vs)) x) (column-run a w (omega arith)) (later w is a (scan-is is (a + w) (omega arith)))
   scan-is (U w ∷ is) a h = later w is a (scan-is is (a + w) (omega arith))
 
-  pub read-is : (is : List Item) → width is ≤ 60 → scan 1 is (take 60 (pad line)) ≡ scanned 0 is line
+  pub read-is : (is : List Item) → size is ≤ 60 → scan 1 is (take 60 (pad line)) ≡ scanned 0 is line
   read-is is h = scan-is is 0 (omega arith)

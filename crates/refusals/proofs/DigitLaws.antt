@@ -11,15 +11,7 @@ use lib.ListN.{length, length-append}
 use Rattle.io.specs.Digits.{glyph, Fewest}
 use Rattle.io.specs.Digits as text
 use Rattle.forms.specs.Show.{figures, digits}
-
-figures-enough : (j k n : ℕ) → n ≤ j → n ≤ k → figures j n ≡ figures k n
-figures-enough zero zero n h g = refl
-figures-enough zero (suc k) zero h g = refl
-figures-enough zero (suc k) (suc n) h g = absurd (omega arith)
-figures-enough (suc j) zero zero h g = refl
-figures-enough (suc j) zero (suc n) h g = absurd (omega arith)
-figures-enough (suc j) (suc k) zero h g = refl
-figures-enough (suc j) (suc k) (suc n) h g = rw (figures-enough j k (suc n / 10) (omega arith) (omega arith))
+use Rattle.forms.specs.ShowLaws.{figures-enough}
 
 glyph-is : (d : ℕ) → d < 10 → glyph d ≡ 48 + d
 glyph-is d h = rw (lt-ltb d 10 h)

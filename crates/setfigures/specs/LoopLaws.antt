@@ -10,7 +10,7 @@ use native.Mathlib.Nat.{mul-le-mul, le-refl}
 use lib.ListN.{length, getD, take, drop, replicate, drop-of-length-le, length-append, length-map, length-drop, length-replicate}
 use lib.Seq.{drop-cons, drop-drop, length-take-le}
 use Rattle.kit.specs.Answer.{All, pick-elim}
-use Rattle.kit.specs.Lists.{all-append}
+use Rattle.kit.specs.ListLaws.{all-append}
 use Rattle.mapset.specs.Areas.{present?}
 use Rattle.areas.specs.Lists.{flat, tab}
 use Rattle.nodes.specs.Value.{kind-of}

@@ -10,7 +10,7 @@ use Rattle.areas.specs.Lists.{flat, tab}
 use Rattle.areas.specs.Valid.{values-in}
 use Rattle.nodes.specs.Value.{kind-of, value}
 use Rattle.nodes.specs.declared.Shape.{Shape}
-use Rattle.sums.specs.Mean.{corner}
+use Rattle.nodes.specs.Nodes.{corner}
 use Rattle.tally.specs.Figures.{figures}
 use Rattle.tally.specs.Rows.{row}
 use Rattle.tally.specs.declared.Tally.{Tally}

@@ -11,9 +11,8 @@ use Rattle.areas.specs.Lists.{tab}
 use Rattle.areas.specs.Valid.{values-in}
 use Rattle.areas.proofs.ListLaws.{tab-length, tab-all}
 use Rattle.nodes.specs.Value.{kind-of}
-use Rattle.nodes.specs.Nodes.{Small}
+use Rattle.nodes.specs.Nodes.{Small, corner}
 use Rattle.nodes.specs.NodeLaws.{small-value}
-use Rattle.sums.specs.Mean.{corner}
 use Rattle.tally.specs.Figures.{given, lacking, range, figures, total, Bounded}
 use Rattle.tally.specs.FigureLaws.{counts-add, bounded-figures, Spans, range-spans}
 use Rattle.setfigures.specs.SetFigures.{shape, node-value, map-nodes, map-figures, kind-nodes, kind-figures}
@@ -50,9 +49,6 @@ module _ (k : ℕ) (h : Header) (a : Areas) where
   small-map i =
       all-flat-tab Small 0 (layers (h .grid)) _ (λ l. all-flat-tab Small 0 (rows (h .grid)) _ (λ r. tab-all Small 0 (columns (h .grid)) (λ c. node-value k h a i l r c)
       (λ c. small-value (shape k h l) (values-in (kind-of k) a) (a .exponents) (a .marks) (corner 1 i r c))))
-
-  pub map-bounded : (i : ℕ) → Bounded (map-figures k h a i)
-  map-bounded i = bounded-figures (map-nodes k h a i) (small-map i)
 
   pub kind-small : All Small (kind-nodes k h a)
   unfolding kind-nodes

@@ -8,7 +8,7 @@ use lib.ListN.{length, getD, take, drop, replicate, length-append, replicate-app
 use lib.Seq.{drop-cons}
 use lib.IntN.{ℤ}
 use Rattle.kit.specs.Answer.{All}
-use Rattle.kit.specs.Lists.{all-append}
+use Rattle.kit.specs.ListLaws.{all-append}
 use Rattle.areas.specs.Lists.{flat, tab}
 use Rattle.tally.specs.Gathered.{gathered}
 use Rattle.tally.specs.Figures.{figures, joined, total}

@@ -27,8 +27,3 @@ pub record Spanned (es : List ℕ) (t : ℕ) : Type 0 where
 -- no two neighbouring epochs are more than `limit` seconds apart
 abbrev pub Close : ℕ → List ℕ → Type 0
 Close limit es = (i : ℕ) → i + 1 < length es → epoch es (i + 1) ≤ epoch es i + limit
-
--- a test says whether P holds
-abbrev pub Says : Bool → Type 0 → Type 0
-Says true P = P
-Says false P = ¬ P

@@ -47,7 +47,7 @@ module _ (es : List ℕ) (r : Regular es) where
       let e : i + (j - i) ≡ j = omega arith in
       rw e at (rises-by i (j - i) (omega arith))
 
-  rises-past : (i j : ℕ) → i < j → j < length es → epoch es i < epoch es j
+  pub rises-past : (i j : ℕ) → i < j → j < length es → epoch es i < epoch es j
   rises-past i j h k = omega (arith, r .rises i (omega arith), rises-to (i + 1) j (omega arith) k)
 
   module _ (t : ℕ) where

@@ -1,8 +1,9 @@
 // Which maps a second falls between.
 ghost use Prim.Native.Nat.{_+_, _≤_, _<_};
 ghost use lib.ListN.{length};
+ghost use Rattle.kit.specs.Truth.{Says};
 ghost use Rattle.spans.specs.Time.{epoch, Uses};
-ghost use Rattle.spans.specs.Spans.{Regular, Before, Spanned, Close, Says};
+ghost use Rattle.spans.specs.Spans.{Regular, Before, Spanned, Close};
 
 // The shares of a map and of the next one.
 pub struct Shares {

@@ -13,11 +13,9 @@ use Rattle.cells.specs.declared.Cell.{Cell}
 use Rattle.spans.specs.declared.Shares.{Shares}
 use Rattle.nodes.specs.declared.Weighed.{Weighed}
 use Rattle.nodes.specs.declared.Shape.{Shape}
+use Rattle.nodes.specs.Nodes.{corner, or-zero}
 
 -- ---- the four nodes of a cell: 001's four-point formula times `tall` times `wide`, and a map's share
-abbrev pub corner : ℕ → ℕ → ℕ → ℕ → Weighed
-corner weight map row column = record { weight = weight; map = map; row = row; column = column }
-
 unfoldable pub corners : ℕ → ℕ → Cell → List Weighed
 corners share map c =
     corner (share * ((c .tall - c .down) * (c .wide - c .across))) map (c .row) (c .column)
@@ -47,10 +45,6 @@ IsSome (some v) = Unit {0}
 -- each needed node has a value: needed is a node whose weight is not zero
 abbrev pub Valued : List Term → Type 0
 Valued ts = All (λ (t : Term). (t .0 ≡ 0) ⊎ IsSome (t .1)) ts
-
-abbrev pub or-zero : Option ℤ → ℤ
-or-zero none = pos 0
-or-zero (some v) = v
 
 -- the sum of weight times value, and the sum of the weights
 unfoldable pub weighted : List Term → ℤ

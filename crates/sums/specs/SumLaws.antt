@@ -15,10 +15,10 @@ use Rattle.kit.specs.Answer.{All, pick-elim}
 use Rattle.mapset.specs.declared.Kind.{Kind}
 use Rattle.mapset.specs.declared.Kind.the-variants.{Tec as tec, Rms as rms, Height as height}
 use Rattle.nodes.specs.Value.{value}
-use Rattle.nodes.specs.Nodes.{in-node, Small}
-use Rattle.nodes.specs.NodeLaws.{small-value}
-use Rattle.sums.specs.Mean.{Term, Valued, valued?, mean, or-zero, corner, corners, spread, terms, weighted, weight}
-use Rattle.sums.specs.Sums.{bare, add-value, add-all, Room, Ready, summed}
+use Rattle.nodes.specs.Nodes.{in-node, Small, or-zero, corner, bare}
+use Rattle.nodes.specs.NodeLaws.{small-value, bare-node}
+use Rattle.sums.specs.Mean.{Term, Valued, valued?, mean, corners, spread, terms, weighted, weight}
+use Rattle.sums.specs.Sums.{add-value, add-all, Room, Ready, summed}
 use Rattle.cells.specs.declared.Cell.{Cell}
 use Rattle.spans.specs.declared.Shares.{Shares}
 use Rattle.nodes.specs.declared.Shape.{Shape}
@@ -28,12 +28,6 @@ use Rattle.sums.specs.declared.Sum.{Sum}
 use Rattle.sums.specs.declared.Sum.the-variants as S
 
 -- ---- the unit taken off
-pub bare-node : (k : Kind) (o : Option ℤ) → bare (in-node k o) ≡ o
-bare-node k none = refl
-bare-node tec (some v) = refl
-bare-node rms (some v) = refl
-bare-node height (some v) = refl
-
 pub small-node : {n : Node} (k : Kind) (o : Option ℤ) → n ≡ in-node k o → Small o → Small (bare n)
 small-node k o e h = rw (ap bare e ∙ bare-node k o) h
 
@@ -119,11 +113,6 @@ module _ (s : Shape) (vs ks : List ℤ) (ms : List ℕ) (ns : List Weighed) (d :
   pub next-sum : (t : Sum) → add-all (add-value t (this .weight) (value s vs ks ms this)) (terms s vs ks ms (drop (k + 1) ns)) ≡ add-all t (terms s vs ks ms (drop k ns))
   unfolding add-all
   next-sum t = rw split refl
-
-pub all-at : (P : Weighed → Type 0) (ns : List Weighed) (d : Weighed) (k : ℕ) → k < length ns → All P ns → P (getD ns k d)
-all-at P [] d k h a = absurd (omega arith)
-all-at P (n ∷ ns) d zero h a = a .0
-all-at P (n ∷ ns) d (suc k) h a = all-at P ns d k (omega arith) (a .1)
 
 -- ---- the nodes one by one
 early-at : (l m : List Weighed) (d : Weighed) (k : ℕ) → k < length l → getD (l ++ m) k d ≡ getD l k d

@@ -7,7 +7,7 @@ use Prim.Native.Nat.{ℕ, zero, suc, _+_, _*_, _≤_, _<_}
 use lib.IntN.{ℤ, pos, natAbs, _+ℤ_, _*ℤ_}
 use Rattle.kit.specs.Answer.{All}
 use Rattle.rounding.specs.Round.{rounded}
-use Rattle.nodes.specs.Nodes.{Reached, Small}
+use Rattle.nodes.specs.Nodes.{Reached, Small, bare}
 use Rattle.sums.specs.Mean.{spread, Term, terms, weight}
 use Rattle.cells.specs.declared.Cell.{Cell}
 use Rattle.spans.specs.declared.Shares.{Shares}
@@ -17,12 +17,6 @@ use Rattle.nodes.specs.declared.Node.{Node}
 use Rattle.nodes.specs.declared.Node.the-variants as N
 use Rattle.sums.specs.declared.Sum.{Sum}
 use Rattle.sums.specs.declared.Sum.the-variants as S
-
--- the unit taken off, for the sum
-abbrev pub bare : Node → Option ℤ
-bare N.Nothing = none
-bare (N.Tecu v) = some (v .0)
-bare (N.Km v) = some (v .0)
 
 -- each needed node is
 abbrev pub Reaches : List ℤ → List ℤ → List ℕ → Shape → Weighed → Type 0

@@ -8,6 +8,7 @@ use Rattle.tally.specs.Extremes.{first, rising, falling}
 use Rattle.tally.specs.declared.Tally.{Tally}
 use Rattle.tally.specs.declared.Range.{Range}
 use Rattle.tally.specs.declared.Range.the-variants as R
+use Rattle.nodes.specs.Nodes.{or-zero}
 
 -- ---- counts
 unfoldable pub given : List (Option ℤ) → ℕ
@@ -41,10 +42,6 @@ range [] = R.Nothing
 range (n ∷ ns) = hull (point n) (range ns)
 
 -- ---- sum
-abbrev pub or-zero : Option ℤ → ℤ
-or-zero none = pos 0
-or-zero (some v) = v
-
 unfoldable pub sum : List (Option ℤ) → ℤ
 sum [] = pos 0
 sum (n ∷ ns) = or-zero n +ℤ sum ns

@@ -10,14 +10,15 @@ use lib.Dec.{T, eqb}
 use lib.ListN.{length, getD, take, drop, length-drop}
 use lib.Seq.{drop-cons, length-take-le, getD-take, getD-drop}
 use Rattle.kit.specs.Truth.{tested-at}
+use Rattle.kit.specs.TruthLaws.{clash, is-true}
+use Rattle.kit.specs.ListLaws.{rest-of}
 use Rattle.forms.specs.Form.{I}
 use Rattle.forms.specs.Read.{readField, isNumber}
 use Rattle.forms.specs.Bytes.{isDigit, mayPrecede}
 use Rattle.fields.proofs.Judged.{well, int-judged}
 use Rattle.values.specs.Quick.{fits-as, last-columns, Standing, Fitting}
 use Rattle.values.specs.Values.{value-field, Passed}
-use Rattle.lines.proofs.Parts.{rest-of}
-use Rattle.values.proofs.ValueLaws.{clash, field-whole, passed-none, passed-more}
+use Rattle.values.proofs.ValueLaws.{field-whole, passed-none, passed-more}
 
 -- ---- a byte
 
@@ -93,10 +94,6 @@ module _ (l es : List ℕ) (same : es ≡ last-columns) (a s w : ℕ) (from : s 
   stand-on false st e = clash (cc)
 
 -- ---- a field
-
-is-true : (b : Bool) → T b → b ≡ true
-is-true true t = refl
-is-true false t = absurd t
 
 is-false : (b : Bool) → T (not b) → b ≡ false
 is-false true t = absurd t

@@ -11,6 +11,8 @@ use lib.Seq.{drop-drop, drop-append-le, take-suc-set, take-all}
 use lib.IntN.{ℤ}
 use Rattle.kit.specs.Answer.{Answer, ok, refused, need, need-no, amap, All, all-dec}
 use Rattle.kit.specs.AnswerLaws.{amap-amap, amap-same}
+use Rattle.kit.specs.TruthLaws.{clash}
+use Rattle.kit.specs.ListLaws.{all-append, all-drop}
 use Rattle.forms.specs.Form.{I}
 use Rattle.forms.specs.Read.{readField, isNumber}
 use Rattle.forms.specs.Columns.{Blank}
@@ -21,16 +23,13 @@ use Rattle.fields.proofs.Lines as lines
 use Rattle.layout.specs.Text.{pad}
 use Rattle.reading.specs.Feed.{fault}
 use Rattle.reading.specs.Fields.{number, blanks, blank, cells}
-use Rattle.reading.specs.RecordLaws.{blank-of}
+use Rattle.reading.specs.RecordLaws.{blank-of, blank-spaces}
 use Rattle.lines.specs.Lines.{passing, blank?}
 use Rattle.values.specs.Values.{Okay, listOf}
 use Rattle.values.specs.Values.{value-field, Judges, Passed}
 use Rattle.values.specs.declared.Cells.{Cells}
 use Rattle.values.specs.declared.Cells.the-variants.{Fine, Wrong}
 use Rattle.lines.proofs.Passing.{passing-le, passing-whole, passing-not, passing-append}
-
-pub clash : {X : Type 0} → _≡_ {A = ℕ} 0 1 → X
-clash z = absurd (omega arith)
 
 -- ---- a field
 
@@ -105,23 +104,10 @@ module _ (l : List ℕ) (m : ℕ) (p : Passed l m m) where
 
 -- ---- the rest of the line
 
-all-append : (x y : List ℕ) → All Blank x → All Blank y → All Blank (x ++ y)
-all-append [] y a b = b
-all-append (c ∷ x) y a b = (a .0, all-append x y (a .1) b)
-
-all-drop : (k : ℕ) (l : List ℕ) → All Blank l → All Blank (drop k l)
-all-drop zero l a = a
-all-drop (suc k) [] a = a
-all-drop (suc k) (c ∷ l) a = all-drop k l (a .1)
-
 all-past : (l r : List ℕ) (k : ℕ) → length l ≤ k → All Blank r → All Blank (drop k (l ++ r))
-all-past [] r k h a = all-drop k r a
+all-past [] r k h a = all-drop Blank k r a
 all-past (c ∷ l) r zero h a = absurd (omega arith)
 all-past (c ∷ l) r (suc k) h a = all-past l r k (omega arith) a
-
-spaces : (k : ℕ) → All Blank (replicate k 32)
-spaces zero = tt
-spaces (suc k) = (refl, spaces k)
 
 blanks-passing : (l : List ℕ) → blanks l ≡ passing blank? l
 unfolding blanks passing
@@ -135,7 +121,7 @@ module _ (l : List ℕ) (m : ℕ) where
 
   pub rest-none : length l ≤ m * 5 → (zs : List ℤ) × (cells (m * 5 + 1) 0 (drop (m * 5) (pad l)) ≡ ok zs)
   unfolding pad
-  rest-none h = all-ok (all-past l (replicate (80 - length l) 32) (m * 5) h (spaces (80 - length l)))
+  rest-none h = all-ok (all-past l (replicate (80 - length l) 32) (m * 5) h (blank-spaces (80 - length l)))
 
   module _ (b : ℕ) (is : b ≡ passing blank? (drop (m * 5) l)) (h : m * 5 < length l) where
     cut : drop (m * 5) (pad l) ≡ drop (m * 5) l ++ replicate (80 - length l) 32
@@ -151,7 +137,7 @@ module _ (l : List ℕ) (m : ℕ) where
     pub rest-fine : length l ≤ m * 5 + b → (zs : List ℤ) × (cells (m * 5 + 1) 0 (drop (m * 5) (pad l)) ≡ ok zs)
     rest-fine a =
         let s = more in
-        all-ok (rw cut (all-append (drop (m * 5) l) _ (passing-whole blank? (drop (m * 5) l) (omega arith)) (spaces (80 - length l))))
+        all-ok (rw cut (all-append Blank (drop (m * 5) l) _ (passing-whole blank? (drop (m * 5) l) (omega arith)) (blank-spaces (80 - length l))))
 
     pub rest-wrong : m * 5 + b < length l → cells (m * 5 + 1) 0 (drop (m * 5) (pad l)) ≡ refused (fault 6 (m * 5 + b + 1))
     unfolding cells blank

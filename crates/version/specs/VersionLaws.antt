@@ -12,7 +12,7 @@ use Rattle.kit.specs.Answer.{Answer, ok, refused, need, need-yes, need-no, bind
 use Rattle.forms.specs.Form as form
 use Rattle.forms.specs.Read.{readField}
 use Rattle.forms.specs.Columns.{columns}
-use Rattle.forms.specs.ColumnLaws.{columns-first}
+use Rattle.forms.specs.ColumnLaws.{columns-first, one-column}
 use Rattle.forms.specs.declared.Field.{Field}
 use Rattle.forms.specs.declared.Field.the-variants.{Number, Bad}
 use Rattle.forms.specs.declared.Found.{Found}
@@ -31,9 +31,6 @@ use Rattle.records.specs.Records.{version-in}
 use Rattle.records.specs.RecordLaws.{version-is}
 
 -- ---- the type, in column 21
-
-one-column : (line : List ℕ) (a : ℕ) → columns line a 1 ≡ getD line a 32 ∷ []
-one-column line a = columns-first line a 0 ∙ (unfold columns in refl)
 
 pub type-yes : (line : List ℕ) → getD line 20 32 ≡ 73 → columns line 20 1 ≡ 73 ∷ []
 type-yes line e = one-column line 20 ∙ ap (λ (b : ℕ). b ∷ []) e

@@ -8,6 +8,7 @@ use lib.IntN.{ℤ}
 use lib.ListN.{length, getD, take, drop, length-drop}
 use lib.Seq.{length-take-le, getD-take}
 use Rattle.kit.specs.Answer.{All, pick-no}
+use Rattle.kit.specs.ListLaws.{all-in}
 use Rattle.mapset.specs.Grid.{columns}
 use Rattle.mapset.specs.Areas.{Areas, Present, nowhere?, blocks}
 use Rattle.mapset.specs.declared.Header.{Header}
@@ -24,11 +25,6 @@ use Rattle.setfigures.specs.SetFigures.{map-nodes, map-figures, kind-nodes, kin
 use Rattle.setfigures.specs.Parts.{part-nodes, parts-nodes, part-row, parts-rows, KindHolds}
 use Rattle.setfigures.specs.PartLaws.{map-part}
 use Rattle.setfigures.specs.TabLaws.{tab-same}
-
-all-in : {A : Type 0} (P : A → Type 0) (l : List A) (i : ℕ) (d : A) → i < length l → All P l → P (getD l i d)
-all-in P [] i d h a = absurd (omega arith)
-all-in P (x ∷ l) zero d h a = a .0
-all-in P (x ∷ l) (suc i) d h a = all-in P l i d (omega arith) (a .1)
 
 module _ (h : Header) (a : Areas) (l : Long h a) (k : ℕ) (three : k < 3) where
   abbrev n : ℕ

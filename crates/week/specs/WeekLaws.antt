@@ -8,7 +8,7 @@ use native.Mathlib.Omega.{arith}
 use lib.IntN.{natAbs}
 use lib.ListN.{length, length-append}
 use Rattle.kit.specs.Answer.{All, pick, pick-yes, pick-no, pick-elim}
-use Rattle.kit.specs.Lists.{all-append}
+use Rattle.kit.specs.ListLaws.{all-append}
 use Rattle.nodes.specs.Nodes.{Small}
 use Rattle.tally.specs.Gathered.{gathered, Combines, gathered-permuted}
 use Rattle.tally.specs.Figures.{figures, joined, nothing, Bounded}

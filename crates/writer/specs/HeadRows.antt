@@ -9,7 +9,7 @@ use lib.IntN.{ℤ}
 use lib.ListN.{length, getD, set, length-set}
 use lib.Seq.{getD-set-same, getD-set-other, set-getD}
 use Rattle.kit.specs.Answer.{All, pick-elim}
-use Rattle.kit.specs.Lists.{below}
+use Rattle.kit.specs.ListLaws.{below}
 use Rattle.kit.specs.Range.{Within}
 use Rattle.days.specs.Years.{row}
 use Rattle.calendar.specs.Calendar.{DateAt, end as after-2199}

@@ -8,9 +8,9 @@ use native.Mathlib.Decide.{ℕ-discrete, decLe, decLt}
 use lib.IntN.{pos, negsuc}
 use lib.ListN.{length, getD, replicate}
 use Rattle.kit.specs.Answer.{ok, All, pick, same, sames, ×-dec, all-dec}
-use Rattle.kit.specs.Lists.{all-append, all-at, below}
+use Rattle.kit.specs.ListLaws.{all-append, all-at}
 use Rattle.kit.specs.Truth.{decided}
-use Rattle.kit.specs.Range.{Within, within?}
+use Rattle.kit.specs.Range.{Within, within?, Printable}
 use Rattle.forms.specs.Form as form
 use Rattle.forms.specs.Show.{showField, Room}
 use Rattle.forms.specs.ShowLaws.{show-spells, written-spells}
@@ -22,10 +22,10 @@ use Rattle.mapset.specs.declared.Axis.{Axis}
 use Rattle.mapset.specs.declared.Version.{Version}
 use Rattle.mapset.specs.Grid.{Line, AxisRules}
 use Rattle.mapset.specs.MapSet.{TecMap, OtherMap, MapSet}
-use Rattle.layout.specs.Text.{Printable}
 use Rattle.layout.specs.Records.{Fields, f-end, f-tenths, f-blank, f-text, f-unread}
 use Rattle.layout.specs.Labels.{version, header-end, file-end, layout, bytes, name, codes, Rec, rec}
 use Rattle.layout.specs.Layout.{Force, one-more, one-tec, maps, w-end, w-file, plain, Heads, h-end, rows-of, Makes, makes}
+use Rattle.layout.proofs.Laws.{code-length}
 use Rattle.reading.specs.Fields.{lookup}
 use Rattle.reading.specs.Read.{read}
 use Rattle.reading.specs.Exact.{read-made}
@@ -33,6 +33,7 @@ use Rattle.reading.specs.LineLaws.{spaces}
 use Rattle.reading.specs.RecordLaws.{Known, known-heads, known-maps}
 use Rattle.reading.specs.SlotLaws.{Fit, fit, FitAll}
 use Rattle.areas.specs.Formed.{Formed}
+use Rattle.areas.proofs.ScanRows.{known-version}
 use Rattle.writer.specs.Canon.{row-of, version-row, order, head-rows, other-rows, map-rows, canon-rows, canon}
 use Rattle.writer.specs.RowLaws.{GoodRow, spells-print, rec-good, rec-length, name-print, row-is, row-good}
 use Rattle.writer.specs.TextLaws.{laid-out, ended-by-lf}
@@ -80,13 +81,6 @@ module _ (m : MapSet) (f : Formed m) (a : Axes (m .header)) (n : m .header .time
       (λ q c y z. rms-put q c y z))
 
 -- ---- the version record
-
-known-version : Known version
-unfolding lookup name pick same sames ℕ-discrete
-known-version = refl
-
-code-length : (c : ℕ) → c < 11 → length (getD codes c []) ≡ 3
-code-length c h = below (λ c. length (getD codes c []) ≡ 3) 11 (refl, (refl, (refl, (refl, (refl, (refl, (refl, (refl, (refl, (refl, (refl, tt))))))))))) c h
 
 code-print : (c : ℕ) → Printable (getD codes c [])
 unfolding all-dec within? ×-dec decLe

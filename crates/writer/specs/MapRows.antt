@@ -10,7 +10,7 @@ use lib.IntN.{ℤ, pos}
 use lib.ListN.{length, length-append}
 use Rattle.kit.specs.Answer.{All, pick-elim}
 use Rattle.kit.specs.Integer.{int?}
-use Rattle.kit.specs.Lists.{all-append}
+use Rattle.kit.specs.ListLaws.{all-append}
 use Rattle.calendar.specs.Calendar.{end as after-2199}
 use Rattle.mapset.specs.declared.Kind.{Kind}
 use Rattle.mapset.specs.declared.Kind.the-variants.{Tec, Rms, Height}
@@ -18,6 +18,7 @@ use Rattle.mapset.specs.declared.Header.{Header}
 use Rattle.mapset.specs.Grid.{heights, latitudes, longitudes, AxisRules, rows, layers, columns}
 use Rattle.mapset.specs.MapSet.{Block, TecMap, OtherMap, Maps}
 use Rattle.mapset.specs.Areas.{Run}
+use Rattle.mapset.specs.SoundLaws.{run-below}
 use Rattle.layout.specs.Records.{Vals}
 use Rattle.layout.specs.Labels.{exponent, epoch, block, start, end, layout}
 use Rattle.layout.specs.Layout.{Force, under, with-epoch, last-of, with-last, one-more, one-tec, Other, Left, maps, blocks, Loose, Exponent, InTime, per-map, Opens, Writes, w-exponent, w-tec, w-epoch, w-other, w-block, w-close}
@@ -165,10 +166,6 @@ module _ (h : Header) (x : Axes h) where
       (w-other k o (row-is (start k) v b) (r .0) (rw c (r .1)) (r .2 .count) (u′ .0), (row-good (start k) v (known-maps .5 k) b, u′ .1))
 
 -- ---- epochs
-
-run-below : (i last e : ℕ) (fs : List ℕ) → Run i last e fs → e ≤ last
-run-below i last e [] r = omega (arith, r)
-run-below i last e (f ∷ fs) r = let b = run-below i last f fs (r .1) in omega (arith, r .0 .0)
 
 onward-below : (h : Header) (es : List ℕ) (e : ℕ) (fs : List ℕ) → Onward h es (e ∷ fs) → e ≤ h .times .last
 onward-below h [] e fs o = run-below (h .times .interval) (h .times .last) e fs (o .1)

@@ -10,6 +10,7 @@ use lib.Signed.{ltZ, _<ℤ_}
 use lib.Dec.{T, leb→le}
 use Rattle.kit.specs.Integer.{Between}
 use Rattle.kit.specs.Parts.{up, dn, add-parts, scale-up, scale-dn, sub-parts2, parts-le, le-parts, lt-true, abs-parts, one-zero}
+use Rattle.kit.specs.TruthLaws.{is-true}
 use Rattle.forms.specs.Form as form
 use Rattle.forms.specs.Show.{Room}
 use Rattle.mapset.specs.declared.Axis.{Axis}
@@ -108,12 +109,8 @@ hull x y z p q b c =
       to = le-parts z (pos 99999) (omega (arith, parts-le y (pos 99999) (q .to)));
     }
 
-t-true : (b : Bool) → T b → b ≡ true
-t-true true t = refl
-t-true false t = absurd t
-
 less-parts : (x y : ℤ) → x <ℤ y → Below x y
-less-parts x y h = omega (arith, lt-true x y (t-true (ltZ x y) (h .lt)))
+less-parts x y h = omega (arith, lt-true x y (is-true (ltZ x y) (h .lt)))
 
 not-below : (x : ℤ) → Below (pos 0) x → dn x ≡ 0
 not-below x h = ⊎-elim (λ o. o) (λ o. omega arith) (one-zero x)

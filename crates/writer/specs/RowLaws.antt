@@ -10,9 +10,9 @@ use lib.IntN.{ℤ}
 use lib.ListN.{length, replicate, take, drop, length-append, length-replicate, length-drop, take-append-drop}
 use lib.Seq.{length-take-le}
 use Rattle.kit.specs.Answer.{All, pick-elim, pick, ×-dec, all-dec, same, sames}
-use Rattle.kit.specs.Lists.{all-append, all-front, all-behind}
+use Rattle.kit.specs.ListLaws.{all-append, all-front, all-behind}
 use Rattle.kit.specs.Truth.{decided}
-use Rattle.kit.specs.Range.{within?}
+use Rattle.kit.specs.Range.{within?, Printable}
 use Rattle.forms.specs.Form as form
 use Rattle.forms.specs.Form.{Form, Digit, sign, pointed, Spells}
 use Rattle.forms.specs.Show.{showField, Room}
@@ -20,7 +20,6 @@ use Rattle.forms.specs.ShowLaws.{show-spells, written-spells}
 use Rattle.forms.specs.FieldLaws.{spells-width}
 use Rattle.forms.specs.Columns.{Blank}
 use Rattle.mapset.specs.Header.{Written}
-use Rattle.layout.specs.Text.{Printable}
 use Rattle.layout.specs.Records.{Item, I, F, D, X, A, U, Vals, Fields, f-end, f-int, f-tenths, f-thousandths, f-blank, f-text, f-unread, Cells, c-blank, c-value, ValueRows, v-last, v-full}
 use Rattle.layout.specs.Labels.{Label, layout, name, labels, Rec, rec}
 use Rattle.reading.specs.Fields.{lookup, label}

@@ -6,7 +6,7 @@ use native.Mathlib.Omega.{arith}
 use native.Mathlib.Decide.{ℕ-discrete}
 use lib.ListN.{length, replicate, length-append, length-replicate}
 use Rattle.kit.specs.Answer.{All, all-dec, pick-elim}
-use Rattle.kit.specs.Lists.{all-append, all-front}
+use Rattle.kit.specs.ListLaws.{all-append, all-front}
 use Rattle.kit.specs.Range.{Within}
 use Rattle.forms.specs.Columns.{Blank}
 use Rattle.layout.specs.Text.{Ended, none, lf, Clean, pad, Laid, line}

@@ -7,10 +7,11 @@ use Rattle.kit.specs.Answer.{bind}
 use Rattle.reading.specs.Fields.{number}
 use Rattle.reading.specs.ScanLaws.{blank-to}
 use Rattle.biases.specs.Read.{satellite-meant}
-use Rattle.biaslines.specs.LineLaws.{satellite-is, one-column}
+use Rattle.biaslines.specs.LineLaws.{satellite-is}
 use borrow.Author.Needs.{needs}
 use Rattle.biaslines.proofs.satellite.Statement.{statement}
 use Rattle.biaslines.proofs.satellite.Tie as tie
+use Rattle.forms.specs.ColumnLaws.{one-column}
 
 first-not-blank-requires : tie.Need-first-not-blank-requires
 first-not-blank-requires c κs = search needs

@@ -6,10 +6,11 @@ use Rattle.biases.specs.Read.{station-meant}
 use Rattle.biases.specs.declared.Station.{Station}
 use Rattle.biaslines.specs.Lines.{toldStation}
 use Rattle.biaslines.specs.declared.StationSaid.{StationSaid}
-use Rattle.biaslines.specs.LineLaws.{letter-known, letter-unknown, one-column}
+use Rattle.biaslines.specs.LineLaws.{letter-known, letter-unknown}
 use borrow.Author.Needs.{needs}
 use Rattle.biaslines.proofs.station_meant.Statement.{statement}
 use Rattle.biaslines.proofs.station_meant.Tie as tie
+use Rattle.forms.specs.ColumnLaws.{one-column}
 
 byte-at-requires : tie.Need-byte-at-requires
 byte-at-requires c κs = search needs

@@ -9,7 +9,7 @@ use mir.Val.{toZ, ofZ}
 use mir.Facts.{toZ-ofZ, sfits-widen}
 use borrow.Author.Tests.{eqb-true, eqb-false}
 use Rattle.kit.specs.Integer.{int?}
-use Rattle.kit.specs.Order.{less-size}
+use Rattle.kit.specs.Order.{less-size, sum-size}
 use Rattle.kit.specs.Parts.{up, dn, add-parts, sub-parts2, eq-parts, abs-parts, one-zero, size-fits, size-of-fits}
 use Rattle.kit.specs.Truth.{tells}
 use Rattle.cells.proofs.is_turn.Statement.{statement}
@@ -21,15 +21,6 @@ module _ (x y : ℤ) where
 
   none : x ≡ y → natAbs (x -ℤ y) ≡ 0
   none e = ⊎-elim (λ o. omega (arith, abs-parts (x -ℤ y), sub-parts2 x y, ap up e, ap dn e)) (λ o. omega (arith, abs-parts (x -ℤ y), sub-parts2 x y, ap up e, ap dn e)) (one-zero (x -ℤ y))
-
-  sum-size : natAbs (x +ℤ y) ≤ natAbs x + natAbs y
-  sum-size =
-      let z : ℤ = x +ℤ y in
-      let a = add-parts x y in
-      let b = abs-parts z in
-      let d = abs-parts x in
-      let e = abs-parts y in
-      ⊎-elim (λ o. omega arith) (λ o. omega arith) (one-zero z)
 
 module _ (s : tie.Start) where
   abbrev x : ℤ

@@ -5,9 +5,10 @@ use Prim.Native.Nat.{ℕ, _+_}
 use native.Mathlib.Omega.{arith}
 use lib.Seq.{length-take-le}
 use borrow.Author.Needs.{needs}
+use Rattle.kit.specs.ListLaws.{rest-of}
 use Rattle.forms.specs.Form.{I}
 use Rattle.forms.specs.Read.{readField, isNumber}
-use Rattle.fields.proofs.Point.{pointAt, to-end, decimal-short, decimal-judged}
+use Rattle.fields.proofs.Point.{pointAt, decimal-short, decimal-judged}
 use Rattle.fields.proofs.is_decimal.Statement.{statement}
 use Rattle.fields.proofs.is_decimal.Tie as tie
 
@@ -54,7 +55,7 @@ returns-2 c =
     let s = i .before .before in
     let f = s .args .f .now in
     decimal-judged (s .args .after) (s .pre) f (i .if1 .left) (l .leads .result) (c .is-int .result) (l .leads .ensures)
-    (c .is-int .ensures ∙ ap (λ (l : List ℕ). isNumber (readField I l)) (to-end f (pointAt f (s .args .after) + 1)))
+    (c .is-int .ensures ∙ ap (λ (l : List ℕ). isNumber (readField I l)) (rest-of f (pointAt f (s .args .after) + 1)))
 
 pub is-decimal-spec : {M : Type 1} → statement M
 is-decimal-spec =

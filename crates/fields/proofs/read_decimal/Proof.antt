@@ -7,11 +7,12 @@ use lib.ListN.{length}
 use lib.Seq.{length-take-le}
 use mir.Facts.{toZ-ofZ}
 use borrow.Author.Needs.{needs}
+use Rattle.kit.specs.ListLaws.{rest-of}
 use Rattle.forms.specs.Form.{decimal}
 use Rattle.forms.specs.Read.{readField, isNumber}
 use Rattle.forms.specs.declared.Field.the-variants.{Number}
 use Rattle.fields.proofs.Judged.{bad-of}
-use Rattle.fields.proofs.Point.{to-end, decimal-long, decimal-number, decimal-small}
+use Rattle.fields.proofs.Point.{decimal-long, decimal-number, decimal-small}
 use Rattle.fields.proofs.read_decimal.Statement.{statement}
 use Rattle.fields.proofs.read_decimal.Tie as tie
 
@@ -29,7 +30,7 @@ returns : tie.Need-returns
 returns c =
     let i = c .before .before .before in
     let s = i .before .before .before in
-    ap Number (toZ-ofZ (record { sfits = c .decimal-value .ok }) ∙ (rw to-end at (c .decimal-value .ensures))) ∙ decimal-number _ (s .pre .0) (s .args .f .now) (number i)
+    ap Number (toZ-ofZ (record { sfits = c .decimal-value .ok }) ∙ (rw rest-of at (c .decimal-value .ensures))) ∙ decimal-number _ (s .pre .0) (s .args .f .now) (number i)
 
 sub-k : tie.Need-sub-k
 sub-k c = let h = long c in omega arith
@@ -56,7 +57,7 @@ decimal-value-requires : tie.Need-decimal-value-requires
 decimal-value-requires c κs =
     let i = c .before .before in
     let s = i .before .before .before in
-    rw to-end (decimal-small _ (s .pre .0) (s .args .f .now) (number i) (s .pre .1))
+    rw rest-of (decimal-small _ (s .pre .0) (s .args .f .now) (number i) (s .pre .1))
 
 returns-2 : tie.Need-returns-2
 returns-2 c = bad-of _ (sym (c .before .is-decimal .ensures) ∙ c .if1 .left)

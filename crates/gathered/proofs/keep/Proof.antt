@@ -2,8 +2,8 @@ use native.Mathlib.Omega.{arith}
 use lib.ListN.{length, length-map}
 use mathlib.Core.Path.{_≡_, sym, ap, _∙_}
 use Rattle.kit.specs.Answer.{ok, bind}
-use Rattle.layout.specs.Layout.{Slots}
-use Rattle.gathered.specs.Got.{kept, went, mode}
+use Rattle.layout.specs.Layout.{Slots, mode}
+use Rattle.gathered.specs.Got.{kept, went}
 use Rattle.gathered.specs.GotLaws.{value-kept}
 use borrow.Author.Needs.{needs}
 use Rattle.gathered.proofs.keep.Statement.{statement}

@@ -1,7 +1,7 @@
 use mathlib.Core.Path.{ap}
 use Rattle.kit.specs.Answer.{ok, bind}
-use Rattle.layout.specs.Layout.{Slots}
-use Rattle.gathered.specs.Got.{kept, went, mode}
+use Rattle.layout.specs.Layout.{Slots, mode}
+use Rattle.gathered.specs.Got.{kept, went}
 use Rattle.gathered.specs.GotLaws.{program-kept}
 use Rattle.records.specs.RecordLaws.{program-says}
 use borrow.Author.Needs.{needs}

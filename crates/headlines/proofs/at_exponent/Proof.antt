@@ -5,8 +5,8 @@ use mir.Syntax.{w32}
 use mir.Val.{toZ, ofZ, SFits}
 use mir.Facts.{toZ-ofZ}
 use lib.IntN.{ℤ, pos, negsuc}
-use Rattle.layout.specs.Layout.{Slots, aux}
-use Rattle.gathered.specs.Got.{slots-of, mode, went}
+use Rattle.layout.specs.Layout.{Slots, aux, mode}
+use Rattle.gathered.specs.Got.{slots-of, went}
 use Rattle.headlines.specs.StepLaws.{same-slots}
 use Rattle.kit.specs.Integer.{between?}
 use Rattle.reading.specs.Maps.{exponent?}

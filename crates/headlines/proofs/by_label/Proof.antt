@@ -4,8 +4,8 @@ use native.Mathlib.Omega.{arith}
 use mathlib.Core.Bool.{Bool, true}
 use borrow.Author.Tests.{ne-eqb}
 use Rattle.records.specs.TableLaws.{place-below}
-use Rattle.layout.specs.Layout.{Slots, aux}
-use Rattle.gathered.specs.Got.{slots-of, mode, went}
+use Rattle.layout.specs.Layout.{Slots, aux, mode}
+use Rattle.gathered.specs.Got.{slots-of, went}
 use Rattle.headlines.specs.StepLaws.{same-slots}
 use borrow.Author.Needs.{needs}
 use Rattle.headlines.proofs.by_label.Statement.{statement}

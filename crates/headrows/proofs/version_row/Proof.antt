@@ -8,7 +8,8 @@ use mir.Facts.{toZ-pos}
 use borrow.Author.Needs.{needs}
 use Rattle.layout.specs.Labels.{bytes}
 use Rattle.layout.specs.Names.{names}
-use Rattle.headrows.proofs.Laws.{version-filled, code-length}
+use Rattle.layout.proofs.Laws.{code-length}
+use Rattle.headrows.proofs.Laws.{version-filled}
 use Rattle.headrows.proofs.version_row.Statement.{statement}
 use Rattle.headrows.proofs.version_row.Tie as tie
 

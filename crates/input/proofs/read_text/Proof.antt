@@ -15,13 +15,10 @@ use Rattle.input.proofs.read_text.Tie as tie
 use Rattle.input.proofs.read_text.Reads as reads
 use Rattle.input.proofs.read_text.Lts as lts
 use Rattle.judging.proofs.judge.Reads as judge-reads
+use Rattle.judging.proofs.NeedLaws.{judged}
 use Rattle.outcome.proofs.reason_of.Reads as reason-of-reads
 use Rattle.outcome.proofs.refused.Reads as refused-reads
 use Rattle.input.proofs.store.Reads as store-reads
-
--- what the first scan says, by its answer
-judged : (t : List ℕ) (x : Texts) (a b : Judged) → Judges t a x → a ≡ b → Judges t b x
-judged t x a b j e = subst (λ z. Judges t z x) e j
 
 exponent-of : (c : tie.After-known-told2) → toZ w32 (ofZ w32 (c .before .answer2 .given .0 .1 .0)) ≡ c .before .answer2 .given .0 .1 .0
 exponent-of c = search needs

@@ -13,13 +13,10 @@ use Rattle.making.proofs.make_index.Tie as tie
 use Rattle.making.proofs.make_index.Reads as reads
 use Rattle.making.proofs.make_index.Lts as lts
 use Rattle.judging.proofs.judge.Reads as judge-reads
+use Rattle.judging.proofs.NeedLaws.{judged}
 use Rattle.making.proofs.store.Reads as store-reads
 use Rattle.outcome.proofs.reason_of.Reads as reason-of-reads
 use Rattle.outcome.proofs.refused.Reads as refused-reads
-
--- what the first scan says, by its answer
-judged : (t : List ℕ) (x : Texts) (a b : Judged) → Judges t a x → a ≡ b → Judges t b x
-judged t x a b j e = subst (λ z. Judges t z x) e j
 
 judge-requires : tie.Need-judge-requires
 judge-requires c κs = search needs

@@ -5,7 +5,7 @@ use Rattle.mapset.specs.declared.Texts.{Texts}
 use Rattle.judging.specs.Scanned.{Judges}
 use Rattle.judging.specs.declared.Judged.{Judged}
 use Rattle.judging.proofs.JudgeLaws.{one-to-ten}
-use Rattle.judging.proofs.NeedLaws.{limits, few-by, need-by}
+use Rattle.judging.proofs.NeedLaws.{limits, few-by, need-by, judged}
 use borrow.Author.Needs.{needs}
 use Rattle.measuring.proofs.measure.Statement.{statement}
 use Rattle.measuring.proofs.measure.Tie as tie
@@ -15,10 +15,6 @@ use Rattle.judging.proofs.judge.Reads as judge-reads
 use Rattle.needs.proofs.needed.Reads as needed-reads
 use Rattle.needs.proofs.size_of.Reads as size-of-reads
 use Rattle.outcome.proofs.reason_of.Reads as reason-of-reads
-
--- what the first scan says, by its answer
-judged : (t : List ℕ) (x : Texts) (a b : Judged) → Judges t a x → a ≡ b → Judges t b x
-judged t x a b j e = subst (λ z. Judges t z x) e j
 
 judge-requires : tie.Need-judge-requires
 judge-requires c κs = search needs

@@ -7,6 +7,7 @@ use mir.Facts.{toZ-ofZ}
 use lib.IntN.{pos}
 use lib.ListN.{getD}
 use Rattle.kit.specs.Truth.{truth-true, truth-false}
+use Rattle.kit.specs.TruthLaws.{says-true, says-false}
 use Rattle.mapset.specs.Areas.{Present, blocks}
 use Rattle.mapset.specs.SoundLaws.{few-blocks}
 use Rattle.layout.specs.Layout.{per-map}
@@ -15,7 +16,7 @@ use Rattle.nodes.specs.Value.{kind-of}
 use Rattle.index.specs.Index.{Index, Fit, Node, Inside, entries, index, node, entry, position, exponent}
 use Rattle.index.proofs.AsRead.{done-in}
 use Rattle.pointed.specs.Told.{InGrid, Numbers}
-use Rattle.pointed.proofs.AskLaws.{decides-true, decides-false, fit-limits, inside, not-inside, mark-in, entry-in, entry-small, unknown, unfit, outside, absent, numbered}
+use Rattle.pointed.proofs.AskLaws.{fit-limits, inside, not-inside, mark-in, entry-in, entry-small, unknown, unfit, outside, absent, numbered}
 use borrow.Author.Needs.{needs}
 use Rattle.pointed.proofs.find_node.Statement.{statement}
 use Rattle.pointed.proofs.find_node.Tie as tie
@@ -39,10 +40,10 @@ known : (c : tie.Else1) → c .before .before .before .before .args .kind < 3
 known c = omega (arith, c .if1 .left)
 
 fit : (c : tie.Else2) → Fit (x (c .before .before .before .before .before .before))
-fit c = decides-true (Fit (x (c .before .before .before .before .before .before))) (c .before .fits2 .result) (c .before .fits2 .ensures) (not-false _ (c .if2 .left))
+fit c = says-true (Fit (x (c .before .before .before .before .before .before))) (c .before .fits2 .result) (c .before .fits2 .ensures) (not-false _ (c .if2 .left))
 
 within : (c : tie.Else3) → Inside (c .before .before .before .before .before .before .before .before .args .header) (q (c .before .before .before .before .before .before .before .before))
-within c = let a = c .before .before .before .before .before .before .before .before .args in inside (a .header) (a .kind) (a .map) (a .layer) (a .row) (a .column) (decides-true (InGrid (a .header) (a .map) (a .layer) (a .row) (a .column)) (c .before .in-grid .result) (c .before .in-grid .ensures) (not-false _ (c .if3 .left)))
+within c = let a = c .before .before .before .before .before .before .before .before .args in inside (a .header) (a .kind) (a .map) (a .layer) (a .row) (a .column) (says-true (InGrid (a .header) (a .map) (a .layer) (a .row) (a .column)) (c .before .in-grid .result) (c .before .in-grid .ensures) (not-false _ (c .if3 .left)))
 
 present : (c : tie.Else4) → let s = c .before .before .before .before .before .before .before .before .before .before .before in Present (kind-of (s .args .kind)) (getD (now (s .args .marks)) (s .args .map - 1) 0)
 present c = truth-true _ (sym (c .before .is-present .ensures) ∙ not-false _ (c .if4 .left))
@@ -64,13 +65,13 @@ fits-requires : tie.Need-fits-requires
 fits-requires c κs = search needs
 
 returns-2 : tie.Need-returns-2
-returns-2 c = unfit _ _ _ (known (c .before .before)) (decides-false (Fit (x (c .before .before .before .before .before .before))) (c .before .fits2 .result) (c .before .fits2 .ensures) (not-true _ (c .if2 .taken)))
+returns-2 c = unfit _ _ _ (known (c .before .before)) (says-false (Fit (x (c .before .before .before .before .before .before))) (c .before .fits2 .result) (c .before .fits2 .ensures) (not-true _ (c .if2 .taken)))
 
 in-grid-requires : tie.Need-in-grid-requires
 in-grid-requires c κs = search needs
 
 returns-3 : tie.Need-returns-3
-returns-3 c = let f = c .before .before in let s = f .before .before .before .before .before .before in let a = s .args in outside (x s) (a .text .now) (q s) (known (f .before .before)) (fit f) (not-inside (a .header) (a .kind) (a .map) (a .layer) (a .row) (a .column) (decides-false (InGrid (a .header) (a .map) (a .layer) (a .row) (a .column)) (c .before .in-grid .result) (c .before .in-grid .ensures) (not-true _ (c .if3 .taken))))
+returns-3 c = let f = c .before .before in let s = f .before .before .before .before .before .before in let a = s .args in outside (x s) (a .text .now) (q s) (known (f .before .before)) (fit f) (not-inside (a .header) (a .kind) (a .map) (a .layer) (a .row) (a .column) (says-false (InGrid (a .header) (a .map) (a .layer) (a .row) (a .column)) (c .before .in-grid .result) (c .before .in-grid .ensures) (not-true _ (c .if3 .taken))))
 
 sub-m : tie.Need-sub-m
 sub-m c = within c .map .0

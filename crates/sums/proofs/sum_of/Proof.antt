@@ -5,12 +5,14 @@ use Prim.Native.Nat.{_-_, _≤_, _<_}
 use lib.IntN.{pos}
 use lib.ListN.{length, drop, getD, drop-of-length-le}
 use denote.Ref.{now}
+use Rattle.kit.specs.ListLaws.{all-in}
 use Rattle.nodes.specs.Value.{value}
-use Rattle.sums.specs.Mean.{corner, spread, terms, weight}
+use Rattle.sums.specs.Mean.{spread, terms, weight}
 use Rattle.sums.specs.Sums.{Reaches, Room, add-value, add-all}
-use Rattle.sums.specs.SumLaws.{this-room, next-room, next-sum, all-at, eight-nodes}
+use Rattle.sums.specs.SumLaws.{this-room, next-room, next-sum, eight-nodes}
 use Rattle.sums.specs.declared.Sum.the-variants as S
 use Rattle.nodes.specs.declared.Weighed.{Weighed}
+use Rattle.nodes.specs.Nodes.{corner}
 use Rattle.sums.proofs.sum_of.Statement.{statement}
 use Rattle.sums.proofs.sum_of.Tie as tie
 
@@ -36,7 +38,7 @@ term-requires c κs =
     let h : l .loop .k < length (spread (a .shares) (a .first) (a .second)) = omega (arith, eight-nodes (a .shares) (a .first) (a .second)) in
     rw (c .nth-node .ensures) (
       this-room (a .s) (now (a .values)) (now (a .exponents)) (now (a .marks)) (spread (a .shares) (a .first) (a .second)) (corner 0 0 0 0) (l .loop .k) h (l .loop .sum) (l .loop .inv .1),
-      all-at (Reaches (now (a .values)) (now (a .exponents)) (now (a .marks)) (a .s)) (spread (a .shares) (a .first) (a .second)) (corner 0 0 0 0) (l .loop .k) h (s .pre .reaches),
+      all-in (Reaches (now (a .values)) (now (a .exponents)) (now (a .marks)) (a .s)) (spread (a .shares) (a .first) (a .second)) (l .loop .k) (corner 0 0 0 0) h (s .pre .reaches),
     )
 
 add-k : tie.Need-add-k Inv-loop μ-loop

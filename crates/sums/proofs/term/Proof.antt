@@ -4,9 +4,10 @@ use mathlib.Core.Logic.{⊎-elim}
 use denote.Ref.{now}
 use Rattle.nodes.specs.Value.{kind-of, value}
 use native.Mathlib.Omega.{arith}
-use Rattle.sums.specs.Sums.{add-value, bare}
-use Rattle.nodes.specs.NodeLaws.{small-value}
-use Rattle.sums.specs.SumLaws.{bare-node, small-node, add-weightless}
+use Rattle.sums.specs.Sums.{add-value}
+use Rattle.nodes.specs.NodeLaws.{small-value, bare-node}
+use Rattle.nodes.specs.Nodes.{bare}
+use Rattle.sums.specs.SumLaws.{small-node, add-weightless}
 use Rattle.sums.proofs.term.Statement.{statement}
 use Rattle.sums.proofs.term.Tie as tie
 

@@ -11,11 +11,9 @@ use denote.Ref.{now}
 use mir.Syntax.{w32}
 use mir.Val.{toZ, ofZ}
 use mir.Facts.{toZ-ofZ}
-use Rattle.nodes.specs.Nodes.{plain, in-node}
+use Rattle.nodes.specs.Nodes.{plain, in-node, bare}
 use Rattle.nodes.specs.Value.{kind-of}
-use Rattle.nodes.specs.NodeLaws.{small-plain}
-use Rattle.sums.specs.SumLaws.{bare-node}
-use Rattle.sums.specs.Sums.{bare}
+use Rattle.nodes.specs.NodeLaws.{small-plain, bare-node}
 use Rattle.tally.specs.Figures.{Bounded, nodes-in, figures, joined, single, Ready}
 use Rattle.tally.specs.FigureLaws.{joined-none, bounded-joined, nodes-joined, nodes-single, small-single, figures-next, figures-end}
 use Rattle.tally.proofs.tally_of.Statement.{statement}

@@ -1,8 +1,8 @@
 use native.Mathlib.Omega.{arith}
 use mathlib.Core.Path.{ap, _∙_}
 use Prim.Native.Nat.{_*_}
+use Rattle.kit.specs.ListLaws.{rest-of}
 use Rattle.lines.specs.Lines.{passing, blank?}
-use Rattle.lines.proofs.Parts.{rest-of}
 use Rattle.values.proofs.ValueLaws.{rest-none, rest-fine, rest-wrong, rest-le}
 use borrow.Author.Needs.{needs}
 use Rattle.values.proofs.rest_in.Statement.{statement}

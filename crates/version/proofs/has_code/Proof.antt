@@ -5,7 +5,7 @@ use lib.Dec.{eqb, eqb→eq}
 use lib.ListN.{length, getD}
 use mathlib.Core.List.{List, []}
 use Rattle.layout.specs.Labels.{codes}
-use Rattle.layout.proofs.Laws.{every-at}
+use Rattle.layout.proofs.Laws.{code-length}
 use Rattle.version.specs.VersionLaws.{three-hold}
 use borrow.Author.Needs.{needs}
 use Rattle.version.proofs.has_code.Statement.{statement}
@@ -13,9 +13,6 @@ use Rattle.version.proofs.has_code.Tie as tie
 use Rattle.version.proofs.has_code.Reads as reads
 use Rattle.version.proofs.has_code.Lts as lts
 use Rattle.fields.proofs.byte_at.Reads as byte-at-reads
-
-code-length : (k : ℕ) → k < 11 → length (getD codes k []) ≡ 3
-code-length k h = eqb→eq _ _ (every-at (λ (l : List ℕ). eqb (length l) 3) codes tt k h)
 
 byte-at-requires : tie.Need-byte-at-requires
 byte-at-requires c κs = search needs

@@ -4,7 +4,7 @@ use mir.Syntax.{w64}
 use mir.Facts.{toZ-ofZ, sfits-widen}
 use Rattle.kit.specs.Integer.{int?}
 use Rattle.kit.specs.Truth.{truth}
-use Rattle.kit.proofs.Signed.{same-bits}
+use Rattle.kit.specs.IntegerLaws.{same-bits}
 use borrow.Author.Needs.{needs}
 use Rattle.agreement.proofs.grid.is_node.Statement.{statement}
 use Rattle.agreement.proofs.grid.is_node.Tie as tie

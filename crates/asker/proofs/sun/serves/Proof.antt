@@ -11,11 +11,11 @@ use lib.IntN.{natAbs}
 use denote.Ref.{now}
 use mir.Syntax.{w32}
 use mir.Val.{toZ, ofZ}
-use Rattle.kit.specs.Truth.{truth-true, truth-false}
+use Rattle.kit.specs.Truth.{truth-true, truth-false, Says}
 use Rattle.mapset.specs.declared.Axis.{Axis}
 use Rattle.cells.specs.Place.{GoesRound}
 use Rattle.cells.specs.Found.{goes-round?}
-use Rattle.spans.specs.Spans.{Close, Says}
+use Rattle.spans.specs.Spans.{Close}
 use Rattle.asker.specs.Sun.{Turns, Serves}
 use Rattle.asker.proofs.sun.serves.Statement.{statement}
 use Rattle.asker.proofs.sun.serves.Tie as tie

@@ -8,20 +8,20 @@ use lib.IntN.{pos}
 use lib.ListN.{drop}
 use Rattle.kit.specs.Answer.{ok, pick-yes, pick-no}
 use Rattle.kit.specs.Range.{Natural}
+use Rattle.kit.specs.Truth.{Says}
 use Rattle.days.specs.Years.{row, monthDays}
 use Rattle.calendar.specs.Calendar.{first, numbersOf, wrong, checked}
-use Rattle.calendar.specs.Inner.{Decides}
 use Rattle.days.specs.YearLaws.{row-two}
 use Rattle.calendar.specs.declared.Epoch.{Epoch}
 use Rattle.calendar.proofs.Epoch.first_wrong.Statement.{statement}
 use Rattle.calendar.proofs.Epoch.first_wrong.Tie as tie
 
 -- what a test has shown
-passed : (P : Type 0) (t : Bool) → Decides t P → not t ≡ false → P
+passed : (P : Type 0) (t : Bool) → Says t P → not t ≡ false → P
 passed P true d e = d
 passed P false d e = absurd (let z : _≡_ {A = ℕ} 0 1 = cc in omega arith)
 
-failed : (P : Type 0) (t : Bool) → Decides t P → not t ≡ true → ¬ P
+failed : (P : Type 0) (t : Bool) → Says t P → not t ≡ true → ¬ P
 failed P true d e = absurd (let z : _≡_ {A = ℕ} 0 1 = cc in omega arith)
 failed P false d e = d
 
@@ -40,7 +40,7 @@ month-right : (c : tie.Else2) → Natural 1 12 (pos (c .before .before .before .
 month-right c = passed _ (c .before .inside2 .result) (c .before .inside2 .ensures) (c .if2 .left)
 
 -- the day's range is its month's
-day-range : (c : tie.After-inside3) → Decides (c .inside3 .result) (Natural 1 (monthDays (row (c .before .before .before .before .before .before .before .args .self .year)) (c .before .before .before .before .before .before .before .args .self .month - 1)) (pos (c .before .before .before .before .before .before .before .args .self .day)))
+day-range : (c : tie.After-inside3) → Says (c .inside3 .result) (Natural 1 (monthDays (row (c .before .before .before .before .before .before .before .args .self .year)) (c .before .before .before .before .before .before .before .args .self .month - 1)) (pos (c .before .before .before .before .before .before .before .args .self .day)))
 day-range c = rw (c .before .month-days .ensures, c .before .before .leap-flag .ensures) at (c .inside3 .ensures)
 
 left3 : (c : tie.Else3) → Left 3 (c .before .before .before .before .before .before .before .before .args .self)
