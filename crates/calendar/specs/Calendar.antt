@@ -1,7 +1,8 @@
 -- The calendar from 1900 to 2199.
 use mathlib.Core.Path.{_≡_}
 use mathlib.Core.List.{List, [], _∷_}
-use Prim.Native.Nat.{ℕ, _+_, _*_, _-_}
+use Prim.Native.Nat.{ℕ, zero, suc, _+_, _*_, _-_, _/_, _%_}
+use native.Mathlib.Decide.{decLe}
 use lib.IntN.{ℤ, pos, natAbs, _+ℤ_}
 use Rattle.kit.specs.Range.{Natural, natural?}
 use Rattle.kit.specs.Answer.{Answer, ok, refused, All, pick}
@@ -94,6 +95,29 @@ pub record Later (e : Epoch) (by : ℤ) (f : Epoch) : Type 0 where
 -- the first second after 2199
 abbrev pub end : ℕ
 end = 9467107200
+
+-- ---- the date of a second
+
+-- of the first n spans of days, how many are past on day d
+unfoldable pub past : (ℕ → ℕ) → ℕ → ℕ → ℕ
+past f zero d = 0
+past f (suc n) d = pick (decLe (sum f n) d) n (past f n d)
+
+-- k whole years and m whole months before it, and d days of the month
+abbrev pub from-days : ℕ → ℕ → ℕ → ℕ → Epoch
+from-days t k m d = record { year = 1900 + k; month = m + 1; day = d + 1; hour = t % 86400 / 3600; minute = t % 86400 % 3600 / 60; second = t % 86400 % 60 }
+
+abbrev pub years-past : ℕ → ℕ
+years-past t = past yearDays 300 (t / 86400)
+
+abbrev pub days-in-year : ℕ → ℕ
+days-in-year t = t / 86400 - sum yearDays (years-past t)
+
+abbrev pub months-past : ℕ → ℕ
+months-past t = past (monthDays (row (1900 + years-past t))) 12 (days-in-year t)
+
+unfoldable pub date-at : ℕ → Epoch
+date-at t = from-days t (years-past t) (months-past t) (days-in-year t - sum (monthDays (row (1900 + years-past t))) (months-past t))
 
 -- ---- what comes back: what was asked for, or document 01's number, alone or with a column
 pub data Refusal : Type 0 where

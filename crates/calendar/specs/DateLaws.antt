@@ -1,14 +1,17 @@
 -- Laws of dates: each second from 0 to the last of 2199 is exactly one date's.
 use mathlib.Core.Path.{_≡_, refl, sym, ap, _∙_}
-use Prim.Native.Nat.{ℕ, _+_, _*_, _-_, _/_, _%_, _≤_, _<_}
+use Prim.Native.Nat.{ℕ, zero, suc, _+_, _*_, _-_, _/_, _%_, _≤_, _<_}
 use native.Mathlib.Omega.{arith}
+use native.Mathlib.Nat.{lt-of-not-le}
+use native.Mathlib.Decide.{decLe}
 use lib.IntN.{ℤ, pos, negsuc, natAbs}
+use Rattle.kit.specs.Answer.{pick-elim}
 use Rattle.kit.specs.Range.{Natural}
 use Rattle.days.specs.Sums.{sum, Place}
-use Rattle.days.specs.SumLaws.{place-once, place-found, place-below}
+use Rattle.days.specs.SumLaws.{place-once, place-below}
 use Rattle.days.specs.YearLaws.{all-years}
 use Rattle.days.specs.Years.{row, monthDays, yearDays}
-use Rattle.calendar.specs.Calendar.{daysTo, second, Dated, DateAt, end}
+use Rattle.calendar.specs.Calendar.{daysTo, second, Dated, DateAt, end, past, from-days, years-past, days-in-year, months-past, date-at}
 use Rattle.calendar.specs.Inner.{IsDate, secondOf}
 use Rattle.calendar.specs.declared.Epoch.{Epoch}
 
@@ -91,10 +94,8 @@ dated-below y m d h i s t a =
     omega (arith, below-end e real, a .at)
 
 -- ---- the date of a second, from the places of its day
-abbrev dateFrom : ℕ → ℕ → ℕ → ℕ → Epoch
-dateFrom t k m d = record { year = 1900 + k; month = m + 1; day = d + 1; hour = t % 86400 / 3600; minute = t % 86400 % 3600 / 60; second = t % 86400 % 60 }
 
-pub date-made : (t k r m d : ℕ) → k < 300 → Place yearDays (t / 86400) k r → m < 12 → Place (monthDays (row (1900 + k))) r m d → DateAt (dateFrom t k m d) t
+pub date-made : (t k r m d : ℕ) → k < 300 → Place yearDays (t / 86400) k r → m < 12 → Place (monthDays (row (1900 + k))) r m d → DateAt (from-days t k m d) t
 unfolding second
 date-made t k r m d h p i q =
     let a : 1900 + k - 1900 ≡ k = omega arith in
@@ -109,13 +110,22 @@ pub in-months : (k r : ℕ) → r < yearDays k → r < sum (monthDays (row (1900
 unfolding yearDays
 in-months k r h = h
 
-exists-date : (t : ℕ) → t < end → (e : Epoch) × DateAt e t
-exists-date t h =
-    let y = place-found yearDays 300 (t / 86400) (omega (arith, all-years)) in
-    let k = y .0 in
-    let p = y .2 .1 in
-    let m = place-found (monthDays (row (1900 + k))) 12 (y .2 .0) (in-months k (y .2 .0) (p .less)) in
-    (dateFrom t k (m .0) (m .2 .0), date-made t k (y .2 .0) (m .0) (m .2 .0) (y .1) p (m .1) (m .2 .1))
+-- where a day stands among spans
+past-place : (f : ℕ → ℕ) (n d : ℕ) → d < sum f n → (past f n d < n) × Place f d (past f n d) (d - sum f (past f n d))
+unfolding sum past
+past-place f zero d h = absurd (omega arith)
+past-place f (suc n) d h =
+    pick-elim (λ (k : ℕ). (k < suc n) × Place f d k (d - sum f k)) (decLe (sum f n) d)
+    (λ p. (omega arith, record { at = omega (arith, p); less = omega (arith, h, p) }))
+    (λ p. let i = past-place f n d (lt-of-not-le p) in (omega (arith, i .0), i .1))
+
+pub date-is : (t : ℕ) → t < end → DateAt (date-at t) t
+unfolding date-at
+date-is t h =
+    let y = past-place yearDays 300 (t / 86400) (omega (arith, h, all-years)) in
+    let k = years-past t in
+    let m = past-place (monthDays (row (1900 + k))) 12 (days-in-year t) (in-months k (days-in-year t) (y .1 .less)) in
+    date-made t k (days-in-year t) (months-past t) (days-in-year t - sum (monthDays (row (1900 + k))) (months-past t)) (y .0) (y .1) (m .0) (m .1)
 
 pub exactly-one : (t : ℕ) → t < end → (e : Epoch) × DateAt e t × ((f : Epoch) → DateAt f t → f ≡ e)
-exactly-one t h = let x = exists-date t h in (x .0, x .1, λ f g. date-once t f (x .0) g (x .1))
+exactly-one t h = (date-at t, date-is t h, λ f g. date-once t f (date-at t) g (date-is t h))

@@ -42,13 +42,3 @@ module _ (f : ℕ → ℕ) where
       by (yes p) (no q) = absurd (not-before d k l r s a b (lt-of-not-le q))
       by (no p) (yes q) = absurd (not-before d l k s r b a (lt-of-not-le p))
       by (no p) (no q) = absurd (omega arith)
-
-  -- every number below the sum of the first n has a place
-  pub place-found : (n d : ℕ) → d < sum f n → (k : ℕ) × (k < n) × ((r : ℕ) × Place f d k r)
-  unfolding sum
-  place-found zero d h = absurd (omega arith)
-  place-found (suc n) d h = by (λ l. place-found n d l) (decLe (sum f n) d)
-    where
-      by : (d < sum f n → (k : ℕ) × (k < n) × ((r : ℕ) × Place f d k r)) → Dec (sum f n ≤ d) → (k : ℕ) × (k < suc n) × ((r : ℕ) × Place f d k r)
-      by g (yes p) = (n, omega arith, (d - sum f n, record { at = omega arith; less = omega arith }))
-      by g (no p) = let i = g (lt-of-not-le p) in (i .0, omega (arith, i .1), i .2)

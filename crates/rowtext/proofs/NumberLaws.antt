@@ -1,20 +1,21 @@
 -- Numbers that are written: a node, a date.
-use mathlib.Core.Path.{_≡_, refl}
+use mathlib.Core.Path.{_≡_, sym}
 use Prim.Native.Nat.{ℕ, _-_, _<_, _^_}
 use native.Mathlib.Decide.{decLt}
 use native.Mathlib.Omega.{arith}
 use lib.IntN.{ℤ, pos, negsuc}
 use mir.Syntax.{w32}
 use mir.Val.{SFits}
+use Rattle.kit.specs.Answer.{pick-no}
 use Rattle.kit.specs.Parts.{parts-le}
 use Rattle.days.specs.Years.{row}
-use Rattle.calendar.specs.Calendar.{DateAt, The, toldFound, end}
-use Rattle.calendar.specs.DateLaws.{exactly-one, date-once, dated-below}
+use Rattle.calendar.specs.Calendar.{DateAt, The, toldFound, date-at, end}
+use Rattle.calendar.specs.DateLaws.{date-once, dated-below}
 use Rattle.days.specs.YearLaws.{month-le}
 use Rattle.calendar.specs.declared.Epoch.{Epoch}
 use Rattle.calendar.specs.declared.Found.{Found}
 use Rattle.calendar.specs.declared.Found.the-variants as D
-use Rattle.writer.specs.Canon.{date-of}
+use Rattle.writer.specs.Canon.{no-date, date-of}
 use Rattle.writer.specs.HeadRows.{date-is}
 use Rattle.writer.specs.RoomLaws.{Wide}
 
@@ -26,16 +27,9 @@ wide-fits (negsuc n) w = record { sfits = omega (arith, parts-le (negsuc 8999) (
 
 -- ---- a date
 
-abbrev pub no-date : Epoch
-no-date = record { year = 0; month = 0; day = 0; hour = 0; minute = 0; second = 0 }
-
 pub date-past : (t : ℕ) → ¬ (t < end) → no-date ≡ date-of t
 unfolding date-of
-date-past t n = by (decLt t end)
-  where
-    by : (d : Dec (t < end)) → no-date ≡ elim d as (λ _. Epoch) [ yes h ↦ exactly-one t h .0 | no n ↦ no-date ]
-    by (yes h) = absurd (n h)
-    by (no m) = refl
+date-past t n = sym (pick-no (decLt t end) (date-at t) no-date n)
 
 module _ (t : ℕ) (f : Found) (a : The (λ e. DateAt e t) (toldFound f)) where
   pub date-found : (e : Epoch) → f ≡ D.Date e → e ≡ date-of t

@@ -148,7 +148,6 @@ no-more a b (n ∷ ns) h = (rw (h .0) tt, no-more a b ns (h .1))
 
 -- of the first of two, one that holds of both
 of-first : {R : ℤ → ℤ → Type 0} (o : Order R) (P : ℤ → Type 0) (a b : ℤ) → P a → P b → P (first o a b)
-unfolding first
 of-first o P a b p q = pick-elim P (o .first? a b) (λ _. p) (λ _. q)
 
 spans-cons : (n : Option ℤ) (ns : List (Option ℤ)) (r : Range) → Spans ns r → Spans (n ∷ ns) (hull (point n) r)

@@ -3,8 +3,9 @@ use mathlib.Core.List.{List, [], _∷_}
 use mathlib.Core.Option.{Option, none, some}
 use Prim.Native.Nat.{ℕ, suc, _+_, _*_, _≤_}
 use lib.IntN.{ℤ, pos, natAbs, _+ℤ_}
+use Rattle.kit.specs.Answer.{pick}
+use Rattle.kit.specs.Integer.{le?}
 use Rattle.tally.specs.Gathered.{gathered}
-use Rattle.tally.specs.Extremes.{first, rising, falling}
 use Rattle.tally.specs.declared.Tally.{Tally}
 use Rattle.tally.specs.declared.Range.{Range}
 use Rattle.tally.specs.declared.Range.the-variants as R
@@ -23,10 +24,10 @@ lacking (some v ∷ ns) = lacking ns
 
 -- ---- smallest and largest
 abbrev pub smaller : ℤ → ℤ → ℤ
-smaller a b = first rising a b
+smaller a b = pick (le? a b) a b
 
 abbrev pub larger : ℤ → ℤ → ℤ
-larger a b = first falling a b
+larger a b = pick (le? b a) a b
 
 abbrev pub hull : Range → Range → Range
 hull R.Nothing s = s

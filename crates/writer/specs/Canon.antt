@@ -7,8 +7,7 @@ use lib.IntN.{ℤ, pos, negsuc}
 use lib.ListN.{length, getD, set, take, drop, replicate}
 use Rattle.kit.specs.Answer.{pick, all-dec}
 use Rattle.kit.specs.Integer.{int?}
-use Rattle.calendar.specs.Calendar.{end as after-2199}
-use Rattle.calendar.specs.DateLaws.{exactly-one}
+use Rattle.calendar.specs.Calendar.{date-at, end as after-2199}
 use Rattle.calendar.specs.declared.Epoch.{Epoch}
 use Rattle.forms.specs.Form as form
 use Rattle.forms.specs.Show.{showField}
@@ -44,13 +43,12 @@ unfoldable pub version-row : Version → List ℕ
 version-row v =
     (showField form.W1 8 (pos (v .tenths)) ++ (replicate 12 32 ++ (bytes "IONOSPHERE MAPS     " ++ (getD codes (v .code) [] ++ replicate 17 32)))) ++ name version
 
--- the date of a second
+-- no date, and the date of a second
+abbrev pub no-date : Epoch
+no-date = record { year = 0; month = 0; day = 0; hour = 0; minute = 0; second = 0 }
+
 unfoldable pub date-of : ℕ → Epoch
-date-of t = go (decLt t after-2199)
-  where
-    go : Dec (t < after-2199) → Epoch
-    go (yes h) = exactly-one t h .0
-    go (no n) = record { year = 0; month = 0; day = 0; hour = 0; minute = 0; second = 0 }
+date-of t = pick (decLt t after-2199) (date-at t) no-date
 
 abbrev pub six : Epoch → Date
 six e = (pos (e .year), (pos (e .month), (pos (e .day), (pos (e .hour), (pos (e .minute), (pos (e .second), tt))))))

@@ -8,12 +8,12 @@ use native.Mathlib.Decide.{ℕ-discrete, decLt}
 use lib.IntN.{ℤ}
 use lib.ListN.{length, getD, set, length-set}
 use lib.Seq.{getD-set-same, getD-set-other, set-getD}
-use Rattle.kit.specs.Answer.{All, pick-elim}
+use Rattle.kit.specs.Answer.{All, pick-yes, pick-elim}
 use Rattle.kit.specs.ListLaws.{below}
 use Rattle.kit.specs.Range.{Within}
 use Rattle.days.specs.Years.{row}
-use Rattle.calendar.specs.Calendar.{DateAt, end as after-2199}
-use Rattle.calendar.specs.DateLaws.{exactly-one}
+use Rattle.calendar.specs.Calendar.{DateAt, date-at, end as after-2199}
+use Rattle.calendar.specs.DateLaws.{date-is as date-is-at}
 use Rattle.days.specs.YearLaws.{month-le}
 use Rattle.calendar.specs.declared.Epoch.{Epoch}
 use Rattle.mapset.specs.Header.{Content, count, tenths, epoch as an-epoch, axis, program, mapping, observables, system as a-system, contents, Said, counts, Accepts, a-count, a-tenths, a-epoch, a-axis, a-program, a-mapping, a-observables, a-system as accepts-system, says, Stand, stand-end, stand-some, stand-none}
@@ -24,7 +24,7 @@ use Rattle.layout.specs.Layout.{Slots, systems, Shows, s-count, s-tenths, s-epo
 use Rattle.reading.specs.RecordLaws.{known-head, known-heads}
 use Rattle.reading.specs.SlotLaws.{Fit, fit, fit-no, FitAll, system-content}
 use Rattle.reading.specs.HeadLaws.{no-system}
-use Rattle.writer.specs.Canon.{row-of, date-of, six, shown, system-vals, slot-row, slot-rows, order, head-rows}
+use Rattle.writer.specs.Canon.{row-of, no-date, date-of, six, shown, system-vals, slot-row, slot-rows, order, head-rows}
 use Rattle.writer.specs.RowLaws.{Roomy, GoodRow, row-is, row-good}
 use Rattle.writer.specs.RoomLaws.{six-digits, tenths-eight, tenths-six, wide-end, wide-step}
 
@@ -32,11 +32,7 @@ use Rattle.writer.specs.RoomLaws.{six-digits, tenths-eight, tenths-six, 
 
 pub date-is : (t : ℕ) → t < after-2199 → DateAt (date-of t) t
 unfolding date-of
-date-is t h = by (decLt t after-2199)
-  where
-    by : (d : Dec (t < after-2199)) → DateAt (elim d as (λ _. Epoch) [ yes h ↦ exactly-one t h .0 | no n ↦ record { year = 0; month = 0; day = 0; hour = 0; minute = 0; second = 0 } ]) t
-    by (yes h) = exactly-one t h .1
-    by (no n) = absurd (n h)
+date-is t h = subst (λ (e : Epoch). DateAt e t) (sym (pick-yes (decLt t after-2199) (date-at t) no-date h)) (date-is-at t h)
 
 pub date-room : (e : Epoch) (t : ℕ) → DateAt e t → Roomy (items an-epoch) (six e)
 date-room e t d =
