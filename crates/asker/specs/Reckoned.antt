@@ -21,8 +21,8 @@ use Rattle.mapset.specs.Areas.{Sound}
 use Rattle.mapset.specs.SoundLaws.{sound?}
 use Rattle.mapset.specs.declared.Axis.{Axis}
 use Rattle.mapset.specs.declared.Grid.{Grid}
-use Rattle.cells.specs.Place.{Sits, along, Turned, Strip, RightOf, first, next, InCell100}
-use Rattle.cells.specs.Found.{strip?, after}
+use Rattle.cells.specs.Place.{Sits, along, Turned, Strip, GoesRound, RightOf, first, next, InCell100}
+use Rattle.cells.specs.Found.{strip?, goes-round?, after}
 use Rattle.cells.specs.PlaceLaws.{turned-once, is-right}
 use Rattle.cells.specs.declared.Cell.{Cell}
 use Rattle.spans.specs.Time.{epoch, alone, shared, Uses, nearest, between}
@@ -32,7 +32,7 @@ use Rattle.spans.specs.declared.Shares.{Shares}
 use Rattle.nodes.specs.Value.{kind-of}
 use Rattle.sums.specs.Mean.{spread, mean}
 use Rattle.asker.specs.Sun.{in-time, CellAt, Cells}
-use Rattle.asker.specs.Ask.{Question, Told, tecu, km, refused, in-told, stop, go, Known, epochs, InTime, asked, Answers}
+use Rattle.asker.specs.Ask.{Question, Told, tecu, km, refused, in-told, stop, go, Known, epochs, Served, InTime, asked, Answers}
 use Rattle.asker.specs.AskLaws.{in-time-small, steady, answered}
 use Rattle.asker.specs.Strip.{cell-plain}
 
@@ -214,12 +214,13 @@ uses-ok es r t method m h =
 -- ---- the answer
 -- what is claimed of a question: one of the refusals that need no node, or what its nodes give, 22 among them
 pub data Claim : Type 0 where
-  unknown unsound untimely no-layer past-east : Claim
+  unknown unsound unserved untimely no-layer past-east : Claim
   gives : Told → Claim
 
 abbrev pub says : Claim → Told
 says unknown = refused 23
 says unsound = refused 31
+says unserved = refused 24
 says untimely = refused 20
 says no-layer = refused 21
 says past-east = refused 21
@@ -271,6 +272,8 @@ module _ (q : Question) where
   abbrev pub holds : Claim → Bool
   holds unknown = not (truth (known? q))
   holds unsound = truth (known? q) && not (truth (sound? (q .header) (q .texts) (q .areas)))
+  holds unserved =
+      truth (known? q) && (truth (sound? (q .header) (q .texts) (q .areas)) && (leb 2 (q .method) && not (truth (goes-round? (q .header .grid .longitudes)))))
   holds untimely = truth (known? q) && (truth (sound? (q .header) (q .texts) (q .areas)) && (ltb (q .method) 2 && not (truth (timely? q))))
   holds no-layer = heard && not (truth (decLt (q .layer) (layers (q .header .grid))))
   holds past-east = heard && beyond (q .header .grid .longitudes) (q .lon)
@@ -310,6 +313,16 @@ module _ (q : Question) where
   reckoned unknown t = stop (denied (known? q) t)
   reckoned unsound t =
       go (truth-ok (known? q) (and-left (truth (known? q)) _ t)) (stop (denied (sound? (q .header) (q .texts) (q .areas)) (and-right (truth (known? q)) _ t)))
+  reckoned unserved t =
+      let u = and-right (truth (known? q)) _ t in
+      let v = and-right (truth (sound? (q .header) (q .texts) (q .areas))) _ u in
+      go (truth-ok (known? q) (and-left (truth (known? q)) _ t))
+      (go (truth-ok (sound? (q .header) (q .texts) (q .areas)) (and-left (truth (sound? (q .header) (q .texts) (q .areas))) _ u))
+      (stop (still (leb→le 2 (q .method) (and-left (leb 2 (q .method)) _ v)) (denied (goes-round? (q .header .grid .longitudes)) (and-right (leb 2 (q .method)) _ v)))))
+    where
+      still : 2 ≤ q .method → ¬ GoesRound (q .header .grid .longitudes) → ¬ Served q
+      still m n (inl k) = omega arith
+      still m n (inr k) = n (k .round)
   reckoned untimely t =
       let u = and-right (truth (known? q)) _ t in
       let v = and-right (truth (sound? (q .header) (q .texts) (q .areas))) _ u in

@@ -1,10 +1,13 @@
 -- Questions with their answers, worked out by hand from 01, as rows of one table: the order of the refusals, whole turns, the grid's east end, and
 -- which map is the nearest.
+use mathlib.Core.Path.{_≡_, ap}
 use mathlib.Core.Bool.{false}
+use mathlib.Core.Logic.{inl, inr}
 use mathlib.Core.List.{List, [], _∷_}
-use Prim.Native.Nat.{ℕ}
+use Prim.Native.Nat.{ℕ, _<_}
+use native.Mathlib.Omega.{arith}
 use native.Mathlib.Decide.{ℕ-discrete, decLe, decLt}
-use lib.IntN.{ℤ, pos, negsuc}
+use lib.IntN.{ℤ, pos, negsuc, natAbs}
 use lib.ListN.{replicate}
 use Rattle.kit.specs.Answer.{All, pick, ×-dec, ⊎-dec, ¬-dec, all-dec}
 use Rattle.kit.specs.Range.{within?}
@@ -14,14 +17,17 @@ use Rattle.mapset.specs.Areas.{Areas, present?, nowhere?, six}
 use Rattle.mapset.specs.Decisions.{end?, step?, multiple?, ×₃-dec, ×₄-dec, together?, dimension?, limits?, follows?}
 use Rattle.mapset.specs.Sound.{version?, printable?, written?, texts?, times?, model?, axis?, grid?, count?, system?, systems?, header?, run?, runs?, starts?, epochs?, marks?, lengths?, sound-says?}
 use Rattle.mapset.specs.SoundLaws.{sound?}
+use Rattle.mapset.specs.declared.Axis.{Axis}
 use Rattle.mapset.specs.declared.Header.{Header}
 use Rattle.rounding.specs.Round.{rounded}
-use Rattle.cells.specs.Found.{strip?, after}
+use Rattle.cells.specs.Place.{GoesRound}
+use Rattle.cells.specs.Found.{strip?, closed?, goes-round?, after}
 use Rattle.nodes.specs.Value.{is-value?, worth, value}
 use Rattle.sums.specs.Mean.{corners, spread, terms, weighted, weight, valued?, mean}
 use Rattle.asker.specs.Ask.{Question, question, tecu, refused, Answers}
+use Rattle.asker.specs.Sun.{Turns}
 use Rattle.asker.specs.Sample.{axis, absent, texts}
-use Rattle.asker.specs.Reckoned.{Row, unknown, unsound, untimely, no-layer, past-east, gives, says, known?, timely?, same-told, all-answer}
+use Rattle.asker.specs.Reckoned.{Row, unknown, unsound, unserved, untimely, no-layer, past-east, gives, says, known?, timely?, same-told, all-answer}
 
 -- n maps, 3,600 s apart: rows at 1.0 and 0.0, columns at 0.0 and 1.0
 unfoldable header : ℕ → Header
@@ -49,10 +55,12 @@ ask-unsound = question (header 0) texts held
 
 pub rows : List Row
 rows =
-    -- 23 before 31, 31 before 20, 20 before 21, 21 before 22
+    -- 23 before 31, 31 before 24 and before 20, 24 before 20, 20 before 21, 21 before 22
     (ask-unsound 3 0 0 (pos 0) (pos 0) 3601, unknown)
     ∷ (ask-unsound 0 4 0 (pos 0) (pos 0) 3601, unknown)
     ∷ (ask-unsound 0 0 0 (pos 0) (pos 0) 3601, unsound)
+    ∷ (ask-unsound 0 2 0 (pos 0) (pos 0) 3601, unsound)
+    ∷ (ask 0 2 0 (pos 0) (pos 0) 3601, unserved)
     ∷ (ask 0 0 0 (pos 0) (pos 101) 3601, untimely)
     ∷ (ask 0 0 1 (pos 0) (pos 100) 3600, no-layer)
     ∷ (ask 0 0 0 (pos 0) (pos 101) 3600, past-east)
@@ -71,5 +79,18 @@ rows =
     ∷ []
 
 pub reckonings : All (λ (r : Row). Answers (r .0) (says (r .1))) rows
-unfolding rows header held texts axis absent truth sound? dec-by sound-says? ×-dec ⊎-dec ¬-dec all-dec pick header? version? texts? written? printable? within? times? model? grid? axis? end? step? together? between? ×₃-dec ×₄-dec multiple? le? lt? int? count? systems? system? dimension? limits? epochs? starts? runs? run? follows? marks? lengths? nowhere? present? ℕ-discrete decLe decLt known? timely? same-told strip? after rounded mean valued? weighted weight terms spread corners value worth is-value?
+unfolding rows header held texts axis absent truth sound? dec-by sound-says? ×-dec ⊎-dec ¬-dec all-dec pick header? version? texts? written? printable? within? times? model? grid? axis? end? step? together? between? ×₃-dec ×₄-dec multiple? le? lt? int? count? systems? system? dimension? limits? epochs? starts? runs? run? follows? marks? lengths? nowhere? present? ℕ-discrete decLe decLt known? timely? same-told strip? closed? goes-round? after rounded mean valued? weighted weight terms spread corners value worth is-value?
 reckonings = all-answer rows tt
+
+-- ---- 24 (02, Ask 3): DLON of 6.0, epochs 7,201 s apart, a grid that ends a column too early; 5.0 and 7,200 s are served (`SunSample`)
+far-apart : {a : Axis} {n : ℕ} → 7200 < n → ¬ Turns a (0 ∷ n ∷ [])
+far-apart h t = omega (arith, t .close 0 (omega arith))
+
+pub not-served : (¬ Turns (axis (pos 0) (pos 3540) (pos 60)) (0 ∷ 7200 ∷ [])) × (¬ Turns (axis (pos 0) (pos 3550) (pos 50)) (0 ∷ 7201 ∷ []))
+    × (¬ GoesRound (axis (pos 0) (pos 3500) (pos 50)))
+unfolding axis
+not-served = (λ t. omega (arith, t .step), far-apart (omega arith), denied)
+  where
+    denied : ¬ GoesRound (axis (pos 0) (pos 3500) (pos 50))
+    denied (inl e) = let z : _≡_ {A = ℕ} 3550 3600 = ap natAbs e in omega arith
+    denied (inr e) = let z : _≡_ {A = ℕ} 3500 3600 = ap natAbs e in omega arith
