@@ -12,3 +12,5 @@ pub mod Strip
 pub mod WholeTurn
 pub mod Sample
 pub mod SunSample
+pub mod Reckoned
+pub mod Reckonings

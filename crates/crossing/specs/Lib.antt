@@ -7,3 +7,4 @@ pub mod AskExported
 pub mod DelayExported
 pub mod MoveExported
 pub mod JoinExported
+pub mod Back

@@ -2,16 +2,15 @@
 use mathlib.Core.Path.{_≡_, refl, ap}
 use mathlib.Core.Bool.{Bool, true, false, _&&_}
 use mathlib.Core.List.{List, [], _∷_}
-use mathlib.Core.Option.{some}
-use Prim.Native.Nat.{ℕ, _*_, _≤_}
+use Prim.Native.Nat.{ℕ, _≤_}
 use native.Mathlib.Omega.{arith}
-use native.Mathlib.Decide.{ℕ-discrete, decLe}
+use native.Mathlib.Decide.{ℕ-discrete, decLe, decLt}
 use lib.Dec.{T, eqb, leb, eqb→eq, leb→le}
 use lib.IntN.{ℤ, pos, negsuc}
-use lib.ListN.{length}
-use Rattle.kit.specs.Answer.{Answer, ok, refused, All, need, amap, pick, ×-dec, all-dec, same, sames, yields}
-use Rattle.kit.specs.Integer.{int?}
-use Rattle.kit.specs.Truth.{truth, truth-ok}
+use lib.ListN.{length, replicate}
+use Rattle.kit.specs.Answer.{Answer, ok, refused, All, need, amap, pick, ×-dec, ⊎-dec, ¬-dec, all-dec, same, sames, yields}
+use Rattle.kit.specs.Integer.{int?, le?, lt?, between?}
+use Rattle.kit.specs.Truth.{truth, truth-ok, dec-by}
 use Rattle.kit.specs.Range.{within?, natural?}
 use Rattle.days.specs.Years.{isLeap, monthDays, yearDays}
 use Rattle.calendar.specs.Calendar.{Dated, dated, second}
@@ -24,6 +23,10 @@ use Rattle.forms.specs.Read.{readField, numberOf, formed?}
 use Rattle.forms.specs.FieldLaws.{read-made, made-read}
 use Rattle.forms.specs.declared.Field.{Field}
 use Rattle.forms.specs.declared.Field.the-variants.{Number, Bad}
+use Rattle.mapset.specs.Areas.{present?, nowhere?, six}
+use Rattle.mapset.specs.Decisions.{end?, step?, multiple?, ×₃-dec, ×₄-dec, together?, dimension?, limits?, follows?}
+use Rattle.mapset.specs.Sound.{version?, printable?, written?, texts?, times?, model?, axis?, grid?, count?, system?, systems?, header?, run?, runs?, starts?, epochs?, marks?, lengths?, sound-says?}
+use Rattle.mapset.specs.SoundLaws.{sound?}
 use Rattle.mapset.specs.MapSet.{MapSet}
 use Rattle.layout.specs.Text.{pad}
 use Rattle.layout.specs.Records.{ValueRows, v-last}
@@ -36,9 +39,12 @@ use Rattle.reading.specs.Read.{begin, read}
 use Rattle.reading.specs.RecordLaws.{cells-yields}
 use Rattle.reading.specs.Exact.{refused-unmade}
 use Rattle.rounding.specs.Round.{rounded}
-use Rattle.rounding.specs.RoundLaws.{round-nearest}
-use Rattle.nodes.specs.Value.{thousandths}
-use Rattle.sums.specs.Mean.{Term, weighted, weight, Mean}
+use Rattle.cells.specs.Found.{strip?, after}
+use Rattle.nodes.specs.Value.{is-value?, worth, value}
+use Rattle.sums.specs.Mean.{corners, spread, terms, weighted, weight, valued?, mean}
+use Rattle.asker.specs.Ask.{Question, question, Told, tecu, Answers}
+use Rattle.asker.specs.Sample.{axis, absent, header, texts}
+use Rattle.asker.specs.Reckoned.{gives, holds, reckoned, known?, timely?, same-told}
 
 -- a row of the table
 pub data Figure : Type 0 where
@@ -51,15 +57,19 @@ pub data Figure : Type 0 where
   -- the text rules make the line from these values of a row of nodes; make the text from no map set
   is-line : List ℕ → List ℤ → Figure
   no-text : List ℕ → Figure
-  -- nodes with their weights, numbers and exponents have the mean, in thousandths, rounded once
-  is-mean : List (ℕ × (ℤ × ℤ)) → ℤ → Figure
+  -- a question has the answer
+  is-answer : Question → Told → Figure
 
--- p = q = 1/2 in a cell of 1 by 1 degree, and halfway between two nodes
-abbrev pub quarter : ℤ → ℤ → ℕ × (ℤ × ℤ)
-quarter v k = (50 * 50, (v, k))
+-- one map of 2 by 2 nodes, 1 degree apart, with the numbers a, b over c, d under the exponent k: TEC at a place
+abbrev pub ask : (k a b c d : ℤ) (lat lon : ℤ) → Question
+ask k a b c d lat lon = question header texts (six (a ∷ b ∷ c ∷ d ∷ []) [] [] (replicate 6 k) (0 ∷ []) (0 ∷ [])) 0 0 0 lat lon 0
 
-abbrev pub half : ℤ → ℤ → ℕ × (ℤ × ℤ)
-half v k = (50 * 100, (v, k))
+-- p = q = 1/2; and halfway from a to b
+abbrev pub centre : (k a b c d : ℤ) → Question
+centre k a b c d = ask k a b c d (pos 50) (pos 50)
+
+abbrev pub halfway : (k a b : ℤ) → Question
+halfway k a b = ask k a b (pos 0) (pos 0) (pos 100) (pos 50)
 
 pub table : List Figure
 table =
@@ -74,18 +84,14 @@ table =
     ∷ no-number (bytes "   5 ")
     ∷ is-line (bytes "  100 9999   -5") (pos 100 ∷ pos 9999 ∷ negsuc 4 ∷ [])
     ∷ no-text []
-    ∷ is-mean (quarter (pos 100) (negsuc 0) ∷ quarter (pos 200) (negsuc 0) ∷ quarter (pos 300) (negsuc 0) ∷ quarter (pos 400) (negsuc 0) ∷ []) (pos 25000)
-    ∷ is-mean (half (pos 0) (negsuc 2) ∷ half (pos 1) (negsuc 2) ∷ []) (pos 1)
-    ∷ is-mean (half (pos 0) (negsuc 2) ∷ half (negsuc 0) (negsuc 2) ∷ []) (negsuc 0)
+    ∷ is-answer (centre (negsuc 0) (pos 100) (pos 200) (pos 300) (pos 400)) (tecu (pos 25000))
+    ∷ is-answer (halfway (negsuc 2) (pos 0) (pos 1)) (tecu (pos 1))
+    ∷ is-answer (halfway (negsuc 2) (pos 0) (negsuc 0)) (tecu (negsuc 0))
     ∷ []
 
 -- what a row says
 abbrev pub Midnight : ℕ → ℕ → ℕ → ℕ → Type 0
 Midnight y m d t = Dated (pos y) (pos m) (pos d) (pos 0) (pos 0) (pos 0) t
-
-abbrev pub nodes : List (ℕ × (ℤ × ℤ)) → List Term
-nodes [] = []
-nodes (n ∷ ns) = (n .0, some (thousandths (n .1 .0) (n .1 .1))) ∷ nodes ns
 
 abbrev pub Right : Figure → Type 0
 Right (is-second y m d t) = Midnight y m d t
@@ -95,7 +101,7 @@ Right (is-number f z) = Spells I 5 z f
 Right (no-number f) = (z : ℤ) → ¬ Spells I 5 z f
 Right (is-line l zs) = ValueRows zs (pad l ∷ [])
 Right (no-text t) = (m : MapSet) → ¬ Makes m t
-Right (is-mean ns v) = Mean (nodes ns) v
+Right (is-answer q a) = Answers q a
 
 -- ---- the proof: each row by a test that is computed
 
@@ -138,7 +144,7 @@ test (is-number f z) = eqb (length f) 5 && is-field z (readField I f)
 test (no-number f) = is-bad (readField I f)
 test (is-line l zs) = leb 1 (length zs) && (leb (length zs) 16 && (eqb (length (pad l)) 80 && is-row zs (cells 1 (length zs) (pad l))))
 test (no-text t) = is-refused (read t)
-test (is-mean ns v) = leb 1 (weight (nodes ns)) && truth (int? (rounded (weighted (nodes ns)) (weight (nodes ns))) v)
+test (is-answer q a) = holds q (gives a)
 
 both : (a b : Bool) → T (a && b) → T a × T b
 both true b t = (tt, t)
@@ -187,10 +193,7 @@ sound (no-text t) h = by (read t) refl h
     by : (x : Answer Why MapSet) → read t ≡ x → T (is-refused x) → (m : MapSet) → ¬ Makes m t
     by (ok m) e h = absurd h
     by (refused w) e h = refused-unmade t e
-sound (is-mean ns v) h =
-    let b = both (leb 1 (weight (nodes ns))) _ h in
-    rw (truth-ok (int? (rounded (weighted (nodes ns)) (weight (nodes ns))) v) (b .1)) at
-    (round-nearest (weighted (nodes ns)) (weight (nodes ns)) (leb→le 1 (weight (nodes ns)) (b .0)))
+sound (is-answer q a) h = reckoned q (gives a) h
 
 abbrev every : List Figure → Bool
 every [] = true
@@ -201,5 +204,5 @@ all-right [] h = tt
 all-right (f ∷ fs) h = let b = both (test f) (every fs) h in (sound f (b .0), all-right fs (b .1))
 
 pub figures : All Right table
-unfolding table truth dated second sum yearDays monthDays isLeap natural? within? readField numberOf formed? pick ×-dec all-dec same sames decLe ℕ-discrete int? cells number blank pad need amap read begin feed split short weight weighted rounded
+unfolding table truth dated second sum yearDays monthDays isLeap natural? within? readField numberOf formed? pick ×-dec ⊎-dec ¬-dec all-dec same sames decLe decLt ℕ-discrete int? le? lt? between? cells number blank pad need amap read begin feed split short header texts axis absent sound? dec-by sound-says? header? version? texts? written? printable? times? model? grid? axis? end? step? together? ×₃-dec ×₄-dec multiple? count? systems? system? dimension? limits? epochs? starts? runs? run? follows? marks? lengths? nowhere? present? known? timely? same-told strip? after rounded mean valued? weighted weight terms spread corners value worth is-value?
 figures = all-right table tt

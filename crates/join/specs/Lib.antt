@@ -8,6 +8,7 @@ pub mod Same
 pub mod EitherWay
 pub mod Grouping
 pub mod Sample
+pub mod Vectors
 -- the six lists of a joined set; joined into lent areas
 pub mod Beside
 pub mod JoinedAreas

@@ -103,4 +103,4 @@ one-to-ten t w e = ⊎-elim (λ x. by (x .cause)) (λ x. let z = short-ten _ (sy
     by : {l : List ℕ} → Cause l w → Within 1 10 (w .number)
     by (too-long a b c) = (omega arith, omega arith)
     by (bad-byte a b c d) = (omega arith, omega arith)
-    by (by-row a b c) = (omega (arith, c), omega (arith, c))
+    by (by-row a b c d) = (omega (arith, c), omega (arith, c))

@@ -23,7 +23,7 @@ Step heights d = Between (pos 0) (pos 99999) d
 Step latitudes d = (0 < natAbs d) × (natAbs d ≤ 150)
 Step longitudes d = Between (pos 1) (pos 150) d
 
--- x is a whole multiple of d
+-- x is a whole multiple of d; n % 0 is n, so that of 0 only 0 is one
 abbrev pub Multiple : ℤ → ℤ → Type 0
 Multiple d x = natAbs x % natAbs d ≡ 0
 
@@ -45,7 +45,7 @@ pub record AxisRules (l : Line) (a : Axis) : Type 0 where
   pub step : Step l (a .step)
   pub together : Together l a
 
--- how many nodes lie on an axis, one where the step is 0
+-- how many nodes lie on an axis; n / 0 is 0, so that there is one where the step is 0
 abbrev pub nodes : Axis → ℕ
 nodes a = natAbs (a .last -ℤ a .first) / natAbs (a .step) + 1
 

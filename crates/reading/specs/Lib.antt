@@ -15,5 +15,6 @@ pub mod Blame
 pub mod RefusalLaws
 pub mod Refusals
 pub mod Vectors
+pub mod Readings
 pub mod LabelLaws
 pub mod ScanLaws

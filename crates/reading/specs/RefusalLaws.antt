@@ -5,9 +5,7 @@ use Prim.Native.Nat.{ℕ, zero, suc, _+_, _≤_, _<_}
 use native.Mathlib.Omega.{arith}
 use native.Mathlib.Decide.{ℕ-discrete, decLe}
 use mathlib.Core.List.{List, [], _∷_}
-use mathlib.Core.Bool.{Bool, true, false, _&&_}
 use lib.IntN.{ℤ}
-use lib.Dec.{T, leb, leb→le}
 use lib.ListN.{length, take, drop, getD}
 use Rattle.kit.specs.Answer.{Answer, ok, refused, bind, amap, all-dec, All, pick-yes, pick-no, Yields, y-ok, y-no, yields, amap-yields}
 use Rattle.kit.specs.Range.{Within, within?, Printable}
@@ -16,11 +14,11 @@ use Rattle.mapset.specs.declared.Version.{Version}
 use Rattle.mapset.specs.declared.Header.{Header}
 use Rattle.layout.specs.Text.{Clean, pad}
 use Rattle.layout.specs.Layout.{Force, Slots, Mode}
-use Rattle.reading.specs.Feed.{Fault, Why, why, on-line, over, bad, row, bad-column, feed}
+use Rattle.reading.specs.Feed.{Fault, fault, Why, why, on-line, over, bad, row, bad-column, feed}
 use Rattle.reading.specs.Maps.{short}
 use Rattle.reading.specs.Head.{Turn, more, done}
 use Rattle.reading.specs.LineLaws.{feed-blank, feed-row}
-use Rattle.reading.specs.Blame.{Blames, blamed, amap-blames, late, Later, First, cells-blame, step-blames, head-step-blames, version-blames}
+use Rattle.reading.specs.Blame.{Blames, blamed, amap-blames, Later, four, five, six, seven, eight, nine, First, three, six-first, cells-blame, step-blames, head-step-blames, version-blames}
 use Rattle.reading.specs.Machine.{State, first, header, maps, Out, turn, from, Move, on-row-of, from-bad, Over, from-over, from-row, amap-id}
 use Rattle.reading.specs.declared.Place.{Place}
 
@@ -54,25 +52,38 @@ unfolding on-row-of
 row-blames first r = amap-blames _ (version-blames r)
 row-blames (header c a e got) r = amap-blames _ (head-step-blames c e got r a)
 row-blames (maps h q p zero) r = amap-blames _ (step-blames h p r q)
-row-blames (maps h q p (suc c)) r = amap-blames _ (cells-blame 1 _ r)
+row-blames (maps h q p (suc c)) r = amap-blames _ (cells-blame 1 _ r (omega arith))
 
-later-range : (k : ℕ) → T (late k) → Within 4 9 k
-later-range k t = by (leb 4 k) (leb k 9) (leb→le 4 k) (leb→le k 9) t
-  where
-    by : (a b : Bool) → (T a → 4 ≤ k) → (T b → k ≤ 9) → T (a && b) → Within 4 9 k
-    by true b f g t = (f tt, g t)
-    by false b f g t = absurd t
+later-range : {f : Fault} → Later f → Within 4 9 (f .number)
+later-range four = (omega arith, omega arith)
+later-range five = (omega arith, omega arith)
+later-range (six h) = (omega arith, omega arith)
+later-range (seven t) = (omega arith, omega arith)
+later-range (eight t) = (omega arith, omega arith)
+later-range nine = (omega arith, omega arith)
+
+first-range : {f : Fault} → First f → Within 3 9 (f .number)
+first-range (three t) = (omega arith, omega arith)
+first-range (six-first h) = (omega arith, omega arith)
 
 three-to-nine : (s : State) (f : Fault) → NumberIn s f → Within 3 9 (f .number)
-three-to-nine first f (inl e) = (omega arith, omega arith)
-three-to-nine first f (inr e) = (omega arith, omega arith)
-three-to-nine (header c a e got) f t = let x = later-range (f .number) t in (omega arith, omega arith)
-three-to-nine (maps h q p c) f t = let x = later-range (f .number) t in (omega arith, omega arith)
+three-to-nine first f t = first-range t
+three-to-nine (header c a e got) f t = let x = later-range t in (omega arith, omega arith)
+three-to-nine (maps h q p c) f t = let x = later-range t in (omega arith, omega arith)
 
 three-first : (s : State) (f : Fault) → NumberIn s f → f .number ≡ 3 → s ≡ first
 three-first first f t e = refl
-three-first (header c a e got) f t q = absurd (rw q at t)
-three-first (maps h r p c) f t q = absurd (rw q at t)
+three-first (header c a e got) f t q = let x = later-range t in absurd (omega arith)
+three-first (maps h r p c) f t q = let x = later-range t in absurd (omega arith)
+
+-- 01's column of the number
+abbrev pub Placed : Fault → Type 0
+Placed f = First f ⊎ Later f
+
+placed : (s : State) (f : Fault) → NumberIn s f → Placed f
+placed first f t = inl t
+placed (header c a e got) f t = inr t
+placed (maps h q p c) f t = inr t
 
 -- no row leads back to the version record
 always : {W A : Type 0} {Q : A → Type 0} (x : Answer W A) → ((a : A) → Q a) → Yields Q x
@@ -102,11 +113,12 @@ moves-on (maps h q p (suc c)) r = amap-yields _ (always _ (λ zs. in-maps))
 abbrev pub Fine : (s : State) (n : ℕ) → List (List ℕ) → Type 0
 Fine s n ls = (from s (feed n ls) ≡ short (n + length ls)) ⊎ ((a : Out s) × (from s (feed n ls) ≡ ok a))
 
--- why a line is refused: over 80 bytes is 1 at column 81; a byte outside 32 to 126 is 2 at its column; else its row is, with 3 to 9
+-- why a line is refused: over 80 bytes is 1 at column 81; a byte outside 32 to 126 is 2 at its column; else its row is, with 3 to 9 at the
+-- columns that 01 gives them (`Blame`)
 pub data Cause (l : List ℕ) (w : Why) : Type 0 where
   too-long : ¬ (length l ≤ 80) → w .number ≡ 1 → w .column ≡ 81 → Cause l w
   bad-byte : length l ≤ 80 → ¬ Printable l → w .number ≡ 2 → w .column ≡ bad-column l → Cause l w
-  by-row : Clean l → ¬ All Blank l → Within 3 9 (w .number) → Cause l w
+  by-row : Clean l → ¬ All Blank l → Within 3 9 (w .number) → Placed (fault (w .number) (w .column)) → Cause l w
 
 -- w is told of the line after `before` others; the lines before it are without fault, and it is decided by the lines up to its own;
 -- 3 is told of the first line that is not blank
@@ -243,7 +255,7 @@ refusal (l ∷ ls) s n w e = by (sort n l) (on-row-of s (pad l)) refl (λ s′. 
     by (blank a b f) x q ih = on s s (λ a. a) n l ls w (λ ls. ap (from s) (f ls) ∙ sym (amap-id (from s (feed (suc n) ls)))) (λ o. o) (λ z. (z, b)) (ih s) e
     by (shown a b f) (refused t) q ih =
         let y : NumberIn s t = blamed (rw q at (row-blames s (pad l))) in
-        inl (bad-line s n l ls _ w refl (by-row a b (three-to-nine s t y)) (three-first s t y) (shown-row s n l (refused t) q f) e)
+        inl (bad-line s n l ls _ w refl (by-row a b (three-to-nine s t y) (placed s t y)) (three-first s t y) (shown-row s n l (refused t) q f) e)
     by (shown a b f) (ok m) q ih = on s (m .to) (m .back) n l ls w (shown-row s n l (ok m) q f) (λ o. not-both (sym q ∙ o .stops (pad l) .1)) (λ z. absurd (yields _ (moves-on s (pad l)) q z)) (ih (m .to)) e
 
 -- ---- a line that is refused wherever it stands, after lines without fault

@@ -32,7 +32,7 @@ pub record AtLine (t : List ℕ) (w : Why) : Type 0 where
   pub inside : before < length (split t)
   pub faultless : Faultless (take before (split t))
   pub decided : (t′ : List ℕ) → take (suc before) (split t′) ≡ take (suc before) (split t) → read t′ ≡ refused w
-  -- 1 at column 81 for a line over 80 bytes, 2 at the first byte outside 32 to 126, else 3 to 9
+  -- 1 at column 81 for a line over 80 bytes, 2 at the first byte outside 32 to 126, else 3 to 9, each at a column that 01 gives it
   pub cause : Cause (getD (split t) before []) w
   -- 3 for the first line that is not blank
   pub three : w .number ≡ 3 → All (All Blank) (take before (split t))
@@ -119,7 +119,7 @@ ten t w e q = ⊎-elim (λ x. absurd (other (x .cause))) (λ x. x) (refusals t w
     other : {l : List ℕ} → Cause l w → ⊥
     other (too-long a b c) = omega arith
     other (bad-byte a b c d) = omega arith
-    other (by-row a b c) = omega arith
+    other (by-row a b c d) = omega arith
 
 pub ten-at : (t : List ℕ) (w : Why) → EndsEarly t w → read t ≡ short (suc (length (split t)))
 unfolding read reads

@@ -58,7 +58,7 @@ unfolding two-faults read begin feed split front opens? pad pick ×-dec ⊎-dec 
 eight-before-seven = refl
 
 -- a small text: one TEC map and its RMS map, of two rows and three columns
-pub small-text : List String
+unfoldable pub small-text : List String
 small-text =
     "     1.1            IONOSPHERE MAPS     MIX                 IONEX VERSION / TYPE"
     ∷ "maker               agency              15-nov-26 06:00     PGM / RUN BY / DATE"
@@ -136,7 +136,7 @@ pub small-made : Makes small-set (lines small-text)
 small-made = made-read (lines small-text) small-read
 
 -- a text with two TEC maps of one row and two columns
-pub two-text : List String
+unfoldable pub two-text : List String
 two-text =
     "     1.1            IONOSPHERE MAPS     MIX                 IONEX VERSION / TYPE"
     ∷ "maker               agency              15-nov-26 06:00     PGM / RUN BY / DATE"

@@ -4,3 +4,4 @@ pub mod Extremes
 pub mod Figures
 pub mod FigureLaws
 pub mod Rows
+pub mod Vectors

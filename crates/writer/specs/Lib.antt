@@ -7,3 +7,4 @@ pub mod HeadRows
 pub mod MapRows
 pub mod Made
 pub mod Exact
+pub mod Vectors
