@@ -11,124 +11,9 @@ use crate::set::{Buffers, MapSet};
 use second::maps::Grid;
 use second::{Answer, Axis, Header, Question, Reading, Refusal, Texts};
 
-#[derive(Clone, Copy, Debug, PartialEq, Eq)]
-pub enum Fault {
-    // Reading: the answer.
-    AcceptedAsRefused,
-    RefusedAsAccepted,
-    Number,
-    Line,
-    Column,
-    ShortArea,
-    ShortNeed,
-    // Reading: the header record, its axes (0 heights, 1 latitudes, 2 longitudes;
-    // first, last, step) and its starred records.
-    Version,
-    /// GPS and GLO under 1.1 too, or not at all; 1.0 read or written as 1.1.
-    GpsInAny,
-    GpsInNone,
-    ReadAsNew,
-    WrittenAsNew,
-    FileType,
-    Code,
-    FirstEpoch,
-    LastEpoch,
-    Interval,
-    Maps,
-    Cutoff,
-    Radius,
-    Dimension,
-    AxisNumber(usize, usize),
-    StationsFlag,
-    StationsCount,
-    SatellitesFlag,
-    SatellitesCount,
-    SystemFlag(usize),
-    SystemStations(usize),
-    SystemSatellites(usize),
-    // Reading: a text, the last needed element of an area, the guard behind it,
-    // an area touched by a refusal.
-    Text(usize),
-    Area(usize),
-    Guard(usize),
-    Touched(usize),
-    /// The exponent set back to -1 at each map.
-    ExponentReset,
-    /// A point with no digit after it taken as 0.
-    PointAlone,
-    /// A byte of a remark let through; only texts that differ in their remarks show it.
-    Leak(Leak),
-    // Needs: one of them, or the place of a refusal.
-    Need(usize),
-    NeedOfNone,
-    NeedsLine,
-    NeedsAccepted,
-    // Writing.
-    WrittenByte,
-    WrittenPast,
-    WrittenLength,
-    WriteNeed,
-    WriteNumber,
-    WriteTouched,
-    // Asking.
-    Value,
-    Unit,
-    AskNumber,
-    /// Rounding in space and again in time.
-    RoundedTwice,
-    /// The later of two equally near maps.
-    LaterMap,
-    /// Refusing for an absent node whose weight is zero.
-    ZeroWeight,
-    /// 9999 taken as a value.
-    AbsentAsValue,
-    /// In the strip, the column before the last in the place of the first.
-    ColumnBefore,
-    /// Maps that turn: the later one moved forward too, both moved by the time since the earlier, moved ten times as far.
-    LaterForward,
-    SameTime,
-    TenTimes,
-    /// Rounded in each of the maps that turn, and again in time.
-    RoundedPerMap,
-    /// 24 told after 20, or only for the gap around the second asked for.
-    TurnsLate,
-    GapAround,
-    // Delays: divided by 1000 after the product, by the carrier twice, by the carrier alone.
-    ThousandLast,
-    CarrierTwice,
-    NotSquared,
-    /// The record in thousandths.
-    RecordThousandths,
-    /// The limits themselves refused.
-    LimitsRefused,
-    /// A height map's value taken as TEC.
-    HeightDelay,
-    /// 25 before the refusals of the question.
-    CarrierFirst,
-    // Joining: the shared map from the earlier set, its RMS map lost.
-    SharedEarlier,
-    SharedRmsLost,
-    /// The later set's INTERVAL kept, or an INTERVAL of 0 taken as the other set's.
-    IntervalKept,
-    IntervalOther,
-    TextsEarlier,
-    LastEpochEarlier,
-    /// The exponents of all kinds one behind the other.
-    ExponentsTogether,
-    /// 42 before 41, or 41 before 40.
-    LimitFirst,
-    MeetFirst,
-    JoinNeed,
-    JoinTouched(usize),
-    JoinGuard(usize),
-    // Moving.
-    MovedValue,
-    MovedRefusal,
-}
-
-pub fn all() -> Vec<Fault> {
-    use Fault::*;
-    let mut faults = vec![
+listed! {
+    pub enum Fault {
+        // Reading: the answer.
         AcceptedAsRefused,
         RefusedAsAccepted,
         Number,
@@ -136,7 +21,10 @@ pub fn all() -> Vec<Fault> {
         Column,
         ShortArea,
         ShortNeed,
+        // Reading: the header record, its axes (0 heights, 1 latitudes, 2 longitudes;
+        // first, last, step) and its starred records.
         Version,
+        /// GPS and GLO under 1.1 too, or not at all; 1.0 read or written as 1.1.
         GpsInAny,
         GpsInNone,
         ReadAsNew,
@@ -150,67 +38,93 @@ pub fn all() -> Vec<Fault> {
         Cutoff,
         Radius,
         Dimension,
+        AxisNumber(usize, usize) in (0..9).map(|k| Fault::AxisNumber(k / 3, k % 3)),
         StationsFlag,
         StationsCount,
         SatellitesFlag,
         SatellitesCount,
+        SystemFlag(usize) in (0..7).map(Fault::SystemFlag),
+        SystemStations(usize) in (0..7).map(Fault::SystemStations),
+        SystemSatellites(usize) in (0..7).map(Fault::SystemSatellites),
+        // Reading: a text, the last needed element of an area, the guard behind it,
+        // an area touched by a refusal.
+        Text(usize) in (0..5).map(Fault::Text),
+        Area(usize) in (0..6).map(Fault::Area),
+        Guard(usize) in (0..6).map(Fault::Guard),
+        Touched(usize) in (0..6).map(Fault::Touched),
+        /// The exponent set back to -1 at each map.
         ExponentReset,
+        /// A point with no digit after it taken as 0.
         PointAlone,
+        /// A byte of a remark let through.
+        Leak(Leak) in Leak::all().into_iter().map(Fault::Leak),
+        // Needs: one of them, or the place of a refusal.
+        Need(usize) in (0..6).map(Fault::Need),
         NeedOfNone,
         NeedsLine,
         NeedsAccepted,
+        // Writing.
         WrittenByte,
         WrittenPast,
         WrittenLength,
         WriteNeed,
         WriteNumber,
         WriteTouched,
+        // Asking.
         Value,
         Unit,
         AskNumber,
+        /// Rounding in space and again in time.
         RoundedTwice,
+        /// The later of two equally near maps.
         LaterMap,
+        /// Refusing for an absent node whose weight is zero.
         ZeroWeight,
+        /// 9999 taken as a value.
         AbsentAsValue,
+        /// In the strip, the column before the last in the place of the first.
         ColumnBefore,
+        /// Maps that turn: the later one moved forward too, both moved by the time since the earlier, moved ten times as far.
         LaterForward,
         SameTime,
         TenTimes,
+        /// Rounded in each of the maps that turn, and again in time.
         RoundedPerMap,
+        /// 24 told after 20, or only for the gap around the second asked for.
         TurnsLate,
         GapAround,
+        // Delays: divided by 1000 after the product, by the carrier twice, by the carrier alone.
         ThousandLast,
         CarrierTwice,
         NotSquared,
+        /// The record in thousandths.
         RecordThousandths,
+        /// The limits themselves refused.
         LimitsRefused,
+        /// A height map's value taken as TEC.
         HeightDelay,
+        /// 25 before the refusals of the question.
         CarrierFirst,
+        // Joining: the shared map from the earlier set, its RMS map lost.
         SharedEarlier,
         SharedRmsLost,
+        /// The later set's INTERVAL kept, or an INTERVAL of 0 taken as the other set's.
         IntervalKept,
         IntervalOther,
         TextsEarlier,
         LastEpochEarlier,
+        /// The exponents of all kinds one behind the other.
         ExponentsTogether,
+        /// 42 before 41, or 41 before 40.
         LimitFirst,
         MeetFirst,
         JoinNeed,
+        JoinTouched(usize) in (0..6).map(Fault::JoinTouched),
+        JoinGuard(usize) in (0..6).map(Fault::JoinGuard),
+        // Moving.
         MovedValue,
         MovedRefusal,
-    ];
-    for axis in 0..3 {
-        faults.extend((0..3).map(|number| AxisNumber(axis, number)));
     }
-    for k in 0..7 {
-        faults.extend([SystemFlag(k), SystemStations(k), SystemSatellites(k)]);
-    }
-    faults.extend((0..5).map(Text));
-    for k in 0..6 {
-        faults.extend([Area(k), Guard(k), Touched(k), Need(k)]);
-        faults.extend([JoinTouched(k), JoinGuard(k)]);
-    }
-    faults
 }
 
 /// The seed and job at which the comparison with a library finds the fault, and the difference, within `count` seeds.

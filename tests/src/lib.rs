@@ -2,6 +2,9 @@
 
 #![forbid(unsafe_code)]
 
+#[macro_use]
+mod listed;
+
 pub mod archive;
 pub mod biases;
 pub mod boundary;
