@@ -18,6 +18,10 @@ listed! {
         RefusedAsAccepted,
         Number,
         Line,
+        /// A line of 16 bits.
+        LineNarrow,
+        /// Of the wrong fields of an epoch, the last told.
+        EpochLast,
         Column,
         ShortArea,
         ShortNeed,
@@ -54,6 +58,8 @@ listed! {
         Touched(usize) in (0..6).map(Fault::Touched),
         /// The exponent set back to -1 at each map.
         ExponentReset,
+        /// A second aux block refused.
+        OneAux,
         /// A point with no digit after it taken as 0.
         PointAlone,
         /// A byte of a remark let through.
@@ -74,6 +80,9 @@ listed! {
         Value,
         Unit,
         AskNumber,
+        /// The place of a value in 16 bits, of a map in 8.
+        NodeNarrow,
+        MapNarrow,
         /// Rounding in space and again in time.
         RoundedTwice,
         /// The later of two equally near maps.
@@ -171,6 +180,7 @@ impl Library for Faulty {
                     Some(text) => Second.read(&text, areas),
                     None => Reading::Refused(refusal),
                 },
+                _ if self.0 == Fault::EpochLast => Reading::Refused(last_wrong(text, refusal)),
                 _ => self.refused(areas, refusal),
             },
         }
@@ -247,6 +257,10 @@ impl Library for Faulty {
             }
             (Fault::AskNumber, Err(Refusal::Bare { number: 21 })) => {
                 Err(Refusal::Bare { number: 22 })
+            }
+            (Fault::NodeNarrow, _) => Second.ask(&with_values_of(set, 1 << 16, 1), question),
+            (Fault::MapNarrow, _) => {
+                Second.ask(&with_values_of(set, 256, set.grid().values()), question)
             }
             (Fault::RoundedTwice, Ok(right)) => Ok(rounded_twice(set, question).unwrap_or(right)),
             (Fault::LaterMap, Ok(right)) if question.method == 0 => {
@@ -486,6 +500,16 @@ impl Faulty {
                 *areas = before;
                 return Second.read(&with_resets(text), areas);
             }
+            Fault::OneAux => {
+                if let Some(line) = second_aux(text) {
+                    *areas = before;
+                    return Reading::Refused(Refusal::Place {
+                        number: 5,
+                        line,
+                        column: 61,
+                    });
+                }
+            }
             _ => {}
         }
         Reading::Accepted { header, texts }
@@ -521,6 +545,18 @@ impl Faulty {
             ) => Refusal::Place {
                 number,
                 line: line + 1,
+                column,
+            },
+            (
+                Fault::LineNarrow,
+                Refusal::Place {
+                    number,
+                    line,
+                    column,
+                },
+            ) => Refusal::Place {
+                number,
+                line: line & 0xffff,
                 column,
             },
             (
@@ -618,6 +654,61 @@ fn line_start(text: &[u8], line: u64) -> usize {
     lines.take(line as usize - 1).map(<[u8]>::len).sum()
 }
 
+/// The line of the second aux block, where there is one.
+fn second_aux(text: &[u8]) -> Option<u64> {
+    let (mut inside, mut blocks) = (false, 0);
+    for (k, line) in text.split(|&b| b == b'\n').enumerate() {
+        match line.get(60..).unwrap_or(b"").trim_ascii_end() {
+            b"END OF AUX DATA" => inside = false,
+            b"START OF AUX DATA" if !inside => {
+                inside = true;
+                blocks += 1;
+            }
+            b"END OF HEADER" if !inside => return None,
+            _ => {}
+        }
+        if blocks == 2 {
+            return Some(k as u64 + 1);
+        }
+    }
+    None
+}
+
+/// A refusal 7 of an epoch's field with the last wrong field in its place.
+fn last_wrong(text: &[u8], refusal: Refusal) -> Refusal {
+    let Refusal::Place {
+        number: 7, line, ..
+    } = refusal
+    else {
+        return refusal;
+    };
+    let found = &text[line_start(text, line)..];
+    match wrong_epoch_fields(found).last() {
+        Some(k) => Refusal::Place {
+            number: 7,
+            line,
+            column: 6 * *k as u64 + 1,
+        },
+        None => refusal,
+    }
+}
+
+/// The fields of an epoch record that are no number, or a number outside their own range; none of another line.
+pub fn wrong_epoch_fields(line: &[u8]) -> Vec<usize> {
+    let ranges = [1900..=2199, 1..=12, 1..=31, 0..=23, 0..=59, 0..=59];
+    if !line
+        .get(60..)
+        .is_some_and(|label| label.starts_with(b"EPOCH OF"))
+    {
+        return Vec::new();
+    }
+    let wrong = |k: usize| {
+        let number = second::fields::integer(&line[6 * k..6 * k + 6]);
+        !number.is_some_and(|number| ranges[k].contains(&number))
+    };
+    (0..6).filter(|&k| wrong(k)).collect()
+}
+
 /// The text as one of version 1.0, where its code is what is refused.
 fn as_old(text: &[u8], refusal: Refusal) -> Option<Vec<u8>> {
     let Refusal::Place {
@@ -642,6 +733,15 @@ fn with_column_before(set: &MapSet) -> MapSet {
         for row in values.chunks_exact_mut(columns) {
             row[0] = row[columns - 2];
         }
+    }
+    changed
+}
+
+/// The set with each part of its TEC values, so many of `size`, as the first.
+fn with_values_of(set: &MapSet, parts: usize, size: usize) -> MapSet {
+    let mut changed = set.clone();
+    for at in parts * size..set.areas.tec.len() {
+        changed.areas.tec[at] = set.areas.tec[at % (parts * size)];
     }
     changed
 }
