@@ -8,6 +8,8 @@
 //! compare biases COUNT SEED       code biases, by both, and those of good texts judged
 //! compare places COUNT SEED       where the damaged texts are refused, for reading
 //! compare program FILE            an executable on every example, against the second program
+//! compare guards                  every export with its areas at forbidden pages (on x86-64)
+//! compare touch EXPORT SIDE AREA HOW   a call that such a page must end
 //! compare linked                  the functions that are linked, one to a line
 //!
 //! A function of the library that is not linked is answered by the second program, and a line says so.
@@ -15,7 +17,7 @@
 
 #![forbid(unsafe_code)]
 
-use compare::archive::{Archive, FUNCTIONS};
+use compare::archive::{self, Archive, FUNCTIONS};
 use compare::check::{self, Tally};
 use compare::library::{self, Second};
 use compare::{biases, calls, delays, faults, indexes, program, remarks, weeks};
@@ -27,6 +29,15 @@ fn main() -> ExitCode {
     let words: Vec<&str> = arguments.iter().map(String::as_str).collect();
     let tally = match words[..] {
         ["program", file] => program::examples(Path::new(file)),
+        #[cfg(all(target_arch = "x86_64", feature = "ionex"))]
+        ["guards"] => compare::guards::compare(),
+        #[cfg(all(target_arch = "x86_64", feature = "ionex"))]
+        ["touch", export, side, area, how] => {
+            match compare::guards::touch(export, side, area, how) {
+                Some(0) => return ExitCode::SUCCESS,
+                _ => return usage(),
+            }
+        }
         ["linked"] => {
             for (name, _) in FUNCTIONS.iter().filter(|(_, linked)| *linked) {
                 println!("{}", name.trim_start_matches("ionex_"));
@@ -66,8 +77,8 @@ fn usage() -> ExitCode {
     );
     eprintln!("       compare delays SEED");
     eprintln!("       compare program FILE");
-    eprintln!("       compare linked");
-    eprintln!("libraries, boundary and delays need a function that is linked");
+    eprintln!("       compare linked | guards");
+    eprintln!("libraries, boundary, delays and guards need a function that is linked");
     ExitCode::from(2)
 }
 
@@ -77,10 +88,10 @@ fn seeded(mode: &str, count: u64, seed: u64) -> Option<Tally> {
     Some(match mode {
         "self-check" => check::self_check(library.as_ref(), count, seed),
         "libraries" if linked() => check::compare(&Second, library.as_ref(), count, seed),
-        "boundary" if linked() => calls::compare(&Archive, count, seed),
-        "weeks" => weeks::compare(&Archive, count, seed),
-        "indexes" => indexes::compare(&Archive, count, seed),
-        "biases" => biases::compare(&Archive, count, seed),
+        "boundary" if linked() => calls::compare(&archive::fenced(), count, seed),
+        "weeks" => weeks::compare(&archive::fenced(), count, seed),
+        "indexes" => indexes::compare(&archive::fenced(), count, seed),
+        "biases" => biases::compare(&archive::fenced(), count, seed),
         "faults" => planted_faults(count, seed),
         _ => return None,
     })
