@@ -205,6 +205,18 @@ pub fn fits(given: &Given) -> bool {
         && view.exponents.len() >= 3 * maps * blocks(header)
         && (0..maps).all(|k| {
             let before = k.checked_sub(1).map(|k| epochs[k]);
-            maps::epoch_agrees(header, k, before, epochs[k])
+            epoch_agrees(header, k, before, epochs[k])
         })
+}
+
+/// Whether map `k` (from 0) may have this epoch after that of the map before it.
+fn epoch_agrees(header: &Header, k: usize, before: Option<u64>, epoch: u64) -> bool {
+    let follows = match before {
+        None => epoch == header.first_epoch,
+        Some(before) => {
+            let gap = epoch.wrapping_sub(before);
+            (1..=21_600).contains(&gap) && (header.interval == 0 || gap == header.interval as u64)
+        }
+    };
+    follows && (k + 1 != header.maps as usize || epoch == header.last_epoch)
 }

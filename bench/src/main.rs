@@ -121,13 +121,14 @@ fn questions(first_epoch: u64, method: i64) -> Vec<Question> {
 /// The library's time for one question, in nanoseconds.
 fn report_asking(text: &str, method: i64) -> f64 {
     let (given, set) = map_set(text);
+    let plain_given = set.given();
     let questions = questions(set.header.first_epoch, method);
     let mut best = [Duration::MAX; 2];
     for _ in 0..ASKING_ROUNDS {
         let ours = timed(&mut best[0], || sum(&questions, |q| ask_library(&given, q)));
         let plain = timed(&mut best[1], || {
             sum(&questions, |q| {
-                ask(black_box(&set.given()), q).expect("a value")
+                ask(black_box(&plain_given), q).expect("a value")
             })
         });
         assert_eq!(ours, plain, "the two answers disagree");
