@@ -150,22 +150,23 @@ pub fn numbers_in(layout: &[Part], card: &Card) -> Result<[i64; 6], u64> {
     let mut found = [0; 6];
     let mut count = 0;
     let mut at = 0;
-    for part in layout {
-        let (width, number): (usize, Option<fn(&[u8]) -> Option<i64>>) = match *part {
+    for &part in layout {
+        let field = &card[at..at + width(part)];
+        let number = match part {
             X(width) => {
                 blank(card, at, at + width)?;
-                (width, None)
+                None
             }
-            A(width) | Free(width) => (width, None),
-            I(width) => (width, Some(fields::integer)),
-            F(width) => (width, Some(fields::tenths)),
-            D(width) => (width, Some(fields::thousandths)),
+            A(_) | Free(_) => None,
+            I(_) => Some(fields::integer(field)),
+            F(_) => Some(fields::tenths(field)),
+            D(_) => Some(fields::thousandths(field)),
         };
         if let Some(number) = number {
-            found[count] = number(&card[at..at + width]).ok_or(at as u64 + 1)?;
+            found[count] = number.ok_or(at as u64 + 1)?;
             count += 1;
         }
-        at += width;
+        at += width(part);
     }
     Ok(found)
 }
