@@ -1,27 +1,8 @@
 //! The value at a place and second, plainly, with the library's checks.
 
-use crate::calendar;
-use crate::header::{self, Axis, Header};
-
-pub struct View<'a> {
-    pub tec: &'a [i32],
-    pub rms: &'a [i32],
-    pub height: &'a [i32],
-    pub exponents: &'a [i32],
-    pub epochs: &'a [u64],
-    pub marks: &'a [u8],
-}
-
-#[derive(Clone, Copy, Debug, PartialEq, Eq)]
-pub struct Question {
-    pub kind: u64,
-    pub method: u64,
-    pub layer: u64,
-    /// Hundredths of a degree.
-    pub lat: i32,
-    pub lon: i32,
-    pub second: u64,
-}
+use second::header::exponent_fits;
+use second::maps::{self, value_fits, Kind, KINDS, NO_VALUE};
+use second::{Axis, Given, Header, Question, View};
 
 /// Two neighbouring lines or maps, and the share of each.
 #[derive(Clone, Copy)]
@@ -37,36 +18,32 @@ impl Between {
 }
 
 /// Thousandths of a TECU or of a kilometre, or a refusal: 23, 31, 24, 20, 21, 22.
-pub fn ask(header: &Header, view: &View, question: &Question) -> Result<i32, u8> {
-    if question.kind > 2 || question.method > 3 {
+pub fn ask(given: &Given, question: &Question) -> Result<i32, u8> {
+    let kind = usize::try_from(question.kind).ok();
+    let Some(&kind) = kind.and_then(|kind| KINDS.get(kind)) else {
+        return Err(23);
+    };
+    if !(0..=3).contains(&question.method) {
         return Err(23);
     }
-    if !is_valid(header) || !areas_fit(header, view) {
+    if !fits(given) {
         return Err(31);
     }
+    let (header, view) = (given.header, &given.areas);
     let epochs = &view.epochs[..header.maps as usize];
     if question.method > 1 && !turns(&header.longitudes, epochs) {
         return Err(24);
     }
     let time = in_time(epochs, question).ok_or(20)?;
     let layer = usize::try_from(question.layer).map_err(|_| 21)?;
-    if layer >= header.heights.count() {
+    if layer >= header.heights.count() as usize {
         return Err(21);
     }
-    let latitude = i64::from(question.lat) - 10 * header.latitudes.first;
+    let latitude = question.latitude - 10 * header.latitudes.first;
     let south = header.latitudes.step.signum();
     let row = along(&header.latitudes, latitude * south, 10).ok_or(21)?;
     let columns = columns(&header.longitudes, epochs, question, time).ok_or(21)?;
-    value(
-        header,
-        view,
-        question.kind as usize,
-        layer,
-        time,
-        row,
-        columns,
-    )
-    .ok_or(22)
+    value(header, view, kind, layer, time, row, columns).ok_or(22)
 }
 
 /// Whether the maps can turn with the Sun.
@@ -85,7 +62,7 @@ fn columns(
     question: &Question,
     time: Between,
 ) -> Option<[Between; 2]> {
-    let lon = i64::from(question.lon);
+    let lon = question.longitude;
     if question.method < 2 {
         return around(axis, lon, 10).map(|columns| [columns; 2]);
     }
@@ -119,7 +96,7 @@ fn around(axis: &Axis, lon: i64, tenth: i64) -> Option<Between> {
         return along(axis, offset, tenth);
     }
     let mut column = between(offset, tenth * axis.step);
-    if column.at[1] == axis.count() {
+    if column.at[1] == axis.count() as usize {
         column.at[1] = 0;
     }
     Some(column)
@@ -153,7 +130,7 @@ fn in_time(epochs: &[u64], question: &Question) -> Option<Between> {
 fn value(
     header: &Header,
     view: &View,
-    kind: usize,
+    kind: Kind,
     layer: usize,
     time: Between,
     row: Between,
@@ -184,58 +161,39 @@ fn value(
 fn node(
     header: &Header,
     view: &View,
-    kind: usize,
+    kind: Kind,
     map: usize,
     layer: usize,
     row: usize,
     column: usize,
 ) -> Option<i64> {
-    if kind != 0 && view.marks[map] & kind as u8 == 0 {
+    if !maps::is_present(kind, view.marks[map]) {
         return None;
     }
-    let values = [view.tec, view.rms, view.height][kind];
-    let block = (map * header.heights.count() + layer) * header.latitudes.count() + row;
-    let value = values[block * header.longitudes.count() + column];
-    let kind_start = kind * header.maps as usize * header.blocks();
+    let rows = header.latitudes.count() as usize;
+    let block = (map * header.heights.count() as usize + layer) * rows + row;
+    let value = view.values(kind)[block * header.longitudes.count() as usize + column];
+    let kind_start = kind as usize * header.maps as usize * blocks(header);
     let exponent = view.exponents[kind_start + block];
-    if value == 9999 || !(-9999..=99_999).contains(&value) || !(-3..=0).contains(&exponent) {
+    if value == NO_VALUE || !value_fits(value) || !exponent_fits(i64::from(exponent)) {
         return None;
     }
     Some(i64::from(value) * 10i64.pow((exponent + 3) as u32))
 }
 
-pub fn is_valid(header: &Header) -> bool {
-    let count = |count: Option<i64>| count.is_none_or(|n| header::COUNT.contains(&n));
-    let printable = |text: &[u8]| text.iter().all(|b| (32..=126).contains(b));
-    header::codes(header.version).is_some_and(|codes| header.code < codes.len())
-        && header.kind == b'I'
-        && header.first_epoch < calendar::END
-        && header.last_epoch < calendar::END
-        && header::INTERVAL.contains(&header.interval)
-        && header::MAPS.contains(&header.maps)
-        && header::CUTOFF.contains(&header.cutoff)
-        && header::RADIUS.contains(&header.radius)
-        && header::DIMENSION.contains(&header.dimension)
-        && header.heights.heights().is_ok()
-        && header.latitudes.latitudes().is_ok()
-        && header.longitudes.longitudes().is_ok()
-        && header.dimension_agrees()
-        && header.size_fits()
-        && count(header.stations)
-        && count(header.satellites)
-        && header
-            .systems
-            .iter()
-            .all(|s| count(s.map(|s| s.stations)) && count(s.map(|s| s.satellites)))
-        && printable(&header.program)
-        && printable(&header.mapping)
-        && printable(&header.observables)
+/// Blocks of one map.
+pub fn blocks(header: &Header) -> usize {
+    (header.heights.count() * header.latitudes.count()) as usize
 }
 
-/// Lengths, marks and epochs.
-pub fn areas_fit(header: &Header, view: &View) -> bool {
+/// The header, the texts, lengths, marks and epochs.
+pub fn fits(given: &Given) -> bool {
+    let (header, view) = (given.header, &given.areas);
+    if !header.is_valid() || !given.texts.is_valid() {
+        return false;
+    }
     let maps = header.maps as usize;
-    let values = maps * header.blocks() * header.longitudes.count();
+    let values = maps * blocks(header) * header.longitudes.count() as usize;
     let (Some(marks), Some(epochs)) = (view.marks.get(..maps), view.epochs.get(..maps)) else {
         return false;
     };
@@ -244,9 +202,21 @@ pub fn areas_fit(header: &Header, view: &View) -> bool {
         && view.tec.len() >= values
         && (view.rms.len() >= values || !any(1))
         && (view.height.len() >= values || !any(2))
-        && view.exponents.len() >= 3 * maps * header.blocks()
+        && view.exponents.len() >= 3 * maps * blocks(header)
         && (0..maps).all(|k| {
             let before = k.checked_sub(1).map(|k| epochs[k]);
-            header.epoch_agrees(k, before, epochs[k])
+            epoch_agrees(header, k, before, epochs[k])
         })
+}
+
+/// Whether map `k` (from 0) may have this epoch after that of the map before it.
+fn epoch_agrees(header: &Header, k: usize, before: Option<u64>, epoch: u64) -> bool {
+    let follows = match before {
+        None => epoch == header.first_epoch,
+        Some(before) => {
+            let gap = epoch.wrapping_sub(before);
+            (1..=21_600).contains(&gap) && (header.interval == 0 || gap == header.interval as u64)
+        }
+    };
+    follows && (k + 1 != header.maps as usize || epoch == header.last_epoch)
 }

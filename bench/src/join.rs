@@ -1,27 +1,14 @@
 //! Two map sets joined, plainly, with the library's checks: both sets judged, then the result copied.
 
-use crate::ask::{areas_fit, is_valid, View};
-use crate::header::Header;
-use crate::plain::Areas;
-
-/// A map set as it is given.
-pub struct Set<'a> {
-    pub header: &'a Header,
-    pub view: View<'a>,
-}
-
-#[derive(Clone, Copy, Debug, PartialEq, Eq)]
-pub enum Refusal {
-    /// 31, 40, 41 or 42.
-    Number(u8),
-    /// 11: the area (1 to 6) and the elements it needs.
-    Area { area: u8, need: u64 },
-}
+use crate::ask::{blocks, fits};
+use second::header::exponent_fits;
+use second::maps::{self, value_fits, Kind, FIRST_EXPONENT, KINDS, NO_VALUE};
+use second::{Areas, Given, Header, Refusal, Texts};
 
 /// Joins two sets into the lent areas; a refusal leaves them as they were.
-pub fn join(a: &Set, b: &Set, areas: &mut Areas) -> Result<Header, Refusal> {
-    let check = |good: bool, number: u8| good.then_some(()).ok_or(Refusal::Number(number));
-    check(a.is_valid() && b.is_valid(), 31)?;
+pub fn join(a: &Given, b: &Given, areas: &mut Areas) -> Result<(Header, Texts), Refusal> {
+    let check = |good: bool, number: u8| good.then_some(()).ok_or(Refusal::Bare { number });
+    check(is_valid(a) && is_valid(b), 31)?;
     check(same_grid(a.header, b.header), 40)?;
     check(a.header.last_epoch == b.header.first_epoch, 41)?;
     let mut header = *b.header;
@@ -32,7 +19,7 @@ pub fn join(a: &Set, b: &Set, areas: &mut Areas) -> Result<Header, Refusal> {
     }
     check(header.maps <= 300 && header.size_fits(), 42)?;
     hand_over(a, b, areas)?;
-    Ok(header)
+    Ok((header, *b.texts))
 }
 
 fn same_grid(a: &Header, b: &Header) -> bool {
@@ -43,24 +30,19 @@ fn same_grid(a: &Header, b: &Header) -> bool {
         && a.radius == b.radius
 }
 
-fn hand_over(a: &Set, b: &Set, areas: &mut Areas) -> Result<(), Refusal> {
-    let (first, second) = (a.maps() - 1, b.maps());
+fn hand_over(a: &Given, b: &Given, areas: &mut Areas) -> Result<(), Refusal> {
+    let (first, second) = (maps_of(a) - 1, maps_of(b));
     let maps = first + second;
-    let (size, blocks) = (a.size(), a.header.blocks());
-    let any = |kind: usize| {
-        let marks = a.view.marks[..first].iter().chain(&b.view.marks[..second]);
-        kind == 0 || marks.into_iter().any(|mark| mark & kind as u8 != 0)
+    let (size, blocks) = (size(a), blocks(a.header));
+    let any = |kind: Kind| {
+        let marks = a.areas.marks[..first].iter();
+        let mut marks = marks.chain(&b.areas.marks[..second]);
+        marks.any(|&mark| maps::is_present(kind, mark))
     };
-    let need = |kind: usize| if any(kind) { maps * size } else { 0 };
+    let any = KINDS.map(any);
+    let need = |kind: usize| if any[kind] { maps * size } else { 0 };
     let needs = [need(0), need(1), need(2), 3 * maps * blocks, maps, maps];
-    let lengths = [
-        areas.tec.len(),
-        areas.rms.len(),
-        areas.height.len(),
-        areas.exponents.len(),
-        areas.epochs.len(),
-        areas.marks.len(),
-    ];
+    let lengths = areas.view().lengths();
     if let Some(k) = (0..6).find(|&k| lengths[k] < needs[k]) {
         return Err(Refusal::Area {
             area: k as u8 + 1,
@@ -68,73 +50,66 @@ fn hand_over(a: &Set, b: &Set, areas: &mut Areas) -> Result<(), Refusal> {
         });
     }
     let values = [&mut *areas.tec, &mut *areas.rms, &mut *areas.height];
-    for (kind, area) in values.into_iter().enumerate() {
-        let kept = if any(kind) { first * size } else { 0 };
-        let (front, back) = area[..needs[kind]].split_at_mut(kept);
-        a.copy_values(kind, front);
-        b.copy_values(kind, back);
-        let third = &mut areas.exponents[kind * maps * blocks..(kind + 1) * maps * blocks];
+    for (kind, area) in KINDS.into_iter().zip(values) {
+        let k = kind as usize;
+        let kept = if any[k] { first * size } else { 0 };
+        let (front, back) = area[..needs[k]].split_at_mut(kept);
+        copy_values(a, kind, front);
+        copy_values(b, kind, back);
+        let third = &mut areas.exponents[k * maps * blocks..(k + 1) * maps * blocks];
         let (front, back) = third.split_at_mut(first * blocks);
-        let of = |set: &Set| kind * set.maps() * blocks;
-        front.copy_from_slice(&a.view.exponents[of(a)..][..front.len()]);
-        back.copy_from_slice(&b.view.exponents[of(b)..][..back.len()]);
+        let of = |set: &Given| k * maps_of(set) * blocks;
+        front.copy_from_slice(&a.areas.exponents[of(a)..][..front.len()]);
+        back.copy_from_slice(&b.areas.exponents[of(b)..][..back.len()]);
     }
-    areas.epochs[..first].copy_from_slice(&a.view.epochs[..first]);
-    areas.epochs[first..maps].copy_from_slice(&b.view.epochs[..second]);
-    areas.marks[..first].copy_from_slice(&a.view.marks[..first]);
-    areas.marks[first..maps].copy_from_slice(&b.view.marks[..second]);
+    areas.epochs[..first].copy_from_slice(&a.areas.epochs[..first]);
+    areas.epochs[first..maps].copy_from_slice(&b.areas.epochs[..second]);
+    areas.marks[..first].copy_from_slice(&a.areas.marks[..first]);
+    areas.marks[first..maps].copy_from_slice(&b.areas.marks[..second]);
     Ok(())
 }
 
-impl Set<'_> {
-    fn maps(&self) -> usize {
-        self.header.maps as usize
-    }
+fn maps_of(set: &Given) -> usize {
+    set.header.maps as usize
+}
 
-    /// Values of one map.
-    fn size(&self) -> usize {
-        self.header.blocks() * self.header.longitudes.count()
-    }
+/// Values of one map.
+fn size(set: &Given) -> usize {
+    blocks(set.header) * set.header.longitudes.count() as usize
+}
 
-    fn values(&self, kind: usize) -> &[i32] {
-        [self.view.tec, self.view.rms, self.view.height][kind]
-    }
+fn has(set: &Given, kind: Kind, map: usize) -> bool {
+    maps::is_present(kind, set.areas.marks[map])
+}
 
-    fn has(&self, kind: usize, map: usize) -> bool {
-        kind == 0 || self.view.marks[map] & kind as u8 != 0
+/// The values of the first maps; none where the set has no map of the kind.
+fn copy_values(set: &Given, kind: Kind, area: &mut [i32]) {
+    if (0..maps_of(set)).any(|map| has(set, kind, map)) {
+        area.copy_from_slice(&set.areas.values(kind)[..area.len()]);
+    } else {
+        area.fill(NO_VALUE);
     }
+}
 
-    /// The values of the first maps; 9999 where the set has no map of the kind.
-    fn copy_values(&self, kind: usize, area: &mut [i32]) {
-        if (0..self.maps()).any(|map| self.has(kind, map)) {
-            area.copy_from_slice(&self.values(kind)[..area.len()]);
+fn is_valid(set: &Given) -> bool {
+    fits(set) && KINDS.into_iter().all(|kind| kind_is_valid(set, kind))
+}
+
+fn kind_is_valid(set: &Given, kind: Kind) -> bool {
+    let (maps, blocks, size) = (maps_of(set), blocks(set.header), size(set));
+    let any = (0..maps).any(|map| has(set, kind, map));
+    let exponents = &set.areas.exponents[kind as usize * maps * blocks..];
+    (0..maps).all(|map| {
+        let exponents = &exponents[map * blocks..(map + 1) * blocks];
+        let values = match any {
+            true => &set.areas.values(kind)[map * size..(map + 1) * size],
+            false => &[],
+        };
+        if has(set, kind, map) {
+            exponents.iter().all(|&e| exponent_fits(i64::from(e)))
+                && values.iter().all(|&v| value_fits(v))
         } else {
-            area.fill(9999);
+            exponents.iter().all(|&e| e == FIRST_EXPONENT) && values.iter().all(|&v| v == NO_VALUE)
         }
-    }
-
-    fn is_valid(&self) -> bool {
-        is_valid(self.header)
-            && areas_fit(self.header, &self.view)
-            && (0..3).all(|kind| self.kind_is_valid(kind))
-    }
-
-    fn kind_is_valid(&self, kind: usize) -> bool {
-        let blocks = self.header.blocks();
-        let any = (0..self.maps()).any(|map| self.has(kind, map));
-        let exponents = &self.view.exponents[kind * self.maps() * blocks..];
-        (0..self.maps()).all(|map| {
-            let exponents = &exponents[map * blocks..(map + 1) * blocks];
-            let values = match any {
-                true => &self.values(kind)[map * self.size()..(map + 1) * self.size()],
-                false => &[],
-            };
-            if self.has(kind, map) {
-                exponents.iter().all(|e| (-3..=0).contains(e))
-                    && values.iter().all(|v| (-9999..=99_999).contains(v))
-            } else {
-                exponents.iter().all(|&e| e == -1) && values.iter().all(|&v| v == 9999)
-            }
-        })
-    }
+    })
 }

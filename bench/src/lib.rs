@@ -5,6 +5,5 @@
 pub mod ask;
 pub mod calendar;
 pub mod files;
-pub mod header;
 pub mod join;
 pub mod plain;

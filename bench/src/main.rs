@@ -4,16 +4,16 @@
 
 #![forbid(unsafe_code)]
 
-use bench::ask::{ask, Question, View};
+use bench::ask::ask;
 use bench::calendar::seconds;
 use bench::files;
-use bench::header::Header;
-use bench::join::{join, Set};
-use bench::plain::{read, Areas};
+use bench::join::join;
+use bench::plain::read;
 use compare::archive::{Archive, FUNCTIONS};
 use compare::biases::{self, Biases};
-use compare::boundary::{Asked, Boundary, Given, Lent, HEADER, TEXTS};
-use compare::set::Buffers;
+use compare::boundary::{self, Boundary, Given, Lent, HEADER, TEXTS};
+use compare::set::{Buffers, MapSet};
+use second::Question;
 use std::hint::black_box;
 use std::time::{Duration, Instant};
 
@@ -63,17 +63,6 @@ fn clear(areas: &mut Buffers) {
     areas.marks.fill(0);
 }
 
-fn plain_areas(areas: &mut Buffers) -> Areas<'_> {
-    Areas {
-        tec: &mut areas.tec,
-        rms: &mut areas.rms,
-        height: &mut areas.height,
-        exponents: &mut areas.exponents,
-        epochs: &mut areas.epochs,
-        marks: &mut areas.marks,
-    }
-}
-
 fn timed<T>(best: &mut Duration, work: impl FnOnce() -> T) -> T {
     let start = Instant::now();
     let result = work();
@@ -96,9 +85,7 @@ fn report_reading(name: &str, text: &str) -> f64 {
         let answer = timed(&mut best[0], || Archive.read(black_box(text), &mut ours));
         assert_eq!(answer, 0, "the library refuses the file");
         clear(&mut plain);
-        let found = timed(&mut best[1], || {
-            read(black_box(text), &mut plain_areas(&mut plain))
-        });
+        let found = timed(&mut best[1], || read(black_box(text), &mut plain.lent()));
         assert!(found.is_ok(), "the plain reader refuses the file");
     }
     assert!(ours.areas == plain, "the two readers disagree");
@@ -109,44 +96,42 @@ fn report_reading(name: &str, text: &str) -> f64 {
 }
 
 /// The map set of a file, for the library and for the plain asker.
-fn map_set(text: &str) -> (Given, Header) {
-    let mut lent = lent();
-    assert_eq!(Archive.read(text.as_bytes(), &mut lent), 0);
-    let mut again = Buffers::filled(files::NEEDS, 1);
-    let header = read(text.as_bytes(), &mut plain_areas(&mut again)).expect("an accepted file");
-    let given = Given {
-        header: lent.header,
-        texts: lent.texts,
-        areas: lent.areas,
+fn map_set(text: &str) -> (Given, MapSet) {
+    let mut areas = Buffers::filled(files::NEEDS, 1);
+    let (header, texts) = read(text.as_bytes(), &mut areas.lent()).expect("an accepted file");
+    let set = MapSet {
+        header,
+        texts,
+        areas,
     };
-    (given, header)
+    (boundary::given(&set), set)
 }
 
 /// Places and seconds all over the first file's set.
-fn questions(first_epoch: u64, method: u64) -> Vec<Question> {
-    (0..QUESTIONS as u64)
+fn questions(first_epoch: u64, method: i64) -> Vec<Question> {
+    (0..QUESTIONS as i64)
         .map(|k| Question {
             kind: 0,
             method,
             layer: 0,
-            lat: (k * 7919 % 17_501) as i32 - 8750,
-            lon: (k * 104_729 % 36_000) as i32 - 18_000,
-            second: first_epoch + k * 15_485_863 % 86_401,
+            latitude: k * 7919 % 17_501 - 8750,
+            longitude: k * 104_729 % 36_000 - 18_000,
+            second: first_epoch + k as u64 * 15_485_863 % 86_401,
         })
         .collect()
 }
 
 /// The library's time for one question, in nanoseconds.
-fn report_asking(text: &str, method: u64) -> f64 {
-    let (given, header) = map_set(text);
-    let view = view(&given);
-    let questions = questions(header.first_epoch, method);
+fn report_asking(text: &str, method: i64) -> f64 {
+    let (given, set) = map_set(text);
+    let plain_given = set.given();
+    let questions = questions(set.header.first_epoch, method);
     let mut best = [Duration::MAX; 2];
     for _ in 0..ASKING_ROUNDS {
         let ours = timed(&mut best[0], || sum(&questions, |q| ask_library(&given, q)));
         let plain = timed(&mut best[1], || {
             sum(&questions, |q| {
-                ask(black_box(&header), black_box(&view), q).expect("a value")
+                ask(black_box(&plain_given), q).expect("a value")
             })
         });
         assert_eq!(ours, plain, "the two answers disagree");
@@ -167,14 +152,7 @@ fn sum(questions: &[Question], value: impl Fn(&Question) -> i32) -> i64 {
 }
 
 fn ask_library(given: &Given, question: &Question) -> i32 {
-    let asked = Asked {
-        kind: question.kind,
-        method: question.method,
-        layer: question.layer,
-        lat: question.lat,
-        lon: question.lon,
-        second: question.second,
-    };
+    let asked = boundary::asked(question);
     let mut value = [0];
     assert_eq!(Archive.ask(given, &asked, &mut value), 0);
     value[0]
@@ -206,35 +184,16 @@ fn report_moving() {
     println!("one epoch moved: library {each:.0} ns");
 }
 
-fn view(given: &Given) -> View<'_> {
-    View {
-        tec: &given.areas.tec,
-        rms: &given.areas.rms,
-        height: &given.areas.height,
-        exponents: &given.areas.exponents,
-        epochs: &given.areas.epochs,
-        marks: &given.areas.marks,
-    }
-}
-
 /// Two days joined, and the plain way to do it: both sets judged, and the result copied.
 fn report_joining(first: &str, second: &str) {
-    let (a, a_header) = map_set(first);
-    let (b, b_header) = map_set(second);
+    let (a, earlier) = map_set(first);
+    let (b, later) = map_set(second);
     let room = files::NEEDS.map(|need| 2 * need);
     let mut ours = Lent {
         areas: Buffers::filled(room, 1),
         ..lent()
     };
     let mut plain = Buffers::filled(room, 1);
-    let earlier = Set {
-        header: &a_header,
-        view: view(&a),
-    };
-    let later = Set {
-        header: &b_header,
-        view: view(&b),
-    };
     let mut best = [Duration::MAX; 2];
     for _ in 0..ROUNDS {
         clear(&mut ours.areas);
@@ -245,12 +204,12 @@ fn report_joining(first: &str, second: &str) {
         clear(&mut plain);
         let found = timed(&mut best[1], || {
             join(
-                black_box(&earlier),
-                black_box(&later),
-                &mut plain_areas(&mut plain),
+                black_box(&earlier.given()),
+                black_box(&later.given()),
+                &mut plain.lent(),
             )
         });
-        assert!(found.is_ok_and(|header| header.maps == 49));
+        assert!(found.is_ok_and(|(header, _)| header.maps == 49));
     }
     assert!(ours.areas == plain, "the two disagree");
     let [library, plain] = best.map(micros);

@@ -2,28 +2,15 @@
 //! once nothing is wrong, so that a refused text leaves them as they were.
 
 use crate::calendar;
-use crate::header::{self, Axis, Header, System, Wrong, SYSTEMS};
-use std::ops::RangeInclusive;
-
-pub struct Areas<'a> {
-    pub tec: &'a mut [i32],
-    pub rms: &'a mut [i32],
-    pub height: &'a mut [i32],
-    pub exponents: &'a mut [i32],
-    pub epochs: &'a mut [u64],
-    pub marks: &'a mut [u8],
-}
-
-#[derive(Clone, Copy, Debug, PartialEq, Eq)]
-pub enum Refusal {
-    /// 1 to 10.
-    Place { number: u8, line: u64, column: u64 },
-    /// 11: the area (1 to 6) and the elements it needs.
-    Area { area: u8, need: u64 },
-}
+use second::header::{self, Axis, AxisFault, Count, Header, System, Texts, CODES, SYSTEMS};
+use second::labels::{self, Label};
+use second::maps::{self, FIRST_EXPONENT, NO_VALUE};
+use second::read::NEEDED;
+use second::refusal::{self, Fault};
+use second::{Areas, Refusal};
 
 /// Reads a text into the lent areas.
-pub fn read(text: &[u8], areas: &mut Areas) -> Result<Header, Refusal> {
+pub fn read(text: &[u8], areas: &mut Areas) -> Result<(Header, Texts), Refusal> {
     let mut reader = Reader::default();
     let mut rest = text;
     let mut line = 0;
@@ -49,19 +36,10 @@ pub fn read(text: &[u8], areas: &mut Areas) -> Result<Header, Refusal> {
     reader.hand_over(areas)
 }
 
-/// A refusal on the line at hand.
-struct Fault {
-    number: u8,
-    column: u64,
-}
-
 type Step<T = ()> = Result<T, Fault>;
 
 fn fault<T>(number: u8, column: usize) -> Step<T> {
-    Err(Fault {
-        number,
-        column: column as u64,
-    })
+    refusal::fault(number, column as u64)
 }
 
 fn check(good: bool, number: u8, column: usize) -> Step {
@@ -174,19 +152,28 @@ fn whole(body: &[u8]) -> Step<i64> {
     Ok(value)
 }
 
-/// I6,54X, within a range.
-fn ranged(body: &[u8], range: RangeInclusive<i64>) -> Step<i64> {
+/// I6,54X, that fits.
+fn fitting(body: &[u8], fits: fn(i64) -> bool) -> Step<i64> {
     let value = whole(body)?;
-    check(range.contains(&value), 7, 1)?;
+    check(fits(value), 7, 1)?;
     Ok(value)
 }
 
-/// F8.1,52X, within a range.
-fn decimal(body: &[u8], range: RangeInclusive<i64>) -> Step<i64> {
+/// F8.1,52X, that fits.
+fn decimal(body: &[u8], fits: fn(i64) -> bool) -> Step<i64> {
     let [value] = decimals(body, 0, 8)?;
     blank(body, 8, 60)?;
-    check(range.contains(&value), 7, 1)?;
+    check(fits(value), 7, 1)?;
     Ok(value)
+}
+
+/// I6,54X: a count that stands.
+fn count(body: &[u8]) -> Step<Count> {
+    let count = fitting(body, header::count_fits)?;
+    Ok(Count {
+        stands: true,
+        count,
+    })
 }
 
 /// 6I6,24X: a date.
@@ -197,107 +184,37 @@ fn epoch(body: &[u8]) -> Step<u64> {
 }
 
 /// 2X,3F6.1,40X
-fn axis(body: &[u8], rule: fn(&Axis) -> Result<(), Wrong>) -> Step<Axis> {
+fn axis(body: &[u8], rule: fn(&Axis) -> Option<AxisFault>) -> Step<Axis> {
     blank(body, 0, 2)?;
     let [first, last, step] = decimals(body, 2, 6)?;
     blank(body, 20, 60)?;
     let axis = Axis { first, last, step };
     match rule(&axis) {
-        Ok(()) => Ok(axis),
-        Err(Wrong::Number(k)) => fault(7, 6 * k + 3),
-        Err(Wrong::Rule) => fault(7, 0),
+        None => Ok(axis),
+        Some(AxisFault::Field(k)) => fault(7, 6 * k + 3),
+        Some(AxisFault::Several) => fault(7, 0),
     }
 }
 
 // ---- labels ----
 
-#[derive(Clone, Copy, PartialEq, Eq)]
-enum Label {
-    Version,
-    Program,
-    Description,
-    Comment,
-    FirstEpoch,
-    LastEpoch,
-    Interval,
-    Maps,
-    Mapping,
-    Cutoff,
-    Observables,
-    Stations,
-    Satellites,
-    System,
-    Radius,
-    Dimension,
-    Heights,
-    Latitudes,
-    Longitudes,
-    Exponent,
-    StartAux,
-    EndAux,
-    EndHeader,
-    /// START and END of a map, with its kind: 0 TEC, 1 RMS, 2 height.
-    Start(usize),
-    End(usize),
-    Epoch,
-    Block,
-    EndFile,
-}
-
 fn label(line: &[u8]) -> Option<Label> {
-    Some(match line.get(60..)?.trim_ascii_end() {
-        b"LAT/LON1/LON2/DLON/H" => Label::Block,
-        b"EXPONENT" => Label::Exponent,
-        b"COMMENT" => Label::Comment,
-        b"IONEX VERSION / TYPE" => Label::Version,
-        b"PGM / RUN BY / DATE" => Label::Program,
-        b"DESCRIPTION" => Label::Description,
-        b"EPOCH OF FIRST MAP" => Label::FirstEpoch,
-        b"EPOCH OF LAST MAP" => Label::LastEpoch,
-        b"INTERVAL" => Label::Interval,
-        b"# OF MAPS IN FILE" => Label::Maps,
-        b"MAPPING FUNCTION" => Label::Mapping,
-        b"ELEVATION CUTOFF" => Label::Cutoff,
-        b"OBSERVABLES USED" => Label::Observables,
-        b"# OF STATIONS" => Label::Stations,
-        b"# OF SATELLITES" => Label::Satellites,
-        b"SYS / #STA / #SAT" => Label::System,
-        b"BASE RADIUS" => Label::Radius,
-        b"MAP DIMENSION" => Label::Dimension,
-        b"HGT1 / HGT2 / DHGT" => Label::Heights,
-        b"LAT1 / LAT2 / DLAT" => Label::Latitudes,
-        b"LON1 / LON2 / DLON" => Label::Longitudes,
-        b"START OF AUX DATA" => Label::StartAux,
-        b"END OF AUX DATA" => Label::EndAux,
-        b"END OF HEADER" => Label::EndHeader,
-        b"START OF TEC MAP" => Label::Start(0),
-        b"START OF RMS MAP" => Label::Start(1),
-        b"START OF HEIGHT MAP" => Label::Start(2),
-        b"END OF TEC MAP" => Label::End(0),
-        b"END OF RMS MAP" => Label::End(1),
-        b"END OF HEIGHT MAP" => Label::End(2),
-        b"EPOCH OF CURRENT MAP" => Label::Epoch,
-        b"END OF FILE" => Label::EndFile,
-        _ => return None,
-    })
+    let name = line.get(60..)?.trim_ascii_end();
+    let is = |label: &Label| labels::label_text(*label).as_bytes() == name;
+    // Most labels are those of blocks.
+    Some(Label::Block)
+        .filter(is)
+        .or_else(|| labels::all().find(is))
 }
 
-/// The header records that must stand, each once.
-const NEEDED: [Label; 13] = [
-    Label::Program,
-    Label::FirstEpoch,
-    Label::LastEpoch,
-    Label::Interval,
-    Label::Maps,
-    Label::Mapping,
-    Label::Cutoff,
-    Label::Observables,
-    Label::Radius,
-    Label::Dimension,
-    Label::Heights,
-    Label::Latitudes,
-    Label::Longitudes,
-];
+/// The kind of a START or END record: 0 TEC, 1 RMS, 2 height.
+fn kind_of(label: Label) -> usize {
+    match label {
+        Label::StartTec | Label::EndTec => 0,
+        Label::StartRms | Label::EndRms => 1,
+        _ => 2,
+    }
+}
 
 // ---- the reader ----
 
@@ -331,6 +248,7 @@ struct Kind {
 struct Reader {
     stage: Stage,
     header: Header,
+    texts: Texts,
     /// The records of `NEEDED` that stood.
     stood: [bool; NEEDED.len()],
     maps: usize,
@@ -351,12 +269,13 @@ impl Default for Reader {
         Reader {
             stage: Stage::Start,
             header: Header::default(),
+            texts: Texts::default(),
             stood: [false; NEEDED.len()],
             maps: 0,
             rows: 0,
             columns: 0,
             blocks: 0,
-            exponent: -1,
+            exponent: FIRST_EXPONENT,
             open: None,
             due: 0,
             kinds: Default::default(),
@@ -394,15 +313,13 @@ impl Reader {
     fn version(&mut self, body: &[u8]) -> Step {
         let [version] = decimals(body, 0, 8)?;
         blank(body, 8, 20)?;
-        let Some(codes) = header::codes(version) else {
-            return fault(3, 1);
-        };
-        check(body[20] == b'I', 3, 21)?;
-        let Some(code) = codes.iter().position(|code| *code == &body[40..43]) else {
-            return fault(3, 41);
-        };
+        check(header::version_fits(version), 3, 1)?;
+        check(body[20] == header::FILE_TYPE, 3, 21)?;
+        let code = CODES.iter().position(|code| code[..] == body[40..43]);
+        let code = code.map_or(-1, |code| code as i64);
+        check(header::code_fits(version, code), 3, 41)?;
         self.header.version = version;
-        self.header.kind = b'I';
+        self.header.file_type = header::FILE_TYPE;
         self.header.code = code;
         self.stage = Stage::Header;
         Ok(())
@@ -417,14 +334,14 @@ impl Reader {
         }
         match label {
             Label::Description | Label::Comment => {}
-            Label::Exponent => self.exponent = ranged(body, header::EXPONENT)? as i32,
+            Label::Exponent => self.exponent = fitting(body, header::exponent_fits)? as i32,
             Label::Stations => {
-                check(self.header.stations.is_none(), 5, 61)?;
-                self.header.stations = Some(ranged(body, header::COUNT)?);
+                check(!self.header.stations.stands, 5, 61)?;
+                self.header.stations = count(body)?;
             }
             Label::Satellites => {
-                check(self.header.satellites.is_none(), 5, 61)?;
-                self.header.satellites = Some(ranged(body, header::COUNT)?);
+                check(!self.header.satellites.stands, 5, 61)?;
+                self.header.satellites = count(body)?;
             }
             Label::System => self.system(body)?,
             Label::StartAux => self.stage = Stage::Aux,
@@ -435,32 +352,36 @@ impl Reader {
     }
 
     fn needed_record(&mut self, label: Label, body: &[u8]) -> Step {
-        let header = &mut self.header;
+        let (header, texts) = (&mut self.header, &mut self.texts);
         match label {
-            Label::Program => header.program.copy_from_slice(body),
+            Label::Program => {
+                texts.program.copy_from_slice(&body[..20]);
+                texts.agency.copy_from_slice(&body[20..40]);
+                texts.date.copy_from_slice(&body[40..]);
+            }
             Label::FirstEpoch => header.first_epoch = epoch(body)?,
             Label::LastEpoch => header.last_epoch = epoch(body)?,
-            Label::Interval => header.interval = ranged(body, header::INTERVAL)?,
-            Label::Maps => header.maps = ranged(body, header::MAPS)?,
-            Label::Mapping => {
+            Label::Interval => header.interval = fitting(body, header::interval_fits)?,
+            Label::MapCount => header.maps = fitting(body, header::maps_fit)?,
+            Label::MappingFunction => {
                 blank(body, 0, 2)?;
                 blank(body, 6, 60)?;
-                header.mapping.copy_from_slice(&body[2..6]);
+                texts.mapping.copy_from_slice(&body[2..6]);
             }
-            Label::Cutoff => header.cutoff = decimal(body, header::CUTOFF)?,
-            Label::Observables => header.observables.copy_from_slice(body),
-            Label::Radius => header.radius = decimal(body, header::RADIUS)?,
-            Label::Dimension => header.dimension = ranged(body, header::DIMENSION)?,
-            Label::Heights => header.heights = axis(body, Axis::heights)?,
-            Label::Latitudes => header.latitudes = axis(body, Axis::latitudes)?,
-            _ => header.longitudes = axis(body, Axis::longitudes)?,
+            Label::ElevationCutoff => header.cutoff = decimal(body, header::cutoff_fits)?,
+            Label::Observables => texts.observables.copy_from_slice(body),
+            Label::BaseRadius => header.radius = decimal(body, header::radius_fits)?,
+            Label::Dimension => header.dimension = fitting(body, header::dimension_fits)?,
+            Label::Heights => header.heights = axis(body, Axis::height_fault)?,
+            Label::Latitudes => header.latitudes = axis(body, Axis::latitude_fault)?,
+            _ => header.longitudes = axis(body, Axis::longitude_fault)?,
         }
         Ok(())
     }
 
     fn system(&mut self, body: &[u8]) -> Step {
         let system = SYSTEMS.iter().position(|&letter| letter == body[5]);
-        let repeated = system.is_some_and(|k| self.header.systems[k].is_some());
+        let repeated = system.is_some_and(|k| self.header.systems[k].stands);
         check(!repeated, 5, 61)?;
         blank(body, 0, 5)?;
         let [stations, satellites] = integers(body, 6)?;
@@ -468,12 +389,13 @@ impl Reader {
         let Some(k) = system else {
             return fault(7, 6);
         };
-        check(header::COUNT.contains(&stations), 7, 7)?;
-        check(header::COUNT.contains(&satellites), 7, 13)?;
-        self.header.systems[k] = Some(System {
+        check(header::count_fits(stations), 7, 7)?;
+        check(header::count_fits(satellites), 7, 13)?;
+        self.header.systems[k] = System {
+            stands: true,
             stations,
             satellites,
-        });
+        };
         Ok(())
     }
 
@@ -483,9 +405,9 @@ impl Reader {
         check(self.header.dimension_agrees(), 8, 0)?;
         check(self.header.size_fits(), 7, 0)?;
         self.maps = self.header.maps as usize;
-        self.rows = self.header.latitudes.count();
-        self.columns = self.header.longitudes.count();
-        self.blocks = self.header.blocks();
+        self.rows = self.header.latitudes.count() as usize;
+        self.columns = self.header.longitudes.count() as usize;
+        self.blocks = self.header.heights.count() as usize * self.rows;
         self.marks = vec![0; self.maps];
         self.stage = Stage::Maps;
         Ok(())
@@ -497,7 +419,7 @@ impl Reader {
         match (label, &self.open) {
             (Label::Comment, _) => Ok(()),
             (Label::Exponent, _) => {
-                self.exponent = ranged(body, header::EXPONENT)? as i32;
+                self.exponent = fitting(body, header::exponent_fits)? as i32;
                 Ok(())
             }
             (Label::Block, Some(map))
@@ -505,9 +427,17 @@ impl Reader {
             {
                 self.start_block(body)
             }
-            (Label::Start(kind), None) => self.start_map(kind, whole(body)?),
-            (Label::End(kind), Some(map)) if map.kind == kind => self.end_map(whole(body)?),
-            (Label::Epoch, Some(map)) if !map.has_epoch && map.blocks == 0 => self.epoch(body),
+            (Label::StartTec | Label::StartRms | Label::StartHeight, None) => {
+                self.start_map(kind_of(label), whole(body)?)
+            }
+            (Label::EndTec | Label::EndRms | Label::EndHeight, Some(map))
+                if map.kind == kind_of(label) =>
+            {
+                self.end_map(whole(body)?)
+            }
+            (Label::CurrentEpoch, Some(map)) if !map.has_epoch && map.blocks == 0 => {
+                self.epoch(body)
+            }
             (Label::EndFile, None) => {
                 blank(body, 0, 60)?;
                 check(self.kinds[0].last == self.maps, 9, 0)?;
@@ -531,8 +461,9 @@ impl Reader {
         check(in_order, 8, 1)?;
         let size = self.blocks * self.columns;
         store.values.reserve(self.maps * size - store.values.len());
-        store.values.resize((number - 1) * size, 9999);
-        store.exponents.resize((number - 1) * self.blocks, -1);
+        store.values.resize((number - 1) * size, NO_VALUE);
+        let before = (number - 1) * self.blocks;
+        store.exponents.resize(before, FIRST_EXPONENT);
         self.open = Some(Map {
             kind,
             number,
@@ -550,7 +481,7 @@ impl Reader {
         let k = map.number - 1;
         if map.kind == 0 {
             let before = self.epochs.last().copied();
-            check(self.header.epoch_agrees(k, before, epoch), 8, 1)?;
+            check(maps::epoch_agrees(&self.header, k, before, epoch), 8, 1)?;
             self.epochs.push(epoch);
         } else {
             check(self.epochs[k] == epoch, 8, 1)?;
@@ -622,7 +553,7 @@ impl Reader {
 
     // -- the end --
 
-    fn hand_over(self, areas: &mut Areas) -> Result<Header, Refusal> {
+    fn hand_over(self, areas: &mut Areas) -> Result<(Header, Texts), Refusal> {
         let [tec, rms, height] = &self.kinds;
         let values = self.maps * self.blocks * self.columns;
         let exponents = self.maps * self.blocks;
@@ -643,16 +574,16 @@ impl Reader {
                 });
             }
         }
-        copy(&tec.values, &mut areas.tec[..need(tec)], 9999);
-        copy(&rms.values, &mut areas.rms[..need(rms)], 9999);
-        copy(&height.values, &mut areas.height[..need(height)], 9999);
+        copy(&tec.values, &mut areas.tec[..need(tec)], NO_VALUE);
+        copy(&rms.values, &mut areas.rms[..need(rms)], NO_VALUE);
+        copy(&height.values, &mut areas.height[..need(height)], NO_VALUE);
         for (k, kind) in self.kinds.iter().enumerate() {
             let place = &mut areas.exponents[k * exponents..(k + 1) * exponents];
-            copy(&kind.exponents, place, -1);
+            copy(&kind.exponents, place, FIRST_EXPONENT);
         }
         areas.epochs[..self.maps].copy_from_slice(&self.epochs);
         areas.marks[..self.maps].copy_from_slice(&self.marks);
-        Ok(self.header)
+        Ok((self.header, self.texts))
     }
 }
 

@@ -1,146 +1,44 @@
 //! The plain reader, asker and joiner make the same checks as the second program: they agree on every generated text,
 //! damaged text, map set and question, and a refused text leaves the areas as they were.
 
-use bench::ask::{ask, Question, View};
-use bench::header::{Axis, Header};
-use bench::join::{join, Set};
-use bench::plain::{read, Areas, Refusal};
-use compare::boundary;
+use bench::ask::ask;
+use bench::join::join;
+use bench::plain::read;
 use compare::jobs::{jobs, Job};
 use compare::program;
 use compare::set::{Buffers, MapSet};
-use second::Reading;
+use second::{Answer, Question, Reading};
 use std::fs;
 
 const SEEDS: u64 = 3000;
 
-fn plain_axis(axis: &second::Axis) -> Axis {
-    Axis {
-        first: axis.first,
-        last: axis.last,
-        step: axis.step,
-    }
-}
-
-/// The plain header, or nothing where it cannot hold what the second program's does.
-fn plain_header(header: &second::Header, texts: &second::Texts) -> Option<Header> {
-    let count = |stands: bool, count: i64| match (stands, count) {
-        (true, count) => Some(Some(count)),
-        (false, 0) => Some(None),
-        (false, _) => None,
-    };
-    let mut plain = Header {
-        version: header.version,
-        kind: header.file_type,
-        code: usize::try_from(header.code).ok()?,
-        first_epoch: header.first_epoch,
-        last_epoch: header.last_epoch,
-        interval: header.interval,
-        maps: header.maps,
-        cutoff: header.cutoff,
-        radius: header.radius,
-        dimension: header.dimension,
-        heights: plain_axis(&header.heights),
-        latitudes: plain_axis(&header.latitudes),
-        longitudes: plain_axis(&header.longitudes),
-        stations: count(header.stations.stands, header.stations.count)?,
-        satellites: count(header.satellites.stands, header.satellites.count)?,
-        mapping: texts.mapping,
-        observables: texts.observables,
-        ..Header::default()
-    };
-    for (place, system) in plain.systems.iter_mut().zip(&header.systems) {
-        let stations = count(system.stands, system.stations)?;
-        let satellites = count(system.stands, system.satellites)?;
-        *place = stations
-            .zip(satellites)
-            .map(|(stations, satellites)| bench::header::System {
-                stations,
-                satellites,
-            });
-    }
-    plain.program[..20].copy_from_slice(&texts.program);
-    plain.program[20..40].copy_from_slice(&texts.agency);
-    plain.program[40..].copy_from_slice(&texts.date);
-    Some(plain)
-}
-
-fn expected(answer: &Reading) -> Result<Header, Refusal> {
-    match answer {
-        Reading::Accepted { header, texts } => Ok(plain_header(header, texts).expect("a header")),
-        Reading::Refused(second::Refusal::Place {
-            number,
-            line,
-            column,
-        }) => Err(Refusal::Place {
-            number: *number,
-            line: *line,
-            column: *column,
-        }),
-        Reading::Refused(second::Refusal::Area { area, need }) => Err(Refusal::Area {
-            area: *area,
-            need: *need,
-        }),
-        Reading::Refused(other) => panic!("{other} is no refusal of reading"),
-    }
-}
-
-fn read_plainly(text: &[u8], lent: &mut Buffers) -> Result<Header, Refusal> {
-    let mut areas = Areas {
-        tec: &mut lent.tec,
-        rms: &mut lent.rms,
-        height: &mut lent.height,
-        exponents: &mut lent.exponents,
-        epochs: &mut lent.epochs,
-        marks: &mut lent.marks,
-    };
-    read(text, &mut areas)
-}
-
 fn same_reading(text: &[u8], lent: &Buffers) {
     let mut left = lent.clone();
-    let answer = second::read(text, &mut left.lent());
+    let expected = match second::read(text, &mut left.lent()) {
+        Reading::Accepted { header, texts } => Ok((header, texts)),
+        Reading::Refused(refusal) => Err(refusal),
+    };
     let mut right = lent.clone();
-    let found = read_plainly(text, &mut right);
-    assert_eq!(found, expected(&answer));
+    assert_eq!(read(text, &mut right.lent()), expected);
     assert!(left == right, "the areas differ");
 }
 
-fn same_answer(set: &MapSet, question: &second::Question) -> bool {
-    let Some(header) = plain_header(&set.header, &set.texts) else {
-        return false;
-    };
-    let areas = &set.areas;
-    let view = View {
-        tec: &areas.tec,
-        rms: &areas.rms,
-        height: &areas.height,
-        exponents: &areas.exponents,
-        epochs: &areas.epochs,
-        marks: &areas.marks,
-    };
-    let asked = boundary::asked(question);
-    let question_asked = Question {
-        kind: asked.kind,
-        method: asked.method,
-        layer: asked.layer,
-        lat: asked.lat,
-        lon: asked.lon,
-        second: asked.second,
-    };
-    let right = second::ask(&set.header, &set.texts, &areas.view(), question);
+fn same_answer(set: &MapSet, question: &Question) {
+    let right = second::ask(&set.header, &set.texts, &set.areas.view(), question);
     let expected = match right {
-        Ok(second::Answer::ThousandthsOfTecu(v) | second::Answer::ThousandthsOfKilometre(v)) => {
-            Ok(v as i32)
-        }
+        Ok(Answer::ThousandthsOfTecu(v) | Answer::ThousandthsOfKilometre(v)) => Ok(v as i32),
         Err(refusal) => Err(refusal.number()),
     };
-    assert_eq!(
-        ask(&header, &view, &question_asked),
-        expected,
-        "{question:?}"
-    );
-    true
+    assert_eq!(ask(&set.given(), question), expected, "{question:?}");
+}
+
+fn same_join(earlier: &MapSet, later: &MapSet, lent: &Buffers) {
+    let mut left = lent.clone();
+    let expected = second::join(&earlier.given(), &later.given(), &mut left.lent());
+    let mut right = lent.clone();
+    let found = join(&earlier.given(), &later.given(), &mut right.lent());
+    assert_eq!(found, expected);
+    assert!(left == right, "the areas differ");
 }
 
 #[test]
@@ -151,50 +49,6 @@ fn examples() {
             same_reading(&text, &Buffers::filled([length; 6], 1));
         }
     }
-}
-
-fn set<'a>(header: &'a Header, areas: &'a Buffers) -> Set<'a> {
-    let view = View {
-        tec: &areas.tec,
-        rms: &areas.rms,
-        height: &areas.height,
-        exponents: &areas.exponents,
-        epochs: &areas.epochs,
-        marks: &areas.marks,
-    };
-    Set { header, view }
-}
-
-/// Whether both sets can be handed to the plain joiner; then it must do as the second program.
-fn same_join(earlier: &MapSet, later: &MapSet, lent: &Buffers) -> bool {
-    let headers = [earlier, later].map(|set| plain_header(&set.header, &set.texts));
-    let [Some(first), Some(second)] = headers else {
-        return false;
-    };
-    let mut left = lent.clone();
-    let expected = second::join(&earlier.given(), &later.given(), &mut left.lent());
-    let mut right = lent.clone();
-    let mut areas = Areas {
-        tec: &mut right.tec,
-        rms: &mut right.rms,
-        height: &mut right.height,
-        exponents: &mut right.exponents,
-        epochs: &mut right.epochs,
-        marks: &mut right.marks,
-    };
-    let found = join(
-        &set(&first, &earlier.areas),
-        &set(&second, &later.areas),
-        &mut areas,
-    );
-    let expected = match expected {
-        Ok((header, texts)) => Ok(plain_header(&header, &texts).expect("a header")),
-        Err(second::Refusal::Area { area, need }) => Err(bench::join::Refusal::Area { area, need }),
-        Err(refusal) => Err(bench::join::Refusal::Number(refusal.number())),
-    };
-    assert_eq!(found, expected);
-    assert!(left == right, "the areas differ");
-    true
 }
 
 /// Every reading, question and joining of the seeds.
@@ -209,13 +63,17 @@ fn jobs_of_the_seeds() {
                     readings += 1;
                 }
                 Job::Ask { set, question, .. } => {
-                    questions += u64::from(same_answer(set, question));
+                    same_answer(set, question);
+                    questions += 1;
                 }
                 Job::Join {
                     earlier,
                     later,
                     lent,
-                } => joinings += u64::from(same_join(earlier, later, lent)),
+                } => {
+                    same_join(earlier, later, lent);
+                    joinings += 1;
+                }
                 _ => {}
             }
         }
@@ -229,7 +87,8 @@ fn the_files_timed_are_accepted() {
         let text = bench::files::global(with_rms);
         let lent = Buffers::filled(bench::files::NEEDS, 1);
         same_reading(text.as_bytes(), &lent);
-        let header = read_plainly(text.as_bytes(), &mut lent.clone()).expect("accepted");
+        let found = read(text.as_bytes(), &mut lent.clone().lent());
+        let (header, _) = found.expect("accepted");
         assert_eq!(header.maps, 25);
         assert_eq!(
             (header.latitudes.count(), header.longitudes.count()),

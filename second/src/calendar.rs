@@ -3,7 +3,7 @@
 use crate::refusal::Refusal;
 
 /// "two rows of month lengths, one for common years and one for leap years"
-const MONTHS: [[i64; 12]; 2] = [
+pub const MONTHS: [[i64; 12]; 2] = [
     [31, 28, 31, 30, 31, 30, 31, 31, 30, 31, 30, 31],
     [31, 29, 31, 30, 31, 30, 31, 31, 30, 31, 30, 31],
 ];
@@ -16,7 +16,7 @@ const DAY: i64 = 86_400;
 /// 300 years with 24 + 25 + 24 = 73 leap years among them.
 pub const END: u64 = (300 * 365 + 73) * 86_400;
 
-fn leap(year: i64) -> bool {
+pub fn leap(year: i64) -> bool {
     year % 4 == 0 && (year % 100 != 0 || year % 400 == 0)
 }
 

@@ -134,6 +134,11 @@ pub fn label_text(label: Label) -> &'static str {
     TABLE[label as usize].1
 }
 
+/// All labels, in the order of `Label`.
+pub fn all() -> impl Iterator<Item = Label> {
+    TABLE.iter().map(|row| row.0)
+}
+
 /// The numbers of a record in their order (at most six), or the column for
 /// refusal 6: that of the leftmost ill-formed field or non-blank X column.
 pub fn numbers(label: Label, card: &Card) -> Result<[i64; 6], u64> {
@@ -145,22 +150,23 @@ pub fn numbers_in(layout: &[Part], card: &Card) -> Result<[i64; 6], u64> {
     let mut found = [0; 6];
     let mut count = 0;
     let mut at = 0;
-    for part in layout {
-        let (width, number): (usize, Option<fn(&[u8]) -> Option<i64>>) = match *part {
+    for &part in layout {
+        let field = &card[at..at + width(part)];
+        let number = match part {
             X(width) => {
                 blank(card, at, at + width)?;
-                (width, None)
+                None
             }
-            A(width) | Free(width) => (width, None),
-            I(width) => (width, Some(fields::integer)),
-            F(width) => (width, Some(fields::tenths)),
-            D(width) => (width, Some(fields::thousandths)),
+            A(_) | Free(_) => None,
+            I(_) => Some(fields::integer(field)),
+            F(_) => Some(fields::tenths(field)),
+            D(_) => Some(fields::thousandths(field)),
         };
         if let Some(number) = number {
-            found[count] = number(&card[at..at + width]).ok_or(at as u64 + 1)?;
+            found[count] = number.ok_or(at as u64 + 1)?;
             count += 1;
         }
-        at += width;
+        at += width(part);
     }
     Ok(found)
 }
@@ -173,24 +179,26 @@ pub fn blank(card: &Card, start: usize, end: usize) -> Result<(), u64> {
     }
 }
 
+/// The number fields of a record: the place of each, from 0, and its part.
+pub fn number_fields(label: Label) -> impl Iterator<Item = (usize, Part)> {
+    let mut end = 0;
+    layout(label).iter().filter_map(move |&part| {
+        let start = end;
+        end += width(part);
+        matches!(part, I(_) | F(_) | D(_)).then_some((start, part))
+    })
+}
+
+pub fn width(part: Part) -> usize {
+    match part {
+        X(width) | A(width) | I(width) | F(width) | D(width) | Free(width) => width,
+    }
+}
+
 /// The first column of the k-th number (from 0) of a record.
 pub fn number_column(label: Label, k: usize) -> u64 {
-    let mut at = 1;
-    let mut seen = 0;
-    for part in layout(label) {
-        let (width, number) = match *part {
-            X(width) | A(width) | Free(width) => (width, false),
-            I(width) | F(width) | D(width) => (width, true),
-        };
-        if number {
-            if seen == k {
-                return at;
-            }
-            seen += 1;
-        }
-        at += width as u64;
-    }
-    at
+    let field = number_fields(label).nth(k);
+    field.map_or(0, |(at, _)| at as u64 + 1)
 }
 
 /// A record as a line of text with its LF: numbers for the I and F parts, texts
@@ -247,13 +255,8 @@ mod tests {
         for (k, (label, text, parts)) in TABLE.iter().enumerate() {
             assert_eq!(*label as usize, k);
             assert!(text.len() <= 20);
-            let width: usize = parts
-                .iter()
-                .map(|p| match *p {
-                    X(w) | A(w) | I(w) | F(w) | D(w) | Free(w) => w,
-                })
-                .sum();
-            assert_eq!(width, 60, "{text}");
+            let wide: usize = parts.iter().map(|&part| width(part)).sum();
+            assert_eq!(wide, 60, "{text}");
         }
     }
 

@@ -140,7 +140,7 @@ struct Reader {
 }
 
 /// The header records without a star; the version record has its own place.
-const NEEDED: [Label; 13] = [
+pub const NEEDED: [Label; 13] = [
     Label::Program,
     Label::FirstEpoch,
     Label::LastEpoch,

@@ -147,8 +147,8 @@ fn stations() {
 #[test]
 fn over_blocks_and_after_the_maps() {
     let one = satellite("   G01     0.000     0.000");
-    let mut lines = block(TITLE, &[one.clone()]);
-    lines.extend(block(TITLE, &[one.clone()]));
+    let mut lines = block(TITLE, std::slice::from_ref(&one));
+    lines.extend(block(TITLE, std::slice::from_ref(&one)));
     let twice = text(&lines);
     let place = |number, line, column| {
         Err(Refusal::Place {
@@ -167,8 +167,8 @@ fn over_blocks_and_after_the_maps() {
         " DIFFERENTIAL CODE BIASES",
         "differential code biases",
     ] {
-        let mut lines = block(TITLE, &[one.clone()]);
-        lines.extend(block(title, &[one.clone()]));
+        let mut lines = block(TITLE, std::slice::from_ref(&one));
+        lines.extend(block(title, std::slice::from_ref(&one)));
         assert_eq!(
             gathered(&text(&lines)).unwrap().satellites.len(),
             1,

@@ -6,6 +6,17 @@ pub use crate::bridge::Archive;
 #[cfg(target_arch = "x86_64")]
 pub use crate::c::Archive;
 
+/// The library with its areas at forbidden pages, which only the machine's own code can be given.
+#[cfg(all(target_arch = "x86_64", feature = "ionex"))]
+pub fn fenced() -> crate::fenced::Fenced {
+    crate::fenced::Fenced::default()
+}
+
+#[cfg(not(all(target_arch = "x86_64", feature = "ionex")))]
+pub fn fenced() -> Archive {
+    Archive
+}
+
 /// Each function of the boundary, and whether it comes from the archive.
 pub const FUNCTIONS: [(&str, bool); 13] = [
     ("ionex_read", cfg!(feature = "read")),

@@ -12,7 +12,7 @@ pub struct Archive;
 
 /// What is given and lent, as the crate's calls take it.
 #[cfg(feature = "ionex")]
-mod parts {
+pub mod parts {
     use super::{biases, Asked, Given, Kept, Lent, Node};
     use ionex::ffi;
 

@@ -400,96 +400,57 @@ fn expected_often() -> Vec<(&'static str, u64)> {
 
 // ---- planted faults ----
 
-/// One thing wrong at the boundary.
-#[derive(Clone, Copy, Debug, PartialEq, Eq)]
-pub enum Fault {
-    PlaceWhenDone,
-    HeaderWhenRefused,
-    TextsWhenRefused,
-    PlaceTail,
-    HeaderTail,
-    TextsTail,
-    ReadFlagTwo,
-    /// 103 told before 101 and 102.
-    ReadOrder,
-    WriteOrder,
-    AskOrder,
-    /// Something written after 101 to 103.
-    ReadShortWritten,
-    NeedsPlaceWhenDone,
-    NeedsWhenRefused,
-    NeedsTail,
-    NeedsPlaceTail,
-    /// Written although the other area is too short.
-    NeedsShortPlace,
-    CountWhenRefused,
-    CountTail,
-    ValueWhenRefused,
-    ValueTail,
-    RecordWhenRefused,
-    RecordTail,
-    /// A record of two numbers served.
-    RecordShort,
-    DelayOrder,
-    JoinPlaceWhenDone,
-    /// Place, header or texts written where the sets cannot be joined.
-    JoinPlaceWhenRefused,
-    JoinHeaderWhenRefused,
-    JoinTextsTail,
-    JoinOrder,
-    /// Only the first set's header and texts looked at for 101 and 102.
-    JoinOthersShort,
-    MovedWhenRefused,
-    MovedTail,
-    MovedShort,
-    /// Only 1 says that a record stands.
-    FlagsOne,
-    /// Numbers of the header cut to 32 bits, in writing and in asking.
-    WriteNarrow,
-    AskNarrow,
-    /// Kind, method and layer cut to 32 bits.
-    AskedNarrow,
+listed! {
+    /// One thing wrong at the boundary.
+    pub enum Fault {
+        PlaceWhenDone,
+        HeaderWhenRefused,
+        TextsWhenRefused,
+        PlaceTail,
+        HeaderTail,
+        TextsTail,
+        ReadFlagTwo,
+        /// 103 told before 101 and 102.
+        ReadOrder,
+        WriteOrder,
+        AskOrder,
+        /// Something written after 101 to 103.
+        ReadShortWritten,
+        NeedsPlaceWhenDone,
+        NeedsWhenRefused,
+        NeedsTail,
+        NeedsPlaceTail,
+        /// Written although the other area is too short.
+        NeedsShortPlace,
+        CountWhenRefused,
+        CountTail,
+        ValueWhenRefused,
+        ValueTail,
+        RecordWhenRefused,
+        RecordTail,
+        /// A record of two numbers served.
+        RecordShort,
+        DelayOrder,
+        JoinPlaceWhenDone,
+        /// Place, header or texts written where the sets cannot be joined.
+        JoinPlaceWhenRefused,
+        JoinHeaderWhenRefused,
+        JoinTextsTail,
+        JoinOrder,
+        /// Only the first set's header and texts looked at for 101 and 102.
+        JoinOthersShort,
+        MovedWhenRefused,
+        MovedTail,
+        MovedShort,
+        /// Only 1 says that a record stands.
+        FlagsOne,
+        /// Numbers of the header cut to 32 bits, in writing and in asking.
+        WriteNarrow,
+        AskNarrow,
+        /// Kind, method and layer cut to 32 bits.
+        AskedNarrow,
+    }
 }
-
-pub const FAULTS: [Fault; 37] = [
-    Fault::PlaceWhenDone,
-    Fault::HeaderWhenRefused,
-    Fault::TextsWhenRefused,
-    Fault::PlaceTail,
-    Fault::HeaderTail,
-    Fault::TextsTail,
-    Fault::ReadFlagTwo,
-    Fault::ReadOrder,
-    Fault::WriteOrder,
-    Fault::AskOrder,
-    Fault::ReadShortWritten,
-    Fault::NeedsPlaceWhenDone,
-    Fault::NeedsWhenRefused,
-    Fault::NeedsTail,
-    Fault::NeedsPlaceTail,
-    Fault::NeedsShortPlace,
-    Fault::CountWhenRefused,
-    Fault::CountTail,
-    Fault::ValueWhenRefused,
-    Fault::ValueTail,
-    Fault::RecordWhenRefused,
-    Fault::RecordTail,
-    Fault::RecordShort,
-    Fault::DelayOrder,
-    Fault::JoinPlaceWhenDone,
-    Fault::JoinPlaceWhenRefused,
-    Fault::JoinHeaderWhenRefused,
-    Fault::JoinTextsTail,
-    Fault::JoinOrder,
-    Fault::JoinOthersShort,
-    Fault::MovedWhenRefused,
-    Fault::MovedTail,
-    Fault::MovedShort,
-    Fault::FlagsOne,
-    Fault::WriteNarrow,
-    Fault::AskNarrow,
-    Fault::AskedNarrow,
-];
 
 /// The seed and the difference at which the comparison with a library finds a fault, within `count` seeds.
 pub fn find(library: &dyn Boundary, fault: Fault, count: u64, seed: u64) -> Option<(u64, String)> {

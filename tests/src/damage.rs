@@ -3,112 +3,101 @@
 use crate::gen::record;
 use crate::rng::Rng;
 use crate::set::MapSet;
-use second::Question;
+use second::labels::{self, Label, Part};
+use second::{Axis, Question};
+use std::ops::{Deref, DerefMut};
 
 // ---- texts ----
 
-/// The number fields of a record: first column from 0, width, with a point.
-type Field = (usize, usize, bool);
+/// A number field of a record: where it begins, from 0, and its part.
+type Field = (usize, Part);
 
-const WHOLE: &[Field] = &[(0, 6, false)];
-const DECIMAL: &[Field] = &[(0, 8, true)];
-const EPOCH: &[Field] = &[
-    (0, 6, false),
-    (6, 6, false),
-    (12, 6, false),
-    (18, 6, false),
-    (24, 6, false),
-    (30, 6, false),
-];
-const AXIS: &[Field] = &[(2, 6, true), (8, 6, true), (14, 6, true)];
-const BLOCK: &[Field] = &[
-    (2, 6, true),
-    (8, 6, true),
-    (14, 6, true),
-    (20, 6, true),
-    (26, 6, true),
-];
-const SYSTEM: &[Field] = &[(6, 6, false), (12, 6, false)];
+/// The number of a map, or of maps.
+const WHOLE: Field = (0, Part::I(6));
 
-const LABELS: [(&str, &[Field]); 32] = [
-    ("IONEX VERSION / TYPE", DECIMAL),
-    ("PGM / RUN BY / DATE", &[]),
-    ("DESCRIPTION", &[]),
-    ("COMMENT", &[]),
-    ("EPOCH OF FIRST MAP", EPOCH),
-    ("EPOCH OF LAST MAP", EPOCH),
-    ("INTERVAL", WHOLE),
-    ("# OF MAPS IN FILE", WHOLE),
-    ("MAPPING FUNCTION", &[]),
-    ("ELEVATION CUTOFF", DECIMAL),
-    ("OBSERVABLES USED", &[]),
-    ("# OF STATIONS", WHOLE),
-    ("# OF SATELLITES", WHOLE),
-    ("SYS / #STA / #SAT", SYSTEM),
-    ("BASE RADIUS", DECIMAL),
-    ("MAP DIMENSION", WHOLE),
-    ("HGT1 / HGT2 / DHGT", AXIS),
-    ("LAT1 / LAT2 / DLAT", AXIS),
-    ("LON1 / LON2 / DLON", AXIS),
-    ("EXPONENT", WHOLE),
-    ("START OF AUX DATA", &[]),
-    ("END OF AUX DATA", &[]),
-    ("END OF HEADER", &[]),
-    ("START OF TEC MAP", WHOLE),
-    ("START OF RMS MAP", WHOLE),
-    ("START OF HEIGHT MAP", WHOLE),
-    ("EPOCH OF CURRENT MAP", EPOCH),
-    ("LAT/LON1/LON2/DLON/H", BLOCK),
-    ("END OF TEC MAP", WHOLE),
-    ("END OF RMS MAP", WHOLE),
-    ("END OF HEIGHT MAP", WHOLE),
-    ("END OF FILE", &[]),
-];
+fn fields(label: Label) -> Vec<Field> {
+    labels::number_fields(label).collect()
+}
+
+fn any_label(rng: &mut Rng) -> &'static str {
+    let all: Vec<Label> = labels::all().collect();
+    labels::label_text(rng.pick(&all))
+}
+
+/// A line without its end, and whether a CR stands before the LF.
+#[derive(Clone)]
+struct Line {
+    bytes: Vec<u8>,
+    cr: bool,
+}
+
+impl Deref for Line {
+    type Target = Vec<u8>;
+
+    fn deref(&self) -> &Vec<u8> {
+        &self.bytes
+    }
+}
+
+impl DerefMut for Line {
+    fn deref_mut(&mut self) -> &mut Vec<u8> {
+        &mut self.bytes
+    }
+}
 
 /// The lines of a text, to be changed and joined again.
 struct Page {
-    lines: Vec<Vec<u8>>,
-    cr: bool,
+    lines: Vec<Line>,
     last_lf: bool,
 }
 
 impl Page {
     fn of(text: &[u8]) -> Page {
-        let mut lines: Vec<Vec<u8>> = text.split(|&b| b == b'\n').map(<[u8]>::to_vec).collect();
-        let last_lf = lines.last().is_some_and(Vec::is_empty);
-        if last_lf {
-            lines.pop();
+        let line = |bytes: &[u8]| match bytes.strip_suffix(b"\r\n") {
+            Some(front) => Line {
+                bytes: front.to_vec(),
+                cr: true,
+            },
+            None => Line {
+                bytes: bytes.strip_suffix(b"\n").unwrap_or(bytes).to_vec(),
+                cr: false,
+            },
+        };
+        Page {
+            lines: text.split_inclusive(|&b| b == b'\n').map(line).collect(),
+            last_lf: text.last() == Some(&b'\n'),
         }
-        let cr = lines.iter().any(|line| line.last() == Some(&b'\r'));
-        if cr {
-            for line in &mut lines {
-                if line.last() == Some(&b'\r') {
-                    line.pop();
-                }
-            }
-        }
-        Page { lines, cr, last_lf }
     }
 
     fn text(&self) -> Vec<u8> {
-        let end: &[u8] = if self.cr { b"\r\n" } else { b"\n" };
-        let mut text = self.lines.join(end);
-        if self.last_lf {
-            text.extend(end);
+        let mut text = Vec::new();
+        for (k, line) in self.lines.iter().enumerate() {
+            text.extend(&line.bytes);
+            if k + 1 < self.lines.len() || self.last_lf {
+                text.extend(if line.cr { &b"\r\n"[..] } else { b"\n" });
+            }
         }
         text
     }
 
-    fn label(&self, line: usize) -> Option<usize> {
-        let columns = self.lines[line].get(60..)?;
-        let name = std::str::from_utf8(columns).ok()?.trim_end();
-        LABELS.iter().position(|row| row.0 == name)
+    /// A line more, which ends as the one before it.
+    fn insert(&mut self, at: usize, bytes: Vec<u8>) {
+        let cr = at
+            .checked_sub(1)
+            .is_some_and(|before| self.lines[before].cr);
+        self.lines.insert(at, Line { bytes, cr });
+    }
+
+    fn label(&self, line: usize) -> Option<Label> {
+        let name = self.lines[line].get(60..)?.trim_ascii_end();
+        labels::all().find(|&label| labels::label_text(label).as_bytes() == name)
     }
 
     /// The lines that carry one of the labels.
     fn with_labels(&self, wanted: impl Fn(&str) -> bool) -> Vec<usize> {
+        let wanted = |label| wanted(labels::label_text(label));
         (0..self.lines.len())
-            .filter(|&line| self.label(line).is_some_and(|k| wanted(LABELS[k].0)))
+            .filter(|&line| self.label(line).is_some_and(wanted))
             .collect()
     }
 
@@ -118,7 +107,7 @@ impl Page {
         let mut found = Vec::new();
         for line in 0..self.lines.len() {
             match self.label(line) {
-                Some(k) => inside = LABELS[k].1 == BLOCK,
+                Some(label) => inside = label == Label::Block,
                 None if inside && self.lines[line].iter().any(|&b| b != b' ') => found.push(line),
                 None => {}
             }
@@ -135,26 +124,33 @@ impl Page {
         line[at..at + bytes.len()].copy_from_slice(bytes);
     }
 
-    fn number(&self, line: usize, field: Field) -> Option<i64> {
-        let (at, width, decimal) = field;
-        let bytes = self.lines[line].get(at..at + width)?;
-        if decimal {
-            second::fields::tenths(bytes)
-        } else {
-            second::fields::integer(bytes)
+    fn number(&self, line: usize, (at, part): Field) -> Option<i64> {
+        let bytes = self.lines[line].get(at..at + labels::width(part))?;
+        match part {
+            Part::F(_) => second::fields::tenths(bytes),
+            _ => second::fields::integer(bytes),
         }
     }
 
-    fn put_number(&mut self, line: usize, field: Field, value: i64) {
-        let (at, width, decimal) = field;
-        let text = if decimal {
-            second::fields::tenths_text(value, width)
-        } else {
-            second::fields::integer_text(value, width)
+    fn put_number(&mut self, line: usize, (at, part): Field, value: i64) {
+        let width = labels::width(part);
+        let text = match part {
+            Part::F(_) => second::fields::tenths_text(value, width),
+            _ => second::fields::integer_text(value, width),
         };
         if text.len() == width {
             self.put(line, at, text.as_bytes());
         }
+    }
+
+    /// Puts a word at the right of a field, or at the left of it.
+    fn put_word(&mut self, line: usize, (at, part): Field, word: &str, left: bool) {
+        let width = labels::width(part);
+        let text = match left {
+            true => format!("{word:<width$}"),
+            false => format!("{word:>width$}"),
+        };
+        self.put(line, at, text.as_bytes());
     }
 }
 
@@ -200,7 +196,7 @@ fn bytes(rng: &mut Rng, text: &[u8]) -> Vec<u8> {
 }
 
 fn lines(rng: &mut Rng, page: &mut Page) {
-    match rng.below(35) {
+    match rng.below(36) {
         0 => drop_line(rng, page),
         1 => double_line(rng, page),
         2 => swap_lines(rng, page),
@@ -232,6 +228,7 @@ fn lines(rng: &mut Rng, page: &mut Page) {
         30 => late_epoch(rng, page),
         31 => limits(rng, page),
         32 => one_map_more(rng, page),
+        33 => two_fields(rng, page),
         _ => boundary(rng, page),
     }
 }
@@ -275,10 +272,8 @@ fn some_field(rng: &mut Rng, page: &Page) -> Option<(usize, Field)> {
     let lines = page.with_labels(|_| true);
     let fields: Vec<(usize, Field)> = lines
         .iter()
-        .flat_map(|&line| {
-            let row = page.label(line).unwrap_or(0);
-            LABELS[row].1.iter().map(move |&field| (line, field))
-        })
+        .filter_map(|&line| Some((line, page.label(line)?)))
+        .flat_map(|(line, label)| labels::number_fields(label).map(move |field| (line, field)))
         .collect();
     if fields.is_empty() {
         None
@@ -294,16 +289,11 @@ const ILL: [&str; 28] = [
 ];
 
 fn ill_formed_field(rng: &mut Rng, page: &mut Page) {
-    let Some((line, (at, width, _))) = some_field(rng, page) else {
+    let Some((line, field)) = some_field(rng, page) else {
         return;
     };
-    let text = rng.pick(&ILL);
-    let bytes = if rng.once_in(5) {
-        format!("{text:<width$}")
-    } else {
-        format!("{text:>width$}")
-    };
-    page.put(line, at, bytes.as_bytes());
+    let left = rng.once_in(5);
+    page.put_word(line, field, rng.pick(&ILL), left);
 }
 
 fn changed_field(rng: &mut Rng, page: &mut Page) {
@@ -331,7 +321,7 @@ fn long_line(rng: &mut Rng, page: &mut Page) {
     let length = rng.pick(&[80, 81, 81, 82, 100, 300]);
     let filler = if rng.once_in(4) { b'x' } else { b' ' };
     if rng.once_in(3) {
-        page.lines.insert(at, vec![filler; length]);
+        page.insert(at, vec![filler; length]);
     } else if page.lines[at].len() < length {
         page.lines[at].resize(length, filler);
     }
@@ -379,17 +369,18 @@ fn other_label(rng: &mut Rng, page: &mut Page) {
         return;
     }
     let line = rng.pick(&lines);
-    let word = |k: usize| LABELS[k].0.split(' ').next();
-    let old = page.label(line).unwrap_or(0);
-    let alike: Vec<usize> = (0..LABELS.len())
-        .filter(|&k| word(k) == word(old))
+    let word = |label: &'static str| label.split(' ').next();
+    let old = page.label(line).map_or("", labels::label_text);
+    let alike: Vec<&str> = labels::all()
+        .map(labels::label_text)
+        .filter(|&text| word(text) == word(old))
         .collect();
     let new = if rng.once_in(2) {
         rng.pick(&alike)
     } else {
-        rng.below(LABELS.len())
+        any_label(rng)
     };
-    set_label(page, line, LABELS[new].0);
+    set_label(page, line, new);
 }
 
 /// A non-blank byte in columns 1 to 60 of a record.
@@ -429,11 +420,11 @@ fn value_line_count(rng: &mut Rng, page: &mut Page) {
             let line = page.lines[at].clone();
             page.lines.insert(at, line);
         }
-        2 => page.lines.insert(at, record(b"a word", "COMMENT")),
+        2 => page.insert(at, record(b"a word", "COMMENT")),
         _ => {
             let half = page.lines[at].len() / 10 * 5;
             let rest = page.lines[at].split_off(half);
-            page.lines.insert(at + 1, rest);
+            page.insert(at + 1, rest);
         }
     }
 }
@@ -445,7 +436,7 @@ fn epoch(rng: &mut Rng, page: &mut Page) {
         return;
     }
     let line = rng.pick(&lines);
-    let field = rng.pick(EPOCH);
+    let field = rng.pick(&fields(Label::CurrentEpoch));
     let old = page.number(line, field).unwrap_or(0);
     let value = match rng.below(4) {
         0 => old + 1,
@@ -462,9 +453,9 @@ fn map_number(rng: &mut Rng, page: &mut Page) {
         return;
     }
     let line = rng.pick(&lines);
-    let old = page.number(line, WHOLE[0]).unwrap_or(0);
+    let old = page.number(line, WHOLE).unwrap_or(0);
     let value = rng.pick(&[old + 1, old - 1, 0, -old, old + 100]);
-    page.put_number(line, WHOLE[0], value);
+    page.put_number(line, WHOLE, value);
 }
 
 fn block_number(rng: &mut Rng, page: &mut Page) {
@@ -473,7 +464,7 @@ fn block_number(rng: &mut Rng, page: &mut Page) {
         return;
     }
     let line = rng.pick(&lines);
-    let field = rng.pick(BLOCK);
+    let field = rng.pick(&fields(Label::Block));
     let old = page.number(line, field).unwrap_or(0);
     let value = rng.pick(&[old + 1, old - 1, old + 50, -old, 0]);
     page.put_number(line, field, value);
@@ -505,7 +496,13 @@ fn drop_map(rng: &mut Rng, page: &mut Page) {
     }
     let start = rng.pick(&starts);
     let end = (start..page.lines.len())
-        .find(|&line| page.label(line).is_some_and(|k| (28..31).contains(&k)))
+        .find(|&line| {
+            let label = page.label(line);
+            matches!(
+                label,
+                Some(Label::EndTec | Label::EndRms | Label::EndHeight)
+            )
+        })
         .map_or(page.lines.len(), |line| line + 1);
     match rng.below(4) {
         0 => {
@@ -513,7 +510,7 @@ fn drop_map(rng: &mut Rng, page: &mut Page) {
             page.lines.splice(start..start, copy);
         }
         1 => {
-            let map: Vec<Vec<u8>> = page.lines.drain(start..end).collect();
+            let map: Vec<Line> = page.lines.drain(start..end).collect();
             let places = page.with_labels(|l| l.starts_with("START OF") || l == "END OF FILE");
             if !places.is_empty() {
                 let to = rng.pick(&places);
@@ -604,23 +601,24 @@ fn exponent(rng: &mut Rng, page: &mut Page) {
     let body = rng.pick(&[
         "     1", "    -4", "     0", "    -3", "    -1 ", "999999", "  -1", "     1 x",
     ]);
-    page.lines.insert(at, record(body.as_bytes(), "EXPONENT"));
+    page.insert(at, record(body.as_bytes(), "EXPONENT"));
 }
 
 fn after_the_end(rng: &mut Rng, page: &mut Page) {
-    let label = rng.pick(&LABELS).0;
-    page.lines.push(match rng.below(4) {
+    let label = any_label(rng);
+    let line = match rng.below(4) {
         0 => b"x".to_vec(),
         1 => vec![b' '; rng.below(90)],
         2 => record(b"", "END OF FILE."),
         _ => record(b"     1", label),
-    });
+    };
+    page.insert(page.lines.len(), line);
     page.last_lf = rng.once_in(2);
 }
 
 fn insert_record(rng: &mut Rng, page: &mut Page) {
     let at = rng.below(page.lines.len() + 1);
-    let label = rng.pick(&LABELS).0;
+    let label = any_label(rng);
     let body = rng.pick(&[
         "",
         "     1",
@@ -629,7 +627,7 @@ fn insert_record(rng: &mut Rng, page: &mut Page) {
         "   ?",
         "  2000     1     1",
     ]);
-    page.lines.insert(at, record(body.as_bytes(), label));
+    page.insert(at, record(body.as_bytes(), label));
 }
 
 fn version(rng: &mut Rng, page: &mut Page) {
@@ -657,8 +655,9 @@ fn version(rng: &mut Rng, page: &mut Page) {
 }
 
 fn header_records(page: &Page) -> Vec<usize> {
+    let inside = |label: Label| (label as usize) < Label::EndHeader as usize;
     (0..page.lines.len())
-        .filter(|&line| page.label(line).is_some_and(|k| k < 22))
+        .filter(|&line| page.label(line).is_some_and(inside))
         .collect()
 }
 
@@ -747,7 +746,7 @@ fn one_map_more(rng: &mut Rng, page: &mut Page) {
     if end < start {
         return;
     }
-    let number = page.number(start, WHOLE[0]).unwrap_or(0) + rng.pick(&[1, 1, 1, 0, 2]);
+    let number = page.number(start, WHOLE).unwrap_or(0) + rng.pick(&[1, 1, 1, 0, 2]);
     let copy = page.lines[start..=end].to_vec();
     let files = page.with_labels(|l| l == "END OF FILE");
     let to = match files.first() {
@@ -756,8 +755,8 @@ fn one_map_more(rng: &mut Rng, page: &mut Page) {
     };
     let length = copy.len();
     page.lines.splice(to..to, copy);
-    page.put_number(to, WHOLE[0], number);
-    page.put_number(to + length - 1, WHOLE[0], number);
+    page.put_number(to, WHOLE, number);
+    page.put_number(to + length - 1, WHOLE, number);
 }
 
 /// Numbers of maps, layers, rows and columns at the limits, all other rules kept.
@@ -808,10 +807,60 @@ fn boundary(rng: &mut Rng, page: &mut Page) {
         return;
     }
     let line = rng.pick(&lines);
-    let (label, fields) = LABELS[page.label(line).unwrap_or(0)];
+    let Some(label) = page.label(line) else {
+        return;
+    };
+    let fields = fields(label);
     let k = rng.below(fields.len());
-    let value = rng.pick(boundaries(label, k));
+    let value = rng.pick(boundaries(labels::label_text(label), k));
     page.put_number(line, fields[k], value);
+}
+
+/// Two fields of a record wrong, of an epoch mostly: each no number, or a number outside.
+fn two_fields(rng: &mut Rng, page: &mut Page) {
+    let epochs = !rng.once_in(4);
+    let lines = page.with_labels(|l| match epochs {
+        true => l.starts_with("EPOCH"),
+        false => !outside(l, 1).is_empty(),
+    });
+    if lines.is_empty() {
+        return;
+    }
+    let line = rng.pick(&lines);
+    let Some(label) = page.label(line) else {
+        return;
+    };
+    let fields = fields(label);
+    let first = rng.below(fields.len());
+    let second = (first + 1 + rng.below(fields.len() - 1)) % fields.len();
+    for k in [first, second] {
+        if rng.once_in(4) {
+            page.put_word(line, fields[k], rng.pick(&ILL), false);
+        } else {
+            let value = rng.pick(outside(labels::label_text(label), k));
+            page.put_number(line, fields[k], value);
+        }
+    }
+}
+
+/// Numbers just outside what a field of several may hold.
+fn outside(label: &str, field: usize) -> &'static [i64] {
+    match (label, field) {
+        ("SYS / #STA / #SAT" | "HGT1 / HGT2 / DHGT", _) => &[-1],
+        ("LAT1 / LAT2 / DLAT", 0..2) => &[-901, 901],
+        ("LAT1 / LAT2 / DLAT", _) => &[-151, 0, 151],
+        ("LON1 / LON2 / DLON", 0..2) => &[-1801, 3601],
+        ("LON1 / LON2 / DLON", _) => &[-1, 0, 151],
+        ("LAT/LON1/LON2/DLON/H", _) => &[-999, 7, 7777],
+        ("EPOCH OF FIRST MAP" | "EPOCH OF LAST MAP" | "EPOCH OF CURRENT MAP", _) => match field {
+            0 => &[1899, 2200],
+            1 => &[0, 13],
+            2 => &[0, 32],
+            3 => &[-1, 24],
+            _ => &[-1, 60],
+        },
+        _ => &[],
+    }
 }
 
 /// Tenths where the field has a point.
@@ -1131,6 +1180,22 @@ pub fn question(rng: &mut Rng, set: &MapSet) -> Question {
     }
 }
 
+/// A question about the last nodes and maps of a large set.
+pub fn late_question(rng: &mut Rng, set: &MapSet) -> Question {
+    let Axis { last, step, .. } = set.header.latitudes;
+    let grid = set.grid();
+    let rows = rng.below(1 + grid.rows / 20) as i64;
+    let maps = rng.below(grid.maps.min(40));
+    Question {
+        kind: rng.pick(&[0, 0, 0, 1, 2]),
+        method: rng.pick(&[0, 1]),
+        layer: grid.layers as i64 - 1,
+        latitude: 10 * (last - rows * step),
+        second: set.areas.epochs[grid.maps - 1 - maps],
+        ..question(rng, set)
+    }
+}
+
 fn ends(a: i64, b: i64) -> (i64, i64) {
     (a.min(b), a.max(b))
 }
@@ -1176,5 +1241,28 @@ fn second(rng: &mut Rng, epochs: &[u64]) -> u64 {
         8..=11 if at > 0 => (epochs[at - 1] + epochs[at]) / 2,
         12 if at > 0 => (epochs[at - 1] + epochs[at]).div_ceil(2),
         _ => rng.range(first as i64, last as i64) as u64,
+    }
+}
+
+#[cfg(test)]
+mod tests {
+    use super::*;
+
+    #[test]
+    fn a_page_keeps_its_line_ends() {
+        let texts: [&[u8]; 6] = [
+            b"a\r\nb\nc\r\n",
+            b"a\nb\r\nc",
+            b"\r\r\n\n",
+            b"a\r",
+            b"\n",
+            b"",
+        ];
+        for text in texts {
+            assert_eq!(Page::of(text).text(), text);
+        }
+        let mut page = Page::of(b"a\nb\r\nc");
+        page.insert(2, b"x".to_vec());
+        assert_eq!(page.text(), b"a\nb\r\nx\r\nc");
     }
 }

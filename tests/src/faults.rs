@@ -11,132 +11,24 @@ use crate::set::{Buffers, MapSet};
 use second::maps::Grid;
 use second::{Answer, Axis, Header, Question, Reading, Refusal, Texts};
 
-#[derive(Clone, Copy, Debug, PartialEq, Eq)]
-pub enum Fault {
-    // Reading: the answer.
-    AcceptedAsRefused,
-    RefusedAsAccepted,
-    Number,
-    Line,
-    Column,
-    ShortArea,
-    ShortNeed,
-    // Reading: the header record, its axes (0 heights, 1 latitudes, 2 longitudes;
-    // first, last, step) and its starred records.
-    Version,
-    /// GPS and GLO under 1.1 too, or not at all; 1.0 read or written as 1.1.
-    GpsInAny,
-    GpsInNone,
-    ReadAsNew,
-    WrittenAsNew,
-    FileType,
-    Code,
-    FirstEpoch,
-    LastEpoch,
-    Interval,
-    Maps,
-    Cutoff,
-    Radius,
-    Dimension,
-    AxisNumber(usize, usize),
-    StationsFlag,
-    StationsCount,
-    SatellitesFlag,
-    SatellitesCount,
-    SystemFlag(usize),
-    SystemStations(usize),
-    SystemSatellites(usize),
-    // Reading: a text, the last needed element of an area, the guard behind it,
-    // an area touched by a refusal.
-    Text(usize),
-    Area(usize),
-    Guard(usize),
-    Touched(usize),
-    /// The exponent set back to -1 at each map.
-    ExponentReset,
-    /// A point with no digit after it taken as 0.
-    PointAlone,
-    /// A byte of a remark let through; only texts that differ in their remarks show it.
-    Leak(Leak),
-    // Needs: one of them, or the place of a refusal.
-    Need(usize),
-    NeedOfNone,
-    NeedsLine,
-    NeedsAccepted,
-    // Writing.
-    WrittenByte,
-    WrittenPast,
-    WrittenLength,
-    WriteNeed,
-    WriteNumber,
-    WriteTouched,
-    // Asking.
-    Value,
-    Unit,
-    AskNumber,
-    /// Rounding in space and again in time.
-    RoundedTwice,
-    /// The later of two equally near maps.
-    LaterMap,
-    /// Refusing for an absent node whose weight is zero.
-    ZeroWeight,
-    /// 9999 taken as a value.
-    AbsentAsValue,
-    /// In the strip, the column before the last in the place of the first.
-    ColumnBefore,
-    /// Maps that turn: the later one moved forward too, both moved by the time since the earlier, moved ten times as far.
-    LaterForward,
-    SameTime,
-    TenTimes,
-    /// Rounded in each of the maps that turn, and again in time.
-    RoundedPerMap,
-    /// 24 told after 20, or only for the gap around the second asked for.
-    TurnsLate,
-    GapAround,
-    // Delays: divided by 1000 after the product, by the carrier twice, by the carrier alone.
-    ThousandLast,
-    CarrierTwice,
-    NotSquared,
-    /// The record in thousandths.
-    RecordThousandths,
-    /// The limits themselves refused.
-    LimitsRefused,
-    /// A height map's value taken as TEC.
-    HeightDelay,
-    /// 25 before the refusals of the question.
-    CarrierFirst,
-    // Joining: the shared map from the earlier set, its RMS map lost.
-    SharedEarlier,
-    SharedRmsLost,
-    /// The later set's INTERVAL kept, or an INTERVAL of 0 taken as the other set's.
-    IntervalKept,
-    IntervalOther,
-    TextsEarlier,
-    LastEpochEarlier,
-    /// The exponents of all kinds one behind the other.
-    ExponentsTogether,
-    /// 42 before 41, or 41 before 40.
-    LimitFirst,
-    MeetFirst,
-    JoinNeed,
-    JoinTouched(usize),
-    JoinGuard(usize),
-    // Moving.
-    MovedValue,
-    MovedRefusal,
-}
-
-pub fn all() -> Vec<Fault> {
-    use Fault::*;
-    let mut faults = vec![
+listed! {
+    pub enum Fault {
+        // Reading: the answer.
         AcceptedAsRefused,
         RefusedAsAccepted,
         Number,
         Line,
+        /// A line of 16 bits.
+        LineNarrow,
+        /// Of the wrong fields of an epoch, the last told.
+        EpochLast,
         Column,
         ShortArea,
         ShortNeed,
+        // Reading: the header record, its axes (0 heights, 1 latitudes, 2 longitudes;
+        // first, last, step) and its starred records.
         Version,
+        /// GPS and GLO under 1.1 too, or not at all; 1.0 read or written as 1.1.
         GpsInAny,
         GpsInNone,
         ReadAsNew,
@@ -150,67 +42,98 @@ pub fn all() -> Vec<Fault> {
         Cutoff,
         Radius,
         Dimension,
+        AxisNumber(usize, usize) in (0..9).map(|k| Fault::AxisNumber(k / 3, k % 3)),
         StationsFlag,
         StationsCount,
         SatellitesFlag,
         SatellitesCount,
+        SystemFlag(usize) in (0..7).map(Fault::SystemFlag),
+        SystemStations(usize) in (0..7).map(Fault::SystemStations),
+        SystemSatellites(usize) in (0..7).map(Fault::SystemSatellites),
+        // Reading: a text, the last needed element of an area, the guard behind it,
+        // an area touched by a refusal.
+        Text(usize) in (0..5).map(Fault::Text),
+        Area(usize) in (0..6).map(Fault::Area),
+        Guard(usize) in (0..6).map(Fault::Guard),
+        Touched(usize) in (0..6).map(Fault::Touched),
+        /// The exponent set back to -1 at each map.
         ExponentReset,
+        /// A second aux block refused.
+        OneAux,
+        /// A point with no digit after it taken as 0.
         PointAlone,
+        /// A byte of a remark let through.
+        Leak(Leak) in Leak::all().into_iter().map(Fault::Leak),
+        // Needs: one of them, or the place of a refusal.
+        Need(usize) in (0..6).map(Fault::Need),
         NeedOfNone,
         NeedsLine,
         NeedsAccepted,
+        // Writing.
         WrittenByte,
         WrittenPast,
         WrittenLength,
         WriteNeed,
         WriteNumber,
         WriteTouched,
+        // Asking.
         Value,
         Unit,
         AskNumber,
+        /// The place of a value in 16 bits, of a map in 8.
+        NodeNarrow,
+        MapNarrow,
+        /// Rounding in space and again in time.
         RoundedTwice,
+        /// The later of two equally near maps.
         LaterMap,
+        /// Refusing for an absent node whose weight is zero.
         ZeroWeight,
+        /// 9999 taken as a value.
         AbsentAsValue,
+        /// In the strip, the column before the last in the place of the first.
         ColumnBefore,
+        /// Maps that turn: the later one moved forward too, both moved by the time since the earlier, moved ten times as far.
         LaterForward,
         SameTime,
         TenTimes,
+        /// Rounded in each of the maps that turn, and again in time.
         RoundedPerMap,
+        /// 24 told after 20, or only for the gap around the second asked for.
         TurnsLate,
         GapAround,
+        // Delays: divided by 1000 after the product, by the carrier twice, by the carrier alone.
         ThousandLast,
         CarrierTwice,
         NotSquared,
+        /// The record in thousandths.
         RecordThousandths,
+        /// The limits themselves refused.
         LimitsRefused,
+        /// A height map's value taken as TEC.
         HeightDelay,
+        /// 25 before the refusals of the question.
         CarrierFirst,
+        // Joining: the shared map from the earlier set, its RMS map lost.
         SharedEarlier,
         SharedRmsLost,
+        /// The later set's INTERVAL kept, or an INTERVAL of 0 taken as the other set's.
         IntervalKept,
         IntervalOther,
         TextsEarlier,
         LastEpochEarlier,
+        /// The exponents of all kinds one behind the other.
         ExponentsTogether,
+        /// 42 before 41, or 41 before 40.
         LimitFirst,
         MeetFirst,
         JoinNeed,
+        JoinTouched(usize) in (0..6).map(Fault::JoinTouched),
+        JoinGuard(usize) in (0..6).map(Fault::JoinGuard),
+        // Moving.
         MovedValue,
         MovedRefusal,
-    ];
-    for axis in 0..3 {
-        faults.extend((0..3).map(|number| AxisNumber(axis, number)));
     }
-    for k in 0..7 {
-        faults.extend([SystemFlag(k), SystemStations(k), SystemSatellites(k)]);
-    }
-    faults.extend((0..5).map(Text));
-    for k in 0..6 {
-        faults.extend([Area(k), Guard(k), Touched(k), Need(k)]);
-        faults.extend([JoinTouched(k), JoinGuard(k)]);
-    }
-    faults
 }
 
 /// The seed and job at which the comparison with a library finds the fault, and the difference, within `count` seeds.
@@ -257,6 +180,7 @@ impl Library for Faulty {
                     Some(text) => Second.read(&text, areas),
                     None => Reading::Refused(refusal),
                 },
+                _ if self.0 == Fault::EpochLast => Reading::Refused(last_wrong(text, refusal)),
                 _ => self.refused(areas, refusal),
             },
         }
@@ -333,6 +257,10 @@ impl Library for Faulty {
             }
             (Fault::AskNumber, Err(Refusal::Bare { number: 21 })) => {
                 Err(Refusal::Bare { number: 22 })
+            }
+            (Fault::NodeNarrow, _) => Second.ask(&with_values_of(set, 1 << 16, 1), question),
+            (Fault::MapNarrow, _) => {
+                Second.ask(&with_values_of(set, 256, set.grid().values()), question)
             }
             (Fault::RoundedTwice, Ok(right)) => Ok(rounded_twice(set, question).unwrap_or(right)),
             (Fault::LaterMap, Ok(right)) if question.method == 0 => {
@@ -572,6 +500,16 @@ impl Faulty {
                 *areas = before;
                 return Second.read(&with_resets(text), areas);
             }
+            Fault::OneAux => {
+                if let Some(line) = second_aux(text) {
+                    *areas = before;
+                    return Reading::Refused(Refusal::Place {
+                        number: 5,
+                        line,
+                        column: 61,
+                    });
+                }
+            }
             _ => {}
         }
         Reading::Accepted { header, texts }
@@ -607,6 +545,18 @@ impl Faulty {
             ) => Refusal::Place {
                 number,
                 line: line + 1,
+                column,
+            },
+            (
+                Fault::LineNarrow,
+                Refusal::Place {
+                    number,
+                    line,
+                    column,
+                },
+            ) => Refusal::Place {
+                number,
+                line: line & 0xffff,
                 column,
             },
             (
@@ -704,6 +654,61 @@ fn line_start(text: &[u8], line: u64) -> usize {
     lines.take(line as usize - 1).map(<[u8]>::len).sum()
 }
 
+/// The line of the second aux block, where there is one.
+fn second_aux(text: &[u8]) -> Option<u64> {
+    let (mut inside, mut blocks) = (false, 0);
+    for (k, line) in text.split(|&b| b == b'\n').enumerate() {
+        match line.get(60..).unwrap_or(b"").trim_ascii_end() {
+            b"END OF AUX DATA" => inside = false,
+            b"START OF AUX DATA" if !inside => {
+                inside = true;
+                blocks += 1;
+            }
+            b"END OF HEADER" if !inside => return None,
+            _ => {}
+        }
+        if blocks == 2 {
+            return Some(k as u64 + 1);
+        }
+    }
+    None
+}
+
+/// A refusal 7 of an epoch's field with the last wrong field in its place.
+fn last_wrong(text: &[u8], refusal: Refusal) -> Refusal {
+    let Refusal::Place {
+        number: 7, line, ..
+    } = refusal
+    else {
+        return refusal;
+    };
+    let found = &text[line_start(text, line)..];
+    match wrong_epoch_fields(found).last() {
+        Some(k) => Refusal::Place {
+            number: 7,
+            line,
+            column: 6 * *k as u64 + 1,
+        },
+        None => refusal,
+    }
+}
+
+/// The fields of an epoch record that are no number, or a number outside their own range; none of another line.
+pub fn wrong_epoch_fields(line: &[u8]) -> Vec<usize> {
+    let ranges = [1900..=2199, 1..=12, 1..=31, 0..=23, 0..=59, 0..=59];
+    if !line
+        .get(60..)
+        .is_some_and(|label| label.starts_with(b"EPOCH OF"))
+    {
+        return Vec::new();
+    }
+    let wrong = |k: usize| {
+        let number = second::fields::integer(&line[6 * k..6 * k + 6]);
+        !number.is_some_and(|number| ranges[k].contains(&number))
+    };
+    (0..6).filter(|&k| wrong(k)).collect()
+}
+
 /// The text as one of version 1.0, where its code is what is refused.
 fn as_old(text: &[u8], refusal: Refusal) -> Option<Vec<u8>> {
     let Refusal::Place {
@@ -728,6 +733,15 @@ fn with_column_before(set: &MapSet) -> MapSet {
         for row in values.chunks_exact_mut(columns) {
             row[0] = row[columns - 2];
         }
+    }
+    changed
+}
+
+/// The set with each part of its TEC values, so many of `size`, as the first.
+fn with_values_of(set: &MapSet, parts: usize, size: usize) -> MapSet {
+    let mut changed = set.clone();
+    for at in parts * size..set.areas.tec.len() {
+        changed.areas.tec[at] = set.areas.tec[at % (parts * size)];
     }
     changed
 }

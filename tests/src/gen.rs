@@ -21,6 +21,22 @@ pub fn one_node(rng: &mut Rng, maps: i64) -> MapSet {
     with_columns(rng, column, [maps, 1, 1, 1])
 }
 
+/// A valid map set with values behind the 65,536th, or with maps behind the 256th.
+pub fn large(rng: &mut Rng) -> MapSet {
+    let sizes = rng.pick(&[
+        [1, 1, 100, 700],
+        [2, 1, 91, 721],
+        [1, 3, 40, 600],
+        [1, 64, 40, 30],
+        [5, 1, 73, 181],
+        [257, 1, 1, 1],
+        [280, 1, 2, 3],
+        [300, 2, 1, 2],
+    ]);
+    let columns = longitudes(rng, sizes[3]);
+    with_columns(rng, columns, sizes)
+}
+
 fn with_columns(rng: &mut Rng, columns: Axis, sizes: [i64; 4]) -> MapSet {
     let mut header = header(rng, columns, sizes);
     let longest = longest_gap(rng, &header);
@@ -76,10 +92,15 @@ fn sizes(rng: &mut Rng) -> [i64; 4] {
             _ => [2, 2, 3, 720],
         };
     }
+    if rng.once_in(12) {
+        return [rng.range(8, 26), 1, rng.range(1, 2), rng.range(1, 3)];
+    }
     let maps = rng.pick(&[1, 1, 2, 2, 2, 3, 3, 4, 7]);
     let layers = rng.pick(&[1, 1, 1, 1, 2, 2, 3, 4]);
     let rows = rng.pick(&[1, 1, 2, 2, 3, 4]);
-    let columns = rng.pick(&[1, 2, 3, 3, 4, 5, 7, 15, 16, 17, 18, 31, 32, 33, 48, 49]);
+    let columns = rng.pick(&[
+        1, 2, 3, 3, 4, 5, 7, 15, 16, 17, 18, 24, 25, 30, 31, 32, 33, 36, 48, 49,
+    ]);
     if maps * layers * rows * columns > 160 {
         [maps.min(2), layers.min(2), rows.min(2), columns.min(33)]
     } else {
@@ -284,7 +305,12 @@ fn latitudes(rng: &mut Rng, rows: i64) -> Axis {
 }
 
 fn longitudes(rng: &mut Rng, columns: i64) -> Axis {
-    let mut step = step(rng, columns, 3600);
+    let mut step = match rng.below(4) {
+        0 => whole_turn(columns - 1),
+        1 => whole_turn(columns),
+        _ => None,
+    }
+    .unwrap_or_else(|| step(rng, columns, 3600));
     let (first, last) = loop {
         if let Some(ends) = multiples(rng, columns, step, -1800, 3600) {
             break ends;
@@ -292,6 +318,11 @@ fn longitudes(rng: &mut Rng, columns: i64) -> Axis {
         step -= 1;
     };
     Axis { first, last, step }
+}
+
+/// The step of which so many are a whole turn, where there is one.
+fn whole_turn(steps: i64) -> Option<i64> {
+    (steps >= 24 && 3600 % steps == 0).then(|| 3600 / steps)
 }
 
 fn texts(rng: &mut Rng) -> Texts {
@@ -586,7 +617,11 @@ impl Pen<'_> {
         if !self.rng.once_in(4) {
             self.rng.shuffle(&mut items);
         }
-        for item in items {
+        let far = self.rng.once_in(300);
+        for (k, item) in items.into_iter().enumerate() {
+            if far && k == 1 {
+                self.many_lines();
+            }
             if let Item::Exponent(exponent) = &item {
                 self.exponent = *exponent;
             }
@@ -595,6 +630,13 @@ impl Pen<'_> {
             }
         }
         self.record("", "END OF HEADER");
+    }
+
+    /// So many blank lines that those behind them are around line 65,536.
+    fn many_lines(&mut self) {
+        for _ in 0..self.rng.range(65_500, 65_540) {
+            self.end();
+        }
     }
 
     fn version(&mut self, header: &Header) {
@@ -673,7 +715,7 @@ impl Pen<'_> {
         for _ in 0..self.rng.below(3) {
             items.push(Item::Exponent(self.rng.range(-3, 0) as i32));
         }
-        for _ in 0..self.rng.below(2) {
+        for _ in 0..self.rng.pick(&[0, 0, 1, 2, 3]) {
             items.push(Item::Aux);
         }
     }

@@ -207,7 +207,7 @@ fn room(rng: &mut Rng, set: &MapSet) -> Kept {
 }
 
 /// The index of a text by the second program.
-fn made(text: &[u8]) -> Kept {
+pub fn made(text: &[u8]) -> Kept {
     let placed = second::read::placed(text).unwrap_or_else(|refusal| panic!("{refusal}"));
     Kept {
         header: boundary::numbers_of(&placed.header).to_vec(),

@@ -144,7 +144,20 @@ pub fn jobs(seed: u64) -> Vec<Job> {
         sets: joins::chain(rng),
         seed: rng.word(),
     });
+    if rng.once_in(16) {
+        jobs.extend(late_jobs(rng));
+    }
     jobs
+}
+
+/// Questions that lie far behind in a large set.
+fn late_jobs(rng: &mut Rng) -> [Job; 4] {
+    let set = gen::large(rng);
+    [(); 4].map(|()| Job::Ask {
+        set: Box::new(set.clone()),
+        question: damage::late_question(rng, &set),
+        known: Known::Valid,
+    })
 }
 
 /// What the first three texts need: the good one, and two that are damaged.

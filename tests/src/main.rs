@@ -8,13 +8,16 @@
 //! compare biases COUNT SEED       code biases, by both, and those of good texts judged
 //! compare places COUNT SEED       where the damaged texts are refused, for reading
 //! compare program FILE            an executable on every example, against the second program
+//! compare guards                  every export with its areas at forbidden pages (on x86-64)
+//! compare touch EXPORT SIDE AREA HOW   a call that such a page must end
+//! compare linked                  the functions that are linked, one to a line
 //!
 //! A function of the library that is not linked is answered by the second program, and a line says so.
 //! The last line is `N passed, M failed`; the exit status is non-zero if M > 0.
 
 #![forbid(unsafe_code)]
 
-use compare::archive::{Archive, FUNCTIONS};
+use compare::archive::{self, Archive, FUNCTIONS};
 use compare::check::{self, Tally};
 use compare::library::{self, Second};
 use compare::{biases, calls, delays, faults, indexes, program, remarks, weeks};
@@ -26,6 +29,21 @@ fn main() -> ExitCode {
     let words: Vec<&str> = arguments.iter().map(String::as_str).collect();
     let tally = match words[..] {
         ["program", file] => program::examples(Path::new(file)),
+        #[cfg(all(target_arch = "x86_64", feature = "ionex"))]
+        ["guards"] => compare::guards::compare(),
+        #[cfg(all(target_arch = "x86_64", feature = "ionex"))]
+        ["touch", export, side, area, how] => {
+            match compare::guards::touch(export, side, area, how) {
+                Some(0) => return ExitCode::SUCCESS,
+                _ => return usage(),
+            }
+        }
+        ["linked"] => {
+            for (name, _) in FUNCTIONS.iter().filter(|(_, linked)| *linked) {
+                println!("{}", name.trim_start_matches("ionex_"));
+            }
+            return ExitCode::SUCCESS;
+        }
         ["delays", seed] => match seed.parse() {
             Ok(seed) if linked() => delays::log(&Archive, seed),
             _ => return usage(),
@@ -59,7 +77,8 @@ fn usage() -> ExitCode {
     );
     eprintln!("       compare delays SEED");
     eprintln!("       compare program FILE");
-    eprintln!("libraries, boundary and delays need a function that is linked");
+    eprintln!("       compare linked | guards");
+    eprintln!("libraries, boundary, delays and guards need a function that is linked");
     ExitCode::from(2)
 }
 
@@ -69,10 +88,10 @@ fn seeded(mode: &str, count: u64, seed: u64) -> Option<Tally> {
     Some(match mode {
         "self-check" => check::self_check(library.as_ref(), count, seed),
         "libraries" if linked() => check::compare(&Second, library.as_ref(), count, seed),
-        "boundary" if linked() => calls::compare(&Archive, count, seed),
-        "weeks" => weeks::compare(&Archive, count, seed),
-        "indexes" => indexes::compare(&Archive, count, seed),
-        "biases" => biases::compare(&Archive, count, seed),
+        "boundary" if linked() => calls::compare(&archive::fenced(), count, seed),
+        "weeks" => weeks::compare(&archive::fenced(), count, seed),
+        "indexes" => indexes::compare(&archive::fenced(), count, seed),
+        "biases" => biases::compare(&archive::fenced(), count, seed),
         "faults" => planted_faults(count, seed),
         _ => return None,
     })
@@ -95,7 +114,7 @@ fn say_what_is_linked() {
 fn planted_faults(count: u64, seed: u64) -> Tally {
     let mut tally = Tally::default();
     let library = library::judged();
-    for fault in faults::all() {
+    for fault in faults::Fault::all() {
         let found = faults::find(library.as_ref(), fault, count, seed);
         let told = found.map(|(seed, job, difference)| {
             let short: String = difference.chars().take(60).collect();
@@ -103,7 +122,7 @@ fn planted_faults(count: u64, seed: u64) -> Tally {
         });
         tell(&mut tally, &format!("{fault:?}"), told);
     }
-    for leak in remarks::LEAKS {
+    for leak in remarks::Leak::all() {
         let found = remarks::find(leak, count, seed);
         let told = found.map(|(seed, difference)| {
             let short: String = difference.chars().take(60).collect();
@@ -111,22 +130,22 @@ fn planted_faults(count: u64, seed: u64) -> Tally {
         });
         tell(&mut tally, &format!("{leak:?} by its remarks"), told);
     }
-    for fault in calls::FAULTS {
+    for fault in calls::Fault::all() {
         let found = calls::find(&Archive, fault, count, seed);
         let told = found.map(|(seed, difference)| format!("seed {seed}: {difference}"));
         tell(&mut tally, &format!("{fault:?} at the boundary"), told);
     }
-    for fault in weeks::FAULTS {
+    for fault in weeks::Fault::all() {
         let found = weeks::find(fault, count, seed);
         let told = found.map(|(seed, difference)| format!("seed {seed}: {difference}"));
         tell(&mut tally, &format!("{fault:?} of a week"), told);
     }
-    for fault in indexes::faults::FAULTS {
+    for fault in indexes::faults::Fault::all() {
         let found = indexes::faults::find(fault, count, seed);
         let told = found.map(|(seed, difference)| format!("seed {seed}: {difference}"));
         tell(&mut tally, &format!("{fault:?} of an index"), told);
     }
-    for fault in biases::faults::FAULTS {
+    for fault in biases::faults::Fault::all() {
         let found = biases::faults::find(fault, count, seed);
         let told = found.map(|(seed, difference)| format!("seed {seed}: {difference}"));
         tell(&mut tally, &format!("{fault:?} of biases"), told);

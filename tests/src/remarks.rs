@@ -109,27 +109,19 @@ pub fn differs(outcome: &Outcome) -> Option<String> {
 
 // ---- planted faults ----
 
-/// A reader that lets one byte of a remark through.
-#[derive(Clone, Copy, Debug, PartialEq, Eq)]
-pub enum Leak {
-    /// A COMMENT's byte into a text, a value, or the column of a refusal.
-    CommentText,
-    CommentValue,
-    CommentColumn,
-    /// A byte of an aux block into the header, the line of a refusal, or what is needed.
-    AuxHeader,
-    AuxLine,
-    AuxNeeds,
+listed! {
+    /// A reader that lets one byte of a remark through.
+    pub enum Leak {
+        /// A COMMENT's byte into a text, a value, or the column of a refusal.
+        CommentText,
+        CommentValue,
+        CommentColumn,
+        /// A byte of an aux block into the header, the line of a refusal, or what is needed.
+        AuxHeader,
+        AuxLine,
+        AuxNeeds,
+    }
 }
-
-pub const LEAKS: [Leak; 6] = [
-    Leak::CommentText,
-    Leak::CommentValue,
-    Leak::CommentColumn,
-    Leak::AuxHeader,
-    Leak::AuxLine,
-    Leak::AuxNeeds,
-];
 
 /// The seed at which rewritten remarks show a leak, and how, within `count` seeds.
 pub fn find(leak: Leak, count: u64, seed: u64) -> Option<(u64, String)> {

@@ -403,62 +403,36 @@ fn report(library: &dyn Weeks, files: &[(MapSet, bool)]) -> Result<Vec<i64>, Str
 
 // ---- planted faults ----
 
-/// One thing wrong with the week.
-#[derive(Clone, Copy, Debug, PartialEq, Eq)]
-pub enum Fault {
-    /// 9999 counted as a value.
-    NoValueCounted,
-    AbsentMapLeftOut,
-    /// The smallest of a map without values is 0, and so counts for its kind.
-    SmallestOfNoneZero,
-    ExponentLeftOut,
-    KindsMixed,
-    HundredthRefused,
-    HundredAndFirstTaken,
-    RefusedCounted,
-    /// A condition on the week not looked at: counts, sum, range, its order, its width.
-    Trusted(usize),
-    RowsWhenRefused,
-    RowsTail,
-    /// The kind's row is that of its last map.
-    KindRow,
-    Need,
-    Area,
-    /// 31 told before 60, 11 before 31, 103 before 101.
-    InvalidFirst,
-    ShortFirst,
-    OwnOrder,
-    WeekTail,
-    PlaceTail,
-    PlaceWhenDone,
+listed! {
+    /// One thing wrong with the week.
+    pub enum Fault {
+        /// 9999 counted as a value.
+        NoValueCounted,
+        AbsentMapLeftOut,
+        /// The smallest of a map without values is 0, and so counts for its kind.
+        SmallestOfNoneZero,
+        ExponentLeftOut,
+        KindsMixed,
+        HundredthRefused,
+        HundredAndFirstTaken,
+        RefusedCounted,
+        /// A condition on the week not looked at: counts, sum, range, its order, its width.
+        Trusted(usize) in (0..5).map(Fault::Trusted),
+        RowsWhenRefused,
+        RowsTail,
+        /// The kind's row is that of its last map.
+        KindRow,
+        Need,
+        Area,
+        /// 31 told before 60, 11 before 31, 103 before 101.
+        InvalidFirst,
+        ShortFirst,
+        OwnOrder,
+        WeekTail,
+        PlaceTail,
+        PlaceWhenDone,
+    }
 }
-
-pub const FAULTS: [Fault; 24] = [
-    Fault::NoValueCounted,
-    Fault::AbsentMapLeftOut,
-    Fault::SmallestOfNoneZero,
-    Fault::ExponentLeftOut,
-    Fault::KindsMixed,
-    Fault::HundredthRefused,
-    Fault::HundredAndFirstTaken,
-    Fault::RefusedCounted,
-    Fault::Trusted(0),
-    Fault::Trusted(1),
-    Fault::Trusted(2),
-    Fault::Trusted(3),
-    Fault::Trusted(4),
-    Fault::RowsWhenRefused,
-    Fault::RowsTail,
-    Fault::KindRow,
-    Fault::Need,
-    Fault::Area,
-    Fault::InvalidFirst,
-    Fault::ShortFirst,
-    Fault::OwnOrder,
-    Fault::WeekTail,
-    Fault::PlaceTail,
-    Fault::PlaceWhenDone,
-];
 
 /// The seed and the difference at which the comparison with the library finds a fault, within `count` seeds.
 pub fn find(fault: Fault, count: u64, seed: u64) -> Option<(u64, String)> {

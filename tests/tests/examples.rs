@@ -44,8 +44,48 @@ fn sizes() {
     assert!(canon(cut).starts_with(b"refused 4 "));
 }
 
+/// The value that `with_own_values` puts at a place of an area.
+fn own_value(at: usize) -> i32 {
+    (at % 9973) as i32
+}
+
+/// The text with a value of its own at each place; those of the document are all alike, and would not show rows and
+/// columns that change places.
+fn with_own_values(text: &[u8]) -> Vec<u8> {
+    let text = String::from_utf8(text.to_vec()).unwrap();
+    let (mut changed, mut at) = (String::new(), 0);
+    for line in text.lines() {
+        if line.len() > 60 && !line.ends_with(|c: char| c.is_ascii_digit()) {
+            if line.ends_with("START OF RMS MAP") || line.ends_with("START OF HEIGHT MAP") {
+                // The maps of a kind stand one behind the other, so the first begins its area.
+                at *= usize::from(!line.starts_with("     1"));
+            }
+            changed += line;
+        } else {
+            let count = line.len() / 5;
+            changed.extend((at..at + count).map(|at| format!("{:>5}", own_value(at))));
+            at += count;
+        }
+        changed.push('\n');
+    }
+    changed.into_bytes()
+}
+
+/// The example with own values fills its areas in their order.
+fn in_order(library: &dyn Library, name: &str, lengths: [usize; 6]) {
+    let text = with_own_values(&bytes(name));
+    let mut areas = Buffers::filled(lengths, 1);
+    let answer = library.read(&text, &mut areas);
+    assert!(matches!(answer, Reading::Accepted { .. }), "{answer:?}");
+    for values in [&areas.tec, &areas.rms, &areas.height] {
+        let expected = (0..values.len()).map(own_value);
+        assert!(values.iter().copied().eq(expected), "{name}");
+    }
+}
+
 /// Reads an example of document 001 with areas of exactly the lengths needed.
 fn example(library: &dyn Library, name: &str, lengths: [usize; 6]) -> (Header, Buffers) {
+    in_order(library, name, lengths);
     let mut areas = Buffers::filled(lengths, 1);
     match library.read(&bytes(name), &mut areas) {
         Reading::Accepted { header, texts } => {

@@ -8,6 +8,11 @@ fn rec(body: &str, label: &str) -> String {
     format!("{body:<60}{label}\n")
 }
 
+/// The value of a place in the area: any two rows, columns or maps differ.
+fn value(at: usize) -> i32 {
+    (at % 99_991) as i32
+}
+
 /// The canonical text; map `i` starts at minute `i` (from 0) of 2000-01-01.
 fn text() -> String {
     let mut text = String::new();
@@ -37,8 +42,12 @@ fn text() -> String {
         for row in 0..50 {
             let opening = format!("     {}.{}   0.0 199.5   0.5   0.0", row / 10, row % 10);
             text += &rec(&opening, "LAT/LON1/LON2/DLON/H");
-            let line = format!("{:>5}", map * 50 + row).repeat(16) + "\n";
-            text += &line.repeat(25);
+            let first = (map * 50 + row) * 400;
+            for line in 0..25 {
+                let places = first + 16 * line..first + 16 * (line + 1);
+                text.extend(places.map(|at| format!("{:>5}", value(at))));
+                text.push('\n');
+            }
         }
         text += &rec(&number, "END OF TEC MAP");
     }
@@ -57,9 +66,10 @@ fn two_million_values() {
             panic!("{answer:?}");
         };
         assert_eq!(areas.tec[2_000_000], guard);
-        for (block, values) in areas.tec[..2_000_000].chunks(400).enumerate() {
-            assert!(values.iter().all(|&value| value == block as i32));
-        }
+        assert!(areas.tec[..2_000_000]
+            .iter()
+            .copied()
+            .eq((0..2_000_000).map(value)));
         let set = MapSet {
             header,
             texts,

@@ -6,80 +6,49 @@ use crate::archive::Archive;
 use second::fields;
 use second::Refusal;
 
-/// One thing wrong.
-#[derive(Clone, Copy, Debug, PartialEq, Eq)]
-pub enum Fault {
-    /// A blank letter as its own system; any letter; the number 0.
-    BlankOwn,
-    AnyLetter,
-    NumberZero,
-    /// A name of 19 bytes.
-    NameCut,
-    Swapped,
-    /// Given twice: looked for in its block only, in any system, or not at all.
-    WithinBlock,
-    AnySystem,
-    Twice,
-    /// On a line: 5 before 6, 7 before 6, the number before the letter.
-    FiveFirst,
-    SevenFirst,
-    NumberFirst,
-    /// Records of any aux block; a title at any column; one with more behind it.
-    AnyBlock,
-    TitleAnywhere,
-    TitlePrefix,
-    UnknownRefused,
-    /// START OF AUX DATA inside a block begins another.
-    StartInside,
-    /// Refusals of the blocks before those of the map reader.
-    BlocksFirst,
-    /// Columns marked X not looked at, behind the fields or before them.
-    BehindFree,
-    FrontFree,
-    Tenfold,
-    LetterColumn,
-    TwiceColumn,
-    // The boundary: needs in records, names looked at before stations, something left by a refusal, elements behind.
-    NeedRecords,
-    AreaOrder,
-    WhenRefused,
-    Tail,
-    CountsSwapped,
-    PlaceWhenDone,
-    OwnShort,
+listed! {
+    /// One thing wrong.
+    pub enum Fault {
+        /// A blank letter as its own system; any letter; the number 0.
+        BlankOwn,
+        AnyLetter,
+        NumberZero,
+        /// A name of 19 bytes.
+        NameCut,
+        Swapped,
+        /// Given twice: looked for in its block only, in any system, or not at all.
+        WithinBlock,
+        AnySystem,
+        Twice,
+        /// On a line: 5 before 6, 7 before 6, the number before the letter.
+        FiveFirst,
+        SevenFirst,
+        NumberFirst,
+        /// Records of any aux block; a title at any column; one with more behind it.
+        AnyBlock,
+        TitleAnywhere,
+        TitlePrefix,
+        UnknownRefused,
+        /// START OF AUX DATA inside a block begins another.
+        StartInside,
+        /// Refusals of the blocks before those of the map reader.
+        BlocksFirst,
+        /// Columns marked X not looked at, behind the fields or before them.
+        BehindFree,
+        FrontFree,
+        Tenfold,
+        LetterColumn,
+        TwiceColumn,
+        // The boundary: needs in records, names looked at before stations, something left by a refusal, elements behind.
+        NeedRecords,
+        AreaOrder,
+        WhenRefused,
+        Tail,
+        CountsSwapped,
+        PlaceWhenDone,
+        OwnShort,
+    }
 }
-
-pub const FAULTS: [Fault; 29] = [
-    Fault::BlankOwn,
-    Fault::AnyLetter,
-    Fault::NumberZero,
-    Fault::NameCut,
-    Fault::Swapped,
-    Fault::WithinBlock,
-    Fault::AnySystem,
-    Fault::Twice,
-    Fault::FiveFirst,
-    Fault::SevenFirst,
-    Fault::NumberFirst,
-    Fault::AnyBlock,
-    Fault::TitleAnywhere,
-    Fault::TitlePrefix,
-    Fault::UnknownRefused,
-    Fault::StartInside,
-    Fault::BlocksFirst,
-    Fault::BehindFree,
-    Fault::FrontFree,
-    Fault::Tenfold,
-    Fault::LetterColumn,
-    Fault::TwiceColumn,
-    Fault::NeedRecords,
-    Fault::AreaOrder,
-    Fault::WhenRefused,
-    Fault::Tail,
-    Fault::CountsSwapped,
-    Fault::PlaceWhenDone,
-    Fault::OwnShort,
-];
 
 /// The seed and the difference at which the comparison with the library finds a fault, within `count` seeds.
 pub fn find(fault: Fault, count: u64, seed: u64) -> Option<(u64, String)> {

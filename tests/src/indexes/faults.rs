@@ -8,86 +8,51 @@ use crate::rng::Rng;
 use second::index::Node;
 use second::maps::{Grid, KINDS};
 
-/// One thing wrong with an index, or with what is answered by it.
-#[derive(Clone, Copy, Debug, PartialEq, Eq)]
-pub enum Fault {
-    // Making.
-    PositionOff,
-    AbsentPosition,
-    ExponentOff,
-    KindsSwapped,
-    MarkLost,
-    Need,
-    AreaOrder,
-    EntriesWhenRefused,
-    EntriesTail,
-    HeaderWhenRefused,
-    MakeLine,
-    // The entry: LAT, LON1, LON2 and DLON, or H in dimension 3 not compared, H in dimension 2 compared.
-    Latitude,
-    Longitudes,
-    Height3,
-    Height2,
-    ExponentNotTested,
-    /// A blank line at the position skipped.
-    BlankFirst,
-    /// Only the values up to the column's line looked at.
-    LaterValues,
-    /// A blank line of any length or bytes in the block.
-    LongBlank,
-    AbsentAnswered,
-    NoValueRefused,
-    Scaled,
-    MapFromZero,
-    NextColumn,
-    /// 21 told before 31, 22 before 21.
-    OutsideFirst,
-    AbsentFirst,
-    FoundWhenRefused,
-    FoundTail,
-    // The block's lines.
-    WithLineEnd,
-    Trimmed,
-    ColumnFree,
-    BoundsWhenRefused,
-    BoundsTail,
+listed! {
+    /// One thing wrong with an index, or with what is answered by it.
+    pub enum Fault {
+        // Making.
+        PositionOff,
+        AbsentPosition,
+        ExponentOff,
+        KindsSwapped,
+        MarkLost,
+        Need,
+        AreaOrder,
+        EntriesWhenRefused,
+        EntriesTail,
+        HeaderWhenRefused,
+        MakeLine,
+        // The entry: LAT, LON1, LON2 and DLON, or H in dimension 3 not compared, H in dimension 2 compared.
+        Latitude,
+        Longitudes,
+        Height3,
+        Height2,
+        ExponentNotTested,
+        /// A blank line at the position skipped.
+        BlankFirst,
+        /// Only the values up to the column's line looked at.
+        LaterValues,
+        /// A blank line of any length or bytes in the block.
+        LongBlank,
+        AbsentAnswered,
+        NoValueRefused,
+        Scaled,
+        MapFromZero,
+        NextColumn,
+        /// 21 told before 31, 22 before 21.
+        OutsideFirst,
+        AbsentFirst,
+        FoundWhenRefused,
+        FoundTail,
+        // The block's lines.
+        WithLineEnd,
+        Trimmed,
+        ColumnFree,
+        BoundsWhenRefused,
+        BoundsTail,
+    }
 }
-
-pub const FAULTS: [Fault; 33] = [
-    Fault::PositionOff,
-    Fault::AbsentPosition,
-    Fault::ExponentOff,
-    Fault::KindsSwapped,
-    Fault::MarkLost,
-    Fault::Need,
-    Fault::AreaOrder,
-    Fault::EntriesWhenRefused,
-    Fault::EntriesTail,
-    Fault::HeaderWhenRefused,
-    Fault::MakeLine,
-    Fault::Latitude,
-    Fault::Longitudes,
-    Fault::Height3,
-    Fault::Height2,
-    Fault::ExponentNotTested,
-    Fault::BlankFirst,
-    Fault::LaterValues,
-    Fault::LongBlank,
-    Fault::AbsentAnswered,
-    Fault::NoValueRefused,
-    Fault::Scaled,
-    Fault::MapFromZero,
-    Fault::NextColumn,
-    Fault::OutsideFirst,
-    Fault::AbsentFirst,
-    Fault::FoundWhenRefused,
-    Fault::FoundTail,
-    Fault::WithLineEnd,
-    Fault::Trimmed,
-    Fault::ColumnFree,
-    Fault::BoundsWhenRefused,
-    Fault::BoundsTail,
-];
 
 /// The seed and the difference at which the comparison with the library finds a fault, within `count` seeds.
 pub fn find(fault: Fault, count: u64, seed: u64) -> Option<(u64, String)> {
