@@ -18,7 +18,7 @@ use Rattle.mapset.specs.declared.Texts.{Texts}
 use Rattle.mapset.specs.MapSet.{MapSet}
 use Rattle.mapset.specs.Grid.{Line, AxisRules}
 use Rattle.mapset.specs.Header.{count, axis, Said, a-count, a-axis, starred}
-use Rattle.layout.specs.Text.{pad, Printable}
+use Rattle.layout.specs.Text.{pad}
 use Rattle.layout.specs.Layout.{Slots, Mode, plain, mode}
 use Rattle.lines.specs.Leads.{LeadsRow, after-all}
 use Rattle.lines.specs.Lines.{Skips, Rows}
