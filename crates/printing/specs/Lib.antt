@@ -1,3 +1,4 @@
 -- What the program prints.
 pub mod Printed
 pub mod Exactly
+pub mod Said
