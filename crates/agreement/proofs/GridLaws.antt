@@ -8,12 +8,14 @@ use native.Mathlib.Omega.{arith}
 use lib.Dec.{eqb}
 use lib.IntN.{ℤ, pos, negsuc, natAbs}
 use lib.Signed.{ltZ}
-use Rattle.kit.specs.Answer.{⊎-dec, pick-yes, pick-no}
-use Rattle.kit.specs.Integer.{int?}
-use Rattle.kit.specs.Parts.{up, not-below-zero, below-zero, lt-true, lt-false}
+use Rattle.kit.specs.Answer.{⊎-dec}
+use Rattle.kit.proofs.AnswerLaws.{pick-yes, pick-no}
+use Rattle.kit.specs.Integer.{int?, up}
+use Rattle.kit.proofs.Parts.{not-below-zero, below-zero, lt-true, lt-false}
 use Rattle.mapset.specs.declared.Axis.{Axis}
 use Rattle.agreement.specs.Agreement.{differing}
-use Rattle.kit.specs.Truth.{truth, holds, fails, truth-same, truth-true, truth-false, eq-tells}
+use Rattle.kit.specs.Truth.{truth}
+use Rattle.kit.proofs.TruthLaws.{holds, fails, truth-same, truth-true, truth-false, eq-tells}
 
 -- ---- a number that is not negative
 

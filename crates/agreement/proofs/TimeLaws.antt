@@ -7,7 +7,8 @@ use native.Mathlib.Decide.{ℕ-discrete}
 use native.Mathlib.Omega.{arith}
 use lib.ListN.{length, getD}
 use lib.Dec.{eqb}
-use Rattle.kit.specs.Truth.{truth, holds, fails, truth-true, truth-false, truth-same, eq-tells}
+use Rattle.kit.specs.Truth.{truth}
+use Rattle.kit.proofs.TruthLaws.{holds, fails, truth-true, truth-false, truth-same, eq-tells}
 use Rattle.mapset.specs.declared.Header.{Header}
 use Rattle.mapset.specs.Decisions.{follows?}
 use Rattle.reading.specs.Maps.{after?, in-time?}

@@ -8,7 +8,7 @@ use native.Mathlib.Nat.{mul-assoc, mul-le-mul}
 use lib.IntN.{ℤ}
 use lib.ListN.{length, getD, take, drop, length-drop, drop-of-length-le}
 use lib.Seq.{drop-cons, drop-drop, getD-take, length-take-le}
-use Rattle.kit.specs.Answer.{pick-no}
+use Rattle.kit.proofs.AnswerLaws.{pick-no}
 use Rattle.mapset.specs.declared.Kind.{Kind}
 use Rattle.mapset.specs.declared.Header.{Header}
 use Rattle.mapset.specs.Grid.{columns}
@@ -16,7 +16,7 @@ use Rattle.mapset.specs.MapSet.{Block}
 use Rattle.mapset.specs.Areas.{Present, present?, Nowhere, nowhere?}
 use Rattle.layout.specs.Layout.{per-map}
 use Rattle.rows.specs.Put.{Room, Put, Leads}
-use Rattle.rows.specs.PutLaws.{put-none, room-front, leads-self, leads-on}
+use Rattle.rows.proofs.PutLaws.{put-none, room-front, leads-self, leads-on}
 use Rattle.valid.specs.Groups.{kind-need, Holds}
 use Rattle.valid.proofs.Whole.{take-drop-take}
 use Rattle.onemap.specs.OneMap.{map-blocks, slot-blocks, slot-map, slot-force}

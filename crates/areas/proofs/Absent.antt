@@ -9,8 +9,9 @@ use native.Mathlib.Omega.{arith}
 use lib.ListN.{length, replicate, drop, length-replicate}
 use lib.Seq.{take-at, drop-at}
 use lib.IntN.{ℤ}
-use Rattle.kit.specs.Answer.{All, pick-no}
-use Rattle.kit.specs.ListLaws.{all-replicate}
+use Rattle.kit.specs.Answer.{All}
+use Rattle.kit.proofs.AnswerLaws.{pick-no}
+use Rattle.kit.proofs.ListLaws.{all-replicate}
 use Rattle.mapset.specs.declared.Kind.{Kind}
 use Rattle.mapset.specs.declared.Kind.the-variants.{Tec}
 use Rattle.mapset.specs.MapSet.{Block, Maps}

@@ -10,8 +10,9 @@ use native.Mathlib.Nat.{suc-mul, zero-mul, add-mul}
 use lib.ListN.{length, replicate, take, drop, length-drop, take-append-drop}
 use lib.Seq.{length-take-le}
 use lib.IntN.{ℤ, pos, negsuc}
-use Rattle.kit.specs.Answer.{All, pick, pick-yes, pick-no, pick-elim}
-use Rattle.kit.specs.ListLaws.{all-take, all-drop, all-both}
+use Rattle.kit.specs.Answer.{All, pick}
+use Rattle.kit.proofs.AnswerLaws.{pick-yes, pick-no, pick-elim}
+use Rattle.kit.proofs.ListLaws.{all-take, all-drop, all-both}
 use Rattle.mapset.specs.declared.Kind.{Kind}
 use Rattle.mapset.specs.MapSet.{Block}
 use Rattle.mapset.specs.Areas.{Present, present?, Nowhere}

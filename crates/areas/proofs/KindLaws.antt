@@ -6,8 +6,9 @@ use Prim.Native.Nat.{ℕ, _*_, _≤_}
 use native.Mathlib.Omega.{arith}
 use native.Mathlib.Decide.{ℕ-discrete}
 use lib.ListN.{length, replicate, length-map, length-replicate}
-use Rattle.kit.specs.Answer.{All, pick-yes, pick-no, pick-elim}
-use Rattle.kit.specs.ListLaws.{all-turn, all-map, all-replicate}
+use Rattle.kit.specs.Answer.{All}
+use Rattle.kit.proofs.AnswerLaws.{pick-yes, pick-no, pick-elim}
+use Rattle.kit.proofs.ListLaws.{all-turn, all-map, all-replicate}
 use Rattle.mapset.specs.MapSet.{Block, OtherMap}
 use Rattle.areas.specs.Lists.{flat}
 use Rattle.areas.specs.Flat.{found, absent-block, or-absent, Slots, slots, reads, values-of, exponents-of}

@@ -7,7 +7,7 @@ use native.Mathlib.Nat.{suc-mul, zero-mul}
 use mathlib.Core.List.{List, [], _∷_, _++_, map, append-assoc}
 use lib.ListN.{length, replicate, take, drop, length-append, length-drop, take-append-drop, length-replicate}
 use lib.Seq.{take-at, drop-at, length-take-le}
-use Rattle.kit.specs.ListLaws.{all-append, all-take, all-drop}
+use Rattle.kit.proofs.ListLaws.{all-append, all-take, all-drop}
 use Rattle.kit.specs.Answer.{All}
 use Rattle.areas.specs.Lists.{flat, chop, tab, zipw}
 use Rattle.areas.specs.Stores.{fill}

@@ -13,7 +13,7 @@ use Rattle.mapset.specs.Header.{Content, count, system, contents, Said, number,
 use Rattle.mapset.specs.MapSet.{MapSet}
 use Rattle.layout.specs.Labels.{content}
 use Rattle.layout.specs.Layout.{Slots, Mode, Heads, h-description, h-comment, h-exponent, h-field, h-system, h-aux, h-skip, h-back, h-end}
-use Rattle.reading.specs.SlotLaws.{system-content}
+use Rattle.reading.proofs.SlotLaws.{system-content}
 
 -- where a record is left to be written, it is one that is accepted
 abbrev Fit : Content → Option Said → Type 0

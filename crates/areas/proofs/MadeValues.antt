@@ -7,9 +7,9 @@ use native.Mathlib.Omega.{arith}
 use native.Mathlib.Nat.{mul-assoc, mul-le-mul-right}
 use lib.ListN.{length, replicate, length-append, length-replicate}
 use lib.IntN.{ℤ, pos, negℤ}
-use Rattle.kit.specs.ListLaws.{all-append}
+use Rattle.kit.proofs.ListLaws.{all-append}
 use Rattle.kit.specs.Answer.{All}
-use Rattle.kit.specs.Parts.{neg-up, neg-dn, le-parts}
+use Rattle.kit.proofs.Parts.{neg-up, neg-dn, le-parts}
 use Rattle.forms.specs.Form as form
 use Rattle.forms.specs.Form.{Spells, Digit, numeral, sign, signed, pointed}
 use Rattle.layout.specs.Records.{Cells, c-blank, c-value, ValueRows, v-last, v-full}

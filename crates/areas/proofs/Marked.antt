@@ -7,7 +7,8 @@ use Prim.Native.Nat.{ℕ, zero, suc, _-_, _<_}
 use native.Mathlib.Omega.{arith}
 use lib.ListN.{length, replicate, set, getD, length-append, length-set}
 use lib.Seq.{set-at, append-snoc, set-getD}
-use Rattle.kit.specs.Answer.{All, pick-yes, pick-no}
+use Rattle.kit.specs.Answer.{All}
+use Rattle.kit.proofs.AnswerLaws.{pick-yes, pick-no}
 use Rattle.mapset.specs.declared.Kind.{Kind}
 use Rattle.mapset.specs.declared.Kind.the-variants.{Tec, Rms, Height}
 use Rattle.mapset.specs.MapSet.{Block, TecMap}

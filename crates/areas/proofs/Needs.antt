@@ -6,9 +6,10 @@ use mathlib.Core.List.{List, [], _∷_}
 use Prim.Native.Nat.{ℕ, _*_}
 use native.Mathlib.Omega.{arith}
 use lib.ListN.{length, length-append, length-map}
-use Rattle.kit.specs.Answer.{All, pick, pick-yes, pick-no}
-use Rattle.kit.specs.ListLaws.{all-map}
-use Rattle.kit.specs.TruthLaws.{clash}
+use Rattle.kit.specs.Answer.{All, pick}
+use Rattle.kit.proofs.AnswerLaws.{pick-yes, pick-no}
+use Rattle.kit.proofs.ListLaws.{all-map}
+use Rattle.kit.proofs.TruthLaws.{clash}
 use Rattle.mapset.specs.declared.Kind.{Kind}
 use Rattle.mapset.specs.declared.Kind.the-variants.{Tec, Rms, Height}
 use Rattle.mapset.specs.MapSet.{OtherMap, Maps, MapSet}

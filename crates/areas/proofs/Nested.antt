@@ -9,8 +9,9 @@ use native.Mathlib.Nat.{mul-one}
 use lib.ListN.{length, replicate, take, drop, length-map}
 use lib.Seq.{take-at, drop-at, take-all, drop-drop}
 use lib.IntN.{ℤ, pos, negsuc}
-use Rattle.kit.specs.ListLaws.{all-append, all-turn, all-map}
-use Rattle.kit.specs.Answer.{All, pick-yes, pick-no}
+use Rattle.kit.proofs.ListLaws.{all-append, all-turn, all-map}
+use Rattle.kit.specs.Answer.{All}
+use Rattle.kit.proofs.AnswerLaws.{pick-yes, pick-no}
 use Rattle.mapset.specs.declared.Kind.{Kind}
 use Rattle.mapset.specs.declared.Kind.the-variants.{Tec, Rms, Height}
 use Rattle.mapset.specs.MapSet.{Block, OtherMap, Maps}

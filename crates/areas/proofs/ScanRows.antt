@@ -9,7 +9,7 @@ use native.Mathlib.Decide.{ℕ-discrete}
 use lib.ListN.{length, length-append}
 use lib.IntN.{ℤ, pos}
 use Rattle.kit.specs.Answer.{pick, same, sames}
-use Rattle.calendar.specs.FieldLaws.{dated-of}
+use Rattle.calendar.proofs.FieldLaws.{dated-of}
 use Rattle.mapset.specs.declared.Kind.{Kind}
 use Rattle.mapset.specs.declared.Kind.the-variants.{Tec, Rms, Height}
 use Rattle.mapset.specs.declared.Header.{Header}
@@ -20,7 +20,7 @@ use Rattle.layout.specs.Labels.{name, version, exponent, epoch, block, start, R
 use Rattle.layout.specs.Layout.{Force, under, Other, Left, nothing, maps, early, blocks, Date, DateOf, per-map, Writes, w-end, w-comment, w-exponent, w-tec, w-epoch, w-other, w-again, w-block, w-close, w-file}
 use Rattle.reading.specs.Fields.{lookup, label}
 use Rattle.reading.specs.Maps.{on-row}
-use Rattle.reading.specs.RecordLaws.{Known, known-maps, rec-label, rec-fields, cells-of}
+use Rattle.reading.proofs.RecordLaws.{Known, known-maps, rec-label, rec-fields, cells-of}
 use Rattle.areas.specs.Events as event
 use Rattle.areas.specs.Events.{told}
 use Rattle.areas.specs.Scan.{Now, now, or-else, exponent-in, number-in, second-of, epoch-in, values-ahead, brought}

@@ -5,15 +5,16 @@ use Prim.Native.Nat.{ℕ, _*_, _≤_}
 use native.Mathlib.Omega.{arith}
 use lib.ListN.{length, drop}
 use lib.IntN.{ℤ, negsuc}
-use Rattle.kit.specs.Answer.{pick-yes, pick-no, same}
+use Rattle.kit.proofs.AnswerLaws.{pick-yes, pick-no}
+use Rattle.kit.specs.Answer.{same}
 use Rattle.mapset.specs.declared.Kind.the-variants.{Tec, Rms, Height}
 use Rattle.mapset.specs.declared.Header.{Header}
 use Rattle.mapset.specs.Grid.{columns}
 use Rattle.mapset.specs.MapSet.{OtherMap, MapSet}
 use Rattle.mapset.specs.Areas.{Areas, Room}
 use Rattle.layout.specs.Labels.{name, aux-end}
-use Rattle.layout.specs.Layout.{Force, maps, per-map, Writes, Slots, Mode, plain, Heads, h-description, h-comment, h-exponent, h-field, h-system, h-aux, h-skip, h-back, h-end, Rows, rows-of, begins}
-use Rattle.reading.specs.RecordLaws.{known-head, known-heads, known-maps, rec-label, rec-name}
+use Rattle.layout.specs.Layout.{maps, per-map, Writes, Slots, Mode, plain, Heads, h-description, h-comment, h-exponent, h-field, h-system, h-aux, h-skip, h-back, h-end, Rows, rows-of, begins}
+use Rattle.reading.proofs.RecordLaws.{known-head, known-heads, known-maps, rec-label, rec-name}
 use Rattle.areas.specs.Flat.{slots, reads, values-of, wanted, areas-of, areas}
 use Rattle.areas.specs.Formed.{Rising, Formed}
 use Rattle.areas.specs.Events.{Event, told}

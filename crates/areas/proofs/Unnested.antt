@@ -7,8 +7,9 @@ use native.Mathlib.Omega.{arith}
 use lib.ListN.{length, take, drop, length-drop, take-append-drop}
 use lib.Seq.{take-all, length-take-le, drop-drop}
 use lib.IntN.{ℤ, pos, negsuc}
-use Rattle.kit.specs.Answer.{All, pick, pick-yes, pick-no}
-use Rattle.kit.specs.ListLaws.{all-take, all-drop}
+use Rattle.kit.specs.Answer.{All, pick}
+use Rattle.kit.proofs.AnswerLaws.{pick-yes, pick-no}
+use Rattle.kit.proofs.ListLaws.{all-take, all-drop}
 use Rattle.mapset.specs.declared.Kind.{Kind}
 use Rattle.mapset.specs.declared.Kind.the-variants.{Tec, Rms, Height}
 use Rattle.mapset.specs.MapSet.{Block, OtherMap}

@@ -22,10 +22,7 @@ use Rattle.areas.specs.Valid.{needed, Valid}
 use Rattle.areas.proofs.Needs.{needs}
 use Rattle.areas.proofs.Unnested.{Sixfold, epochs-back, nest-rules, areas-nest}
 use Rattle.areas.proofs.Nested.{areas-sixfold, nest-areas}
-
--- the map set of valid lists
-abbrev pub nested : Header → Texts → Areas → MapSet
-nested h t a = record { header = h; texts = t; maps = nest (h .times .maps) (per-map h) (columns (h .grid)) (needed h a) }
+use Rattle.areas.specs.Nesting.{nested}
 
 module _ (h : Header) (t : Texts) (a : Areas) (v : Valid h t a) where
   whole : Sixfold (h .times .maps) (per-map h) (columns (h .grid)) (needed h a)
@@ -117,6 +114,7 @@ areas-once m m′ f f′ p q e =
     }
 
 -- what reading leaves in longer areas is valid, with the map set's own lists in front
+
 module _ (m : MapSet) (f : Formed m) (l : Areas) where
   pub needed-fronts : needed (m .header) (fronts (areas m) l) ≡ areas m
   unfolding needed fronts

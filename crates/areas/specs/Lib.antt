@@ -12,3 +12,4 @@ pub mod Scan
 pub mod Nest
 pub mod Valid
 pub mod ValidDecided
+pub mod Nesting

@@ -11,8 +11,7 @@ use Rattle.mapset.specs.declared.Header.{Header}
 use Rattle.mapset.specs.declared.Texts.{Texts}
 use Rattle.mapset.specs.Grid.{columns}
 use Rattle.mapset.specs.Areas.{Areas, present?, blocks, Sound}
-use Rattle.layout.specs.Layout.{Exponent, per-map}
-use Rattle.reading.specs.Maps.{exponent?}
+use Rattle.layout.specs.Layout.{Exponent, per-map, exponent?}
 use Rattle.areas.specs.Formed.{Value}
 use Rattle.areas.specs.Nest.{third}
 use Rattle.areas.specs.Valid.{needed, values-in, Blank, Valid}

@@ -1,3 +1,1 @@
 pub mod AskDelay
-pub mod AskDelayLaws
-pub mod Once

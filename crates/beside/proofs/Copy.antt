@@ -1,13 +1,13 @@
 -- A copy turn by turn, and what several copies one behind the other leave.
 use mathlib.Core.Path.{_≡_, refl, _∙_, ap, sym}
 use mathlib.Core.Bool.{Bool, true, false, cond}
-use mathlib.Core.List.{List, [], _∷_, _++_, append-assoc, append-nil}
+use mathlib.Core.List.{List, [], _∷_, _++_, append-assoc}
 use Prim.Native.Nat.{ℕ, suc, zero, _+_, _-_, _*_, _≤_, _<_}
 use native.Mathlib.Numerals.{add-one}
 use native.Mathlib.Omega.{arith}
 use lib.IntN.{ℤ, pos}
 use lib.ListN.{length, getD, take, drop, set, replicate, length-set, length-append, length-drop, length-replicate}
-use lib.Seq.{paste, paste-zero, paste-suc, length-paste, take-at, drop-at, drop-drop, length-take-le, take-all, take-take}
+use lib.Seq.{paste, paste-zero, paste-suc, take-at, drop-at, drop-drop, length-take-le, take-all, take-take}
 use Rattle.kit.specs.Lists.{front}
 use Rattle.mapset.specs.declared.Kind.{Kind}
 use Rattle.mapset.specs.declared.Kind.the-variants.{Tec, Rms, Height}

@@ -1,10 +1,9 @@
 -- Biases as they cross to other languages: a number, the three areas, and two areas of the call's own, of two elements each.
-use mathlib.Core.Path.{_≡_, sym, ap, _∙_}
 use mathlib.Core.List.{List, [], _∷_}
-use Prim.Native.Nat.{ℕ, _≤_}
+use Prim.Native.Nat.{ℕ}
 use native.Mathlib.Decide.{decLe}
 use lib.ListN.{length}
-use Rattle.kit.specs.Answer.{pick, ×-dec, pick-yes, pick-no}
+use Rattle.kit.specs.Answer.{pick, ×-dec}
 use Rattle.kit.specs.Lists.{front}
 use Rattle.outcome.specs.Outcome as maps
 use Rattle.biasfill.specs.Flat.{Lent}
@@ -41,16 +40,3 @@ crosses o n p = crossed (told-number (o .told)) (o .areas) (front (told-counts (
 -- 103 where one of the call's own areas has fewer than two elements, with nothing written
 unfoldable pub biases-crossed : List ℕ → Lent → List ℕ → List ℕ → Crossed
 biases-crossed t l n p = pick (×-dec (decLe 2 (length n)) (decLe 2 (length p))) (crosses (outcome t l) n p) (crossed 103 l n p)
-
-pub cross-short : (t : List ℕ) (l : Lent) (n p : List ℕ) → ¬ ((2 ≤ length n) × (2 ≤ length p)) → crossed 103 l n p ≡ biases-crossed t l n p
-unfolding biases-crossed
-cross-short t l n p h = sym (pick-no (×-dec (decLe 2 (length n)) (decLe 2 (length p))) _ _ h)
-
-pub cross-answer : (t : List ℕ) (l : Lent) (n p : List ℕ) → (2 ≤ length n) × (2 ≤ length p) → (o : Outcome) → o ≡ outcome t l
-    → crossed (told-number (o .told)) (o .areas) (front (told-counts (o .told)) n) (front (told-place (o .told)) p) ≡ biases-crossed t l n p
-unfolding biases-crossed crosses
-cross-answer t l n p h o e = ap (λ (x : Outcome). crosses x n p) e ∙ sym (pick-yes (×-dec (decLe 2 (length n)) (decLe 2 (length p))) _ _ h)
-
--- no second answer
-pub ionex-biases-once : (t : List ℕ) (l : Lent) (n p : List ℕ) (a b : Crossed) → a ≡ biases-crossed t l n p → b ≡ biases-crossed t l n p → a ≡ b
-ionex-biases-once t l n p a b e f = e ∙ sym f

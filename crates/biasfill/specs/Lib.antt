@@ -1,4 +1,3 @@
 -- Biases in three lent areas, and the scan that stores them.
 pub mod Flat
 pub mod Filled
-pub mod FilledLaws

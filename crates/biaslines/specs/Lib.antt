@@ -1,3 +1,2 @@
 -- What a line of a header says of biases, by what the code looks at.
 pub mod Lines
-pub mod LineLaws

@@ -1,6 +1,6 @@
 -- What the code answers of a line, and the fields that it looks at.
 use mathlib.Core.List.{List}
-use Prim.Native.Nat.{ℕ, suc, _+_}
+use Prim.Native.Nat.{ℕ, _+_}
 use native.Mathlib.Decide.{ℕ-discrete}
 use lib.IntN.{ℤ}
 use Rattle.kit.specs.Answer.{Answer, ok, refused, pick, ⊎-dec}
@@ -10,8 +10,7 @@ use Rattle.forms.specs.Columns.{columns}
 use Rattle.forms.specs.declared.Field.{Field}
 use Rattle.forms.specs.declared.Found.{Found}
 use Rattle.reading.specs.Feed.{Fault, fault}
-use Rattle.reading.specs.Fields.{number}
-use Rattle.reading.specs.ScanLaws.{unless, blank-to}
+use Rattle.reading.specs.Fields.{number, unless, blank-to}
 use Rattle.biases.specs.declared.Satellite.{Satellite}
 use Rattle.biases.specs.declared.Station.{Station}
 use Rattle.biaslines.specs.declared.Pair.{Pair}

@@ -5,7 +5,7 @@ use Prim.Native.Nat.{ℕ, suc, _+_, _-_, _≤_, _<_}
 use lib.ListN.{length, take, drop}
 use Rattle.kit.specs.Answer.{Answer, ok, refused, All}
 use Rattle.layout.specs.Text.{pad}
-use Rattle.reading.specs.Feed.{Fault, why, Feed, over, bad, row, split, feed, NoRow}
+use Rattle.reading.specs.Feed.{Fault, why, Feed, row, split, feed, NoRow}
 use Rattle.biases.specs.Biases.{Biases, SameStation}
 use Rattle.biases.specs.Read.{role, same-station?, gather}
 use Rattle.biases.specs.declared.Station.{Station}

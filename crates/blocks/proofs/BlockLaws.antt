@@ -8,9 +8,9 @@ use mathlib.Core.List.{List, [], _∷_, _++_, append-assoc, append-nil}
 use lib.ListN.{length, take, drop, length-drop, length-take, length-append, take-append-drop}
 use lib.Seq.{drop-drop, take-at, take-all}
 use lib.IntN.{ℤ}
-use Rattle.kit.specs.Answer.{Answer, ok, refused, need, bind, amap, pick-yes}
-use Rattle.kit.specs.AnswerLaws.{amap-amap, amap-same}
-use Rattle.kit.specs.TruthLaws.{clash}
+use Rattle.kit.specs.Answer.{Answer, ok, refused, need, bind, amap}
+use Rattle.kit.proofs.AnswerLaws.{pick-yes, amap-amap, amap-same}
+use Rattle.kit.proofs.TruthLaws.{clash}
 use Rattle.forms.specs.Form.{I}
 use Rattle.forms.specs.Read.{readField}
 use Rattle.forms.specs.declared.Field.{Field}
@@ -20,9 +20,8 @@ use Rattle.reading.specs.Feed.{Fault, Why, why, on-line, Feed, over, bad, row, 
 use Rattle.reading.specs.Fields.{number, blank, cells}
 use Rattle.reading.specs.Maps.{short, on-row}
 use Rattle.lines.specs.Lines.{Stands, Skips, Rows}
-use Rattle.values.specs.Values.{Okay, listOf}
+use Rattle.values.specs.Values.{Okay, listOf, Judges}
 use Rattle.blocks.specs.Blocks.{values, Done, Filled}
-use Rattle.values.specs.Values.{Judges}
 use Rattle.blocks.specs.Steps.{Moved, Stepped, Puts, Turned}
 use Rattle.values.specs.declared.Cells.{Cells}
 use Rattle.values.specs.declared.Cells.the-variants.{Fine, Wrong}

@@ -1,4 +1,3 @@
 -- What the code answers of a block's values, by what `reading` says of them.
 pub mod Blocks
-pub mod RunLaws
 pub mod Steps

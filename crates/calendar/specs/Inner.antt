@@ -1,6 +1,5 @@
 -- What the private functions promise.
 use mathlib.Core.Path.{_≡_}
-use mathlib.Core.Bool.{Bool, true, false}
 use Prim.Native.Nat.{ℕ, _<_}
 use lib.IntN.{ℤ, pos, negsuc, _+ℤ_}
 use Rattle.kit.specs.Answer.{Answer, ok, refused, All}

@@ -14,14 +14,13 @@ use Rattle.mapset.specs.declared.Texts.{Texts}
 use Rattle.mapset.specs.MapSet.{MapSet}
 use Rattle.mapset.specs.Areas.{Areas}
 use Rattle.areas.specs.Flat.{areas}
-use Rattle.areas.specs.Formed.{Formed}
 use Rattle.needs.specs.Needs.{needed-and-lent, first-short}
 use Rattle.given.specs.Given.{header-of, texts-of}
 use Rattle.join.specs.Join.{joined}
-use Rattle.join.specs.JoinedFormed.{joined-formed}
+use Rattle.join.proofs.JoinedFormed.{joined-formed}
 use Rattle.join.specs.Into.{Lent, lent-of, meaning, Why, with-room, lent-join, join-into}
-use Rattle.join.specs.IntoExactly.{LentJoins, not-valid, not-alike, not-met, too-many, given, lent-exactly}
-use Rattle.joining.specs.Joined.{told-why, comes, came}
+use Rattle.join.proofs.IntoExactly.{LentJoins, not-valid, not-alike, not-met, too-many, given, lent-exactly}
+use Rattle.joining.specs.Joined.{comes, came}
 use Rattle.joining.specs.declared.Joining.{Joining}
 use Rattle.joining.specs.declared.Joining.the-variants.{Done, Refused}
 use Rattle.crossing.specs.Own.{too-short, lesser, shortest}

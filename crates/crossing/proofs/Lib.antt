@@ -2,3 +2,5 @@ pub mod OwnLaws
 pub mod ReadLaws
 pub mod WriteLaws
 pub mod JoinLaws
+pub mod Once
+pub mod Back

@@ -1,9 +1,10 @@
 -- A call's own areas: long enough where 0 is told.
-use mathlib.Core.Path.{_≡_, sym}
+use mathlib.Core.Path.{_≡_}
 use Prim.Native.Nat.{ℕ, _≤_, _<_}
 use native.Mathlib.Omega.{arith}
 use native.Mathlib.Decide.{ℕ-discrete, decLe}
-use Rattle.kit.specs.Answer.{pick, pick-yes, pick-no}
+use Rattle.kit.specs.Answer.{pick}
+use Rattle.kit.proofs.AnswerLaws.{pick-yes, pick-no}
 use Rattle.crossing.specs.Own.{too-short, unless}
 
 pub record Fit (h x r n : ℕ) : Type 0 where

@@ -14,12 +14,11 @@ use Rattle.mapset.specs.MapSet.{MapSet}
 use Rattle.mapset.specs.Areas.{Areas}
 use Rattle.reading.specs.Feed.{Why}
 use Rattle.reading.specs.Read.{read}
-use Rattle.reading.specs.Exact.{made-read}
+use Rattle.reading.proofs.Exact.{made-read}
 use Rattle.areas.specs.Formed.{Formed}
 use Rattle.kit.specs.Lists.{front}
 use Rattle.areas.proofs.Made.{made-formed}
-use Rattle.outcome.specs.Outcome.{accepted, with-room, outcome-of, outcome, told, told-reason, comes}
-use Rattle.outcome.specs.Outcome.{told-number, told-place}
+use Rattle.outcome.specs.Outcome.{accepted, with-room, outcome-of, outcome, told, told-reason, comes, told-number, told-place}
 use Rattle.crossing.specs.Own.{too-short}
 use Rattle.crossing.proofs.OwnLaws.{unless-none, unless-short}
 use Rattle.crossing.specs.ReadExported.{told-header, told-texts, Small, crossed, crosses, read-crossed}

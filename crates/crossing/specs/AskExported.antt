@@ -1,14 +1,12 @@
 -- Asking as it crosses to other languages: a number, and an area of the call's own for the value.
-use mathlib.Core.Path.{_≡_, refl, sym, _∙_}
+use mathlib.Core.Path.{_≡_}
 use mathlib.Core.List.{List, [], _∷_}
 use Prim.Native.Nat.{ℕ, _≤_}
-use native.Mathlib.Omega.{arith}
 use lib.IntN.{ℤ}
 use lib.ListN.{length}
 use Rattle.mapset.specs.Areas.{Areas}
 use Rattle.kit.specs.Lists.{front}
 use Rattle.asker.specs.Ask.{Question, question, Told, tecu, km, refused, Answers}
-use Rattle.asker.specs.Once.{answers-once}
 use Rattle.given.specs.Given.{header-of, texts-of}
 use Rattle.crossing.specs.Own.{too-short}
 
@@ -32,13 +30,3 @@ asks h x a kind method layer lat lon second = question (header-of h) (texts-of x
 pub data AskCrosses (h : List ℤ) (x : List ℕ) (q : Question) (v : List ℤ) : ℕ → List ℤ → Type 0 where
   short : (k : ℕ) → k ≡ too-short (length h) (length x) (length v) 1 → 1 ≤ k → AskCrosses h x q v k v
   answered : too-short (length h) (length x) (length v) 1 ≡ 0 → (a : Told) → Answers q a → AskCrosses h x q v (told-number a) (front (told-value a) v)
-
--- no second number and no second content fits
-module _ (h : List ℤ) (x : List ℕ) (q : Question) (v : List ℤ) where
-  pub ionex-ask-once : {n m : ℕ} {u w : List ℤ} → AskCrosses h x q v n u → AskCrosses h x q v m w → (n ≡ m) × (u ≡ w)
-  ionex-ask-once (short k e a) (short l f b) = (e ∙ sym f, refl)
-  ionex-ask-once (short k e a) (answered f t s) = absurd (omega (arith, e, f))
-  ionex-ask-once (answered e t s) (short k f a) = absurd (omega (arith, e, f))
-  ionex-ask-once (answered e t s) (answered f t′ s′) =
-      let p = answers-once q t t′ s s′ in
-      (λ i. told-number (p i), λ i. front (told-value (p i)) v)

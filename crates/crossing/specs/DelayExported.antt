@@ -1,17 +1,14 @@
 -- A delay as it crosses to other languages: a number, and an area of the call's own for the record.
-use mathlib.Core.Path.{_≡_, refl, sym, ap, _∙_}
+use mathlib.Core.Path.{_≡_}
 use mathlib.Core.List.{List, [], _∷_}
 use Prim.Native.Nat.{ℕ, _≤_, _<_}
-use native.Mathlib.Omega.{arith}
 use lib.IntN.{ℤ}
 use lib.Ieee.{Float}
 use lib.ListN.{length}
 use Rattle.kit.specs.Lists.{front}
 use Rattle.asker.specs.Ask.{Question}
 use Rattle.delay.specs.Delay.{Told, given, refused, milli, Delays}
-use Rattle.delay.specs.DelayLaws.{delays-once}
 use Rattle.askdelay.specs.AskDelay.{AskDelays}
-use Rattle.askdelay.specs.Once.{ask-delays-once}
 use Rattle.crossing.specs.Own.{too-short}
 
 -- 0 for a delay, or 02's number
@@ -33,21 +30,3 @@ pub data TecuDelayCrosses (x : ℤ) (f : Float) (v : List Float) : ℕ → List 
 pub data DelayCrosses (h : List ℤ) (x : List ℕ) (q : Question) (f : Float) (v : List Float) : ℕ → List Float → Type 0 where
   short : (k : ℕ) → k ≡ too-short (length h) (length x) (length v) 3 → 1 ≤ k → DelayCrosses h x q f v k v
   asked : too-short (length h) (length x) (length v) 3 ≡ 0 → (a : Told) → AskDelays q f a → DelayCrosses h x q f v (told-number a) (front (told-record a) v)
-
--- ---- no second number and no second content fits
-
-module _ (f : Float) (v : List Float) where
-  same : {a b : Told} → a ≡ b → (told-number a ≡ told-number b) × (front (told-record a) v ≡ front (told-record b) v)
-  same p = (ap told-number p, ap (λ a. front (told-record a) v) p)
-
-  pub ionex-tecu-delay-once : (x : ℤ) {n m : ℕ} {u w : List Float} → TecuDelayCrosses x f v n u → TecuDelayCrosses x f v m w → (n ≡ m) × (u ≡ w)
-  ionex-tecu-delay-once x (area-short a) (area-short b) = (refl, refl)
-  ionex-tecu-delay-once x (area-short a) (answered b t d) = absurd (omega arith)
-  ionex-tecu-delay-once x (answered a t d) (area-short b) = absurd (omega arith)
-  ionex-tecu-delay-once x (answered a t d) (answered b s e) = same (delays-once t s d e)
-
-  pub ionex-delay-once : (h : List ℤ) (x : List ℕ) (q : Question) {n m : ℕ} {u w : List Float} → DelayCrosses h x q f v n u → DelayCrosses h x q f v m w → (n ≡ m) × (u ≡ w)
-  ionex-delay-once h x q (short k e a) (short l g b) = (e ∙ sym g, refl)
-  ionex-delay-once h x q (short k e a) (asked g t d) = absurd (omega (arith, e, g))
-  ionex-delay-once h x q (asked e t d) (short k g a) = absurd (omega (arith, e, g))
-  ionex-delay-once h x q (asked e t d) (asked g s r) = same (ask-delays-once q f t s d r)

@@ -1,5 +1,4 @@
 -- Joining as it crosses to other languages: a number, the six areas, and three areas of the call's own.
-use mathlib.Core.Path.{_≡_, sym, _∙_}
 use mathlib.Core.List.{List, [], _∷_}
 use Prim.Native.Nat.{ℕ, _<_}
 use lib.IntN.{ℤ}
@@ -52,11 +51,6 @@ unfoldable pub join-crossed : List ℤ → List ℕ → Areas → List ℤ → L
 join-crossed f s a g t b l h x p =
     unless (too-short (shortest (length f) (length g) (length h)) (shortest (length s) (length t) (length x)) (length p) 2)
     (crosses (came (join-into (lent-of (header-of f) (texts-of s) a) (lent-of (header-of g) (texts-of t) b) l) l) h x p) (λ k. crossed k l h x p)
-
--- no second answer
-pub ionex-join-once : (f : List ℤ) (s : List ℕ) (a : Areas) (g : List ℤ) (t : List ℕ) (b l : Areas) (h : List ℤ) (x p : List ℕ) (c d : Crossed)
-    → c ≡ join-crossed f s a g t b l h x p → d ≡ join-crossed f s a g t b l h x p → c ≡ d
-ionex-join-once f s a g t b l h x p c d e i = e ∙ sym i
 
 -- ---- of the code's answer, with the later texts
 abbrev pub answer-number : Joining → ℕ

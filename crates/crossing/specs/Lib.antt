@@ -7,4 +7,3 @@ pub mod AskExported
 pub mod DelayExported
 pub mod MoveExported
 pub mod JoinExported
-pub mod Back

@@ -1,15 +1,12 @@
 -- What a text needs, as it crosses to other languages: a number, and two areas of the call's own, for the needs and for the place.
-use mathlib.Core.Path.{_≡_, refl, ap}
-use mathlib.Core.Logic.{_⊎_, ⊎-elim}
+use mathlib.Core.Logic.{_⊎_}
 use mathlib.Core.List.{List, [], _∷_}
 use Prim.Native.Nat.{ℕ, _≤_, _<_}
-use native.Mathlib.Omega.{arith}
 use lib.ListN.{length}
 use Rattle.kit.specs.Lists.{front}
 use Rattle.needs.specs.declared.Elements.{Elements}
 use Rattle.outcome.specs.Outcome.{told-number, told-place, told-reason}
 use Rattle.outcome.specs.Measures.{Measures}
-use Rattle.outcome.specs.Once.{needs-once}
 use Rattle.outcome.specs.declared.Measured.{Measured}
 use Rattle.outcome.specs.declared.Measured.the-variants.{Needs, Refused}
 
@@ -35,17 +32,3 @@ place (Refused w) = told-place (told-reason w)
 pub data NeedsCross (t n p : List ℕ) : ℕ → List ℕ → List ℕ → Type 0 where
   area-short : (length n < 6) ⊎ (length p < 2) → NeedsCross t n p 103 n p
   answered : 6 ≤ length n → 2 ≤ length p → (m : Measured) → Measures t m → NeedsCross t n p (number m) (front (told-needs m) n) (front (place m) p)
-
--- ---- no second answer
-
-roomy : (n p : List ℕ) {X : Type 0} → (length n < 6) ⊎ (length p < 2) → 6 ≤ length n → 2 ≤ length p → X
-roomy n p s a b = absurd (⊎-elim (λ h. omega arith) (λ h. omega arith) s)
-
-module _ (t n p : List ℕ) where
-  pub ionex-needs-once : {j k : ℕ} {u v x y : List ℕ} → NeedsCross t n p j u x → NeedsCross t n p k v y → (j ≡ k) × ((u ≡ v) × (x ≡ y))
-  ionex-needs-once (area-short a) (area-short b) = (refl, (refl, refl))
-  ionex-needs-once (area-short s) (answered a b m e) = roomy n p s a b
-  ionex-needs-once (answered a b m e) (area-short s) = roomy n p s a b
-  ionex-needs-once (answered a b m e) (answered c d k f) =
-      let z = needs-once t m k e f in
-      (ap number z, (ap (λ m. front (told-needs m) n) z, ap (λ m. front (place m) p) z))

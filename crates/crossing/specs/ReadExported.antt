@@ -1,5 +1,4 @@
 -- Reading as it crosses to other languages: a number, the six areas, and three areas of the call's own.
-use mathlib.Core.Path.{_≡_, sym, _∙_}
 use mathlib.Core.List.{List, []}
 use Prim.Native.Nat.{ℕ, _<_}
 use lib.IntN.{ℤ}
@@ -46,7 +45,3 @@ crosses o h x p =
 
 unfoldable pub read-crossed : List ℕ → Areas → List ℤ → List ℕ → List ℕ → Crossed
 read-crossed t l h x p = unless (too-short (length h) (length x) (length p) 2) (crosses (outcome t l) h x p) (λ k. crossed k l h x p)
-
--- no second answer
-pub ionex-read-once : (t : List ℕ) (l : Areas) (h : List ℤ) (x p : List ℕ) (a b : Crossed) → a ≡ read-crossed t l h x p → b ≡ read-crossed t l h x p → a ≡ b
-ionex-read-once t l h x p a b e f = e ∙ sym f

@@ -1,5 +1,4 @@
 -- Writing as it crosses to other languages: a number, the output, and an area of the call's own for the count of bytes.
-use mathlib.Core.Path.{_≡_, sym, _∙_}
 use mathlib.Core.List.{List, [], _∷_}
 use Prim.Native.Nat.{ℕ}
 use lib.IntN.{ℤ}
@@ -35,7 +34,3 @@ crosses w c = crossed (told-number (w .0)) (w .1) (front (told-count (w .0)) c)
 unfoldable pub write-crossed : List ℤ → List ℕ → Areas → List ℕ → List ℕ → Crossed
 write-crossed h x a o c =
     unless (too-short (length h) (length x) (length c) 1) (crosses (written (header-of h) (texts-of x) a o) c) (λ k. crossed k o c)
-
--- no second number and no second content fits
-pub ionex-write-once : (h : List ℤ) (x : List ℕ) (a : Areas) (o c : List ℕ) (p q : Crossed) → p ≡ write-crossed h x a o c → q ≡ write-crossed h x a o c → p ≡ q
-ionex-write-once h x a o c p q e f = e ∙ sym f

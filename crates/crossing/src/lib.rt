@@ -19,8 +19,7 @@ ghost use Rattle.crossing.specs.WriteExported.{told-number as write-numb
 ghost use Rattle.crossing.specs.AskExported.{told-number as ask-number, told-value};
 ghost use Rattle.crossing.specs.DelayExported.{told-number as delay-number, told-record};
 ghost use Rattle.crossing.specs.MoveExported.{told-number as move-number, told-moved};
-ghost use Rattle.crossing.specs.JoinExported.{why-number, why-place, answer-number, answer-header, answer-texts, answer-place};
-ghost use Rattle.crossing.specs.JoinExported.{Small as SmallJoined};
+ghost use Rattle.crossing.specs.JoinExported.{why-number, why-place, answer-number, answer-header, answer-texts, answer-place, Small as SmallJoined};
 use askdelay::AskedDelay;
 use asker::Asked;
 use asker::Why;

@@ -1,5 +1,1 @@
 pub mod Delay
-pub mod DelayLaws
-pub mod Literals
-pub mod Finite
-pub mod Vectors

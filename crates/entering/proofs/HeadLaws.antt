@@ -1,5 +1,5 @@
 -- The header is passed row by row: what is behind END OF HEADER from here is what is behind it from the start.
-use mathlib.Core.Path.{_≡_, refl, sym, ap, subst, _∙_}
+use mathlib.Core.Path.{_≡_, refl, sym, ap, _∙_}
 use mathlib.Core.Bool.{Bool, true, false, not, cond, _||_}
 use mathlib.Core.Option.{Option, some}
 use mathlib.Core.List.{List, [], _∷_}
@@ -9,14 +9,15 @@ use borrow.Author.Tests.{eqb-true, eqb-false, ne-eqb, leb-true, leb-false}
 use lib.Dec.{T, eqb, leb}
 use lib.IntN.{ℤ, negsuc}
 use lib.ListN.{length, getD, take, drop}
-use Rattle.kit.specs.Answer.{same, pick-yes, pick-no}
-use Rattle.kit.specs.Truth.{tested-at}
+use Rattle.kit.specs.Answer.{same}
+use Rattle.kit.proofs.AnswerLaws.{pick-yes, pick-no}
+use Rattle.kit.proofs.TruthLaws.{tested-at}
 use Rattle.layout.specs.Text.{pad}
 use Rattle.layout.specs.Labels.{Label, version, description, comment, system, exponent, aux-start, aux-end, header-end, epoch, block, file-end, head, start, end, name, labels}
 use Rattle.layout.specs.Layout.{plain, aux, mode}
 use Rattle.layout.specs.Names.{names, number-of}
 use Rattle.reading.specs.Fields.{label}
-use Rattle.reading.specs.LabelLaws.{label-known, label-unknown, named, aux-number}
+use Rattle.reading.proofs.LabelLaws.{label-known, label-unknown, named, aux-number}
 use Rattle.areas.specs.Scan.{by-label, exponent-in}
 use Rattle.lines.specs.Lines.{Skips, Rows}
 use Rattle.lines.proofs.Parts.{skip-in, row-in}

@@ -1,12 +1,12 @@
 -- The rows of a text from a line's start on, each with its line's start, as the code goes over the lines.
 use mathlib.Core.Path.{_≡_, refl, sym, ap, subst, _∙_}
 use mathlib.Core.Logic.{⊎-elim}
-use mathlib.Core.List.{List, [], _∷_, _++_}
+use mathlib.Core.List.{List, [], _∷_}
 use Prim.Native.Nat.{ℕ, suc, _+_, _-_, _≤_}
 use native.Mathlib.Omega.{arith}
 use lib.ListN.{length, take, drop, length-append, drop-of-length-le}
 use lib.Seq.{drop-drop, length-take-le}
-use Rattle.kit.specs.Answer.{pick-no}
+use Rattle.kit.proofs.AnswerLaws.{pick-no}
 use Rattle.layout.specs.Text.{Clean, pad}
 use Rattle.reading.specs.Feed.{feed, split, NoRow}
 use Rattle.lines.specs.Cuts.{Cut, cuts, Starts}

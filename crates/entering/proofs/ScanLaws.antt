@@ -6,23 +6,24 @@ use Prim.Native.Nat.{ℕ, zero, suc, _+_, _-_, _*_, _≤_, _<_}
 use native.Mathlib.Omega.{arith}
 use lib.IntN.{ℤ, negsuc}
 use lib.ListN.{length, take, drop}
-use Rattle.kit.specs.Answer.{All, same, pick, pick-no}
-use Rattle.kit.specs.ListLaws.{all-front, all-behind}
-use Rattle.kit.specs.TruthLaws.{clash}
+use Rattle.kit.specs.Answer.{All, same, pick}
+use Rattle.kit.proofs.AnswerLaws.{pick-no}
+use Rattle.kit.proofs.ListLaws.{all-front, all-behind}
+use Rattle.kit.proofs.TruthLaws.{clash}
 use Rattle.mapset.specs.declared.Kind.{Kind}
 use Rattle.mapset.specs.declared.Kind.the-variants.{Tec, Rms, Height}
 use Rattle.layout.specs.Text.{pad}
 use Rattle.layout.specs.Labels.{Label, version, description, comment, system, exponent, aux-start, aux-end, header-end, epoch, block, file-end, head, start, end, name, labels}
 use Rattle.reading.specs.Fields.{lookup, label}
-use Rattle.reading.specs.RecordLaws.{known-maps}
+use Rattle.reading.proofs.RecordLaws.{known-maps}
 use Rattle.areas.specs.Events as event
 use Rattle.areas.specs.Scan.{Now, Turn, at-first, values-ahead, turn, brought}
 use Rattle.areas.specs.Stores.{first-of, put-exponent, put-mark, Inside}
 use Rattle.areas.proofs.ListLaws.{fill-length}
 use Rattle.lines.specs.Lines.{Skips, Rows}
 use Rattle.lines.proofs.Parts.{skip-in, row-in}
-use Rattle.index.specs.Index.{Entries, entries}
-use Rattle.index.specs.Made.{Placed, placed-from, just-rows, opened, put-starts}
+use Rattle.index.specs.Index.{Entries}
+use Rattle.index.specs.Made.{Placed, placed-from, just-rows, opened}
 use Rattle.index.proofs.Told.{value-row, block-row}
 use Rattle.index.proofs.AsRead.{starts-length}
 use Rattle.events.specs.Brings.{told, tells, due, turned, Takes, first-state}

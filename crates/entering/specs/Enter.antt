@@ -1,13 +1,13 @@
 -- What the scan that makes an index does with the lent areas: it clears what is needed, and then stores block by block.
 use mathlib.Core.Path.{_≡_}
-use mathlib.Core.Bool.{Bool, true, false, cond}
+use mathlib.Core.Bool.{Bool, cond}
 use mathlib.Core.List.{List, [], _∷_}
 use Prim.Native.Nat.{ℕ, _+_, _-_, _*_, _≤_, _<_}
 use lib.IntN.{ℤ, negsuc}
 use lib.ListN.{length, getD, set}
 use Rattle.kit.specs.Answer.{All}
 use Rattle.mapset.specs.declared.Kind.{Kind}
-use Rattle.layout.specs.Layout.{Mode, plain, aux, mode}
+use Rattle.layout.specs.Layout.{plain, aux, mode}
 use Rattle.areas.specs.Events as event
 use Rattle.areas.specs.Scan.{at-first, brought}
 use Rattle.areas.specs.Stores.{before, first-of, put-exponent, with-mark, put-mark, Inside, scan, fill}

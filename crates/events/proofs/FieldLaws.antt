@@ -4,7 +4,8 @@ use mathlib.Core.List.{List}
 use Prim.Native.Nat.{ℕ}
 use native.Mathlib.Omega.{arith}
 use lib.IntN.{ℤ, pos}
-use Rattle.kit.specs.Answer.{Answer, ok, refused, bind, pick-no}
+use Rattle.kit.specs.Answer.{Answer, ok, refused, bind}
+use Rattle.kit.proofs.AnswerLaws.{pick-no}
 use Rattle.kit.specs.Range.{natural?}
 use Rattle.calendar.specs.Calendar.{dated}
 use Rattle.calendar.specs.declared.Taken.{Taken}

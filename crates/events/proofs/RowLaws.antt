@@ -1,16 +1,15 @@
 -- What a row brings, by its label's number.
 use mathlib.Core.Path.{_≡_, refl, sym, ap, _∙_}
-use mathlib.Core.Bool.{Bool, true, false, _&&_, _||_}
+use mathlib.Core.Bool.{Bool, true, false, _||_}
 use mathlib.Core.Option.{Option, some}
 use mathlib.Core.List.{List, [], _∷_}
-use Prim.Native.Nat.{ℕ, zero, suc, _+_, _≤_, _<_}
-use native.Mathlib.Decide.{ℕ-discrete}
+use Prim.Native.Nat.{ℕ, suc, _+_, _≤_, _<_}
 use native.Mathlib.Omega.{arith}
 use lib.ListN.{length, getD}
 use lib.Dec.{T, eqb, leb}
 use lib.IntN.{ℤ, natAbs}
 use native.Mathlib.Numerals.{add-one}
-use Rattle.kit.specs.Truth.{tested-at}
+use Rattle.kit.proofs.TruthLaws.{tested-at}
 use Rattle.mapset.specs.declared.Kind.{Kind}
 use Rattle.mapset.specs.declared.Kind.the-variants.{Tec, Rms, Height}
 use Rattle.layout.specs.Layout.{Other}
@@ -20,7 +19,7 @@ use Rattle.layout.specs.Text.{pad}
 use Rattle.layout.specs.Labels.{Label, version, description, comment, system, exponent, aux-start, aux-end, header-end, epoch, block, file-end, head, start, end, labels}
 use Rattle.layout.specs.Names.{number-of}
 use Rattle.reading.specs.Fields.{label, fields}
-use Rattle.reading.specs.LabelLaws.{label-known, label-unknown}
+use Rattle.reading.proofs.LabelLaws.{label-known, label-unknown}
 use Rattle.areas.specs.Scan.{Now, now, goes, exponent-in, epoch-in, values-ahead, on-start, on-epoch, turn}
 use Rattle.events.specs.Brings.{told, turned, Takes, Goes, Opened}
 use Rattle.events.specs.declared.State.{State}

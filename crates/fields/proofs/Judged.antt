@@ -12,12 +12,12 @@ use lib.IntN.{ℤ}
 use lib.Dec.{leb, eqb}
 use borrow.Author.Tests.{le-leb, leb-true, ne-eqb, eqb-true}
 use Rattle.kit.specs.Answer.{All}
-use Rattle.kit.specs.ListLaws.{all-append, all-front, all-behind}
-use Rattle.kit.specs.TruthLaws.{and-true}
+use Rattle.kit.proofs.ListLaws.{all-append, all-front, all-behind}
+use Rattle.kit.proofs.TruthLaws.{and-true}
 use Rattle.forms.specs.Form.{fewest, decimal, I, Digit, numeral, sign, signed, pointed, Spells}
 use Rattle.forms.specs.Read.{readField, isNumber}
-use Rattle.forms.specs.FieldLaws.{read-made, made-read}
-use Rattle.forms.specs.ShowLaws.{numeral-append, numeral-below}
+use Rattle.forms.proofs.FieldLaws.{read-made, made-read}
+use Rattle.forms.proofs.ShowLaws.{numeral-append, numeral-below}
 use Rattle.forms.specs.Bytes.{isDigit, mayPrecede, hasMinus}
 use Rattle.forms.specs.declared.Field.{Field}
 use Rattle.forms.specs.declared.Field.the-variants.{Number, Bad}

@@ -9,12 +9,12 @@ use lib.Seq.{take-suc-set}
 use lib.IntN.{ℤ}
 use borrow.Author.Tests.{eq-eqb, ne-eqb}
 use Rattle.kit.specs.Answer.{All}
-use Rattle.kit.specs.ListLaws.{all-behind}
+use Rattle.kit.proofs.ListLaws.{all-behind}
 use Rattle.forms.specs.Form.{Form, fewest, decimal, Digit, sign, pointed, Spells}
 use Rattle.forms.specs.Read.{readField}
 use Rattle.forms.specs.Columns.{columns, further, firstNotBlank}
-use Rattle.forms.specs.FieldLaws.{made-read}
-use Rattle.forms.specs.ColumnLaws.{columns-whole, columns-first, columns-last}
+use Rattle.forms.proofs.FieldLaws.{made-read}
+use Rattle.forms.proofs.ColumnLaws.{columns-whole, columns-first, columns-last}
 use Rattle.forms.specs.declared.Field.{Field}
 use Rattle.forms.specs.declared.Field.the-variants.{Number, Bad}
 use Rattle.forms.specs.declared.Found.{Found}

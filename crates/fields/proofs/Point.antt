@@ -7,16 +7,16 @@ use native.Mathlib.Nat.{pow-le-pow-right}
 use native.Mathlib.Numerals.{add-one}
 use native.Mathlib.Omega.{arith}
 use lib.ListN.{length, getD, take, drop, length-append, length-drop}
-use lib.Seq.{take-all, take-at, drop-at, getD-at, append-snoc, split-at}
+use lib.Seq.{take-at, drop-at, getD-at, append-snoc, split-at}
 use lib.Pow.{pow-add}
 use lib.IntN.{ℤ}
 use lib.Dec.{eqb}
 use borrow.Author.Tests.{eq-eqb, eqb-true}
 use Rattle.kit.specs.Answer.{All}
-use Rattle.kit.specs.TruthLaws.{and-true}
+use Rattle.kit.proofs.TruthLaws.{and-true}
 use Rattle.forms.specs.Form.{fewest, decimal, I, Digit, numeral, signed, pointed, dot}
 use Rattle.forms.specs.Read.{readField, isNumber}
-use Rattle.forms.specs.ShowLaws.{numeral-below}
+use Rattle.forms.proofs.ShowLaws.{numeral-below}
 use Rattle.forms.specs.Bytes.{hasMinus, Small}
 use Rattle.forms.specs.declared.Field.the-variants.{Number}
 use Rattle.fields.proofs.Judged.{Parts, well, well-lead, well-last, lead-well, well-digits, digits-well, whole-below, judged, judged-parts, parts-number, int-judged}

@@ -9,7 +9,7 @@ use native.Mathlib.Omega.{arith}
 use lib.ListN.{length, getD, drop, drop-of-length-le}
 use lib.Seq.{drop-cons}
 use lib.Dec.{eqb}
-use Rattle.kit.specs.TruthLaws.{and-assoc}
+use Rattle.kit.proofs.TruthLaws.{and-assoc}
 use Rattle.forms.specs.Form.{numeral}
 use Rattle.forms.specs.Bytes.{isDigit, mayPrecede, hasMinus}
 use Rattle.fields.proofs.Judged.{well}

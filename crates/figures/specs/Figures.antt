@@ -8,25 +8,27 @@ use native.Mathlib.Decide.{ℕ-discrete, decLe, decLt}
 use lib.Dec.{T, eqb, leb, eqb→eq, leb→le}
 use lib.IntN.{ℤ, pos, negsuc}
 use lib.ListN.{length, replicate}
-use Rattle.kit.specs.Answer.{Answer, ok, refused, All, need, amap, pick, ×-dec, ⊎-dec, ¬-dec, all-dec, same, sames, yields}
+use Rattle.kit.specs.Answer.{Answer, ok, refused, All, need, amap, pick, ×-dec, ⊎-dec, ¬-dec, all-dec, same, sames}
+use Rattle.kit.proofs.AnswerLaws.{yields}
 use Rattle.kit.specs.Integer.{int?, le?, lt?, between?}
-use Rattle.kit.specs.Truth.{truth, truth-ok, dec-by}
+use Rattle.kit.specs.Truth.{truth, dec-by}
+use Rattle.kit.proofs.TruthLaws.{truth-ok}
 use Rattle.kit.specs.Range.{within?, natural?}
 use Rattle.days.specs.Years.{isLeap, monthDays, yearDays}
 use Rattle.calendar.specs.Calendar.{Dated, dated, second}
 use Rattle.days.specs.Sums.{sum}
-use Rattle.calendar.specs.FieldLaws.{dated-of, dated-ok}
+use Rattle.calendar.proofs.FieldLaws.{dated-of, dated-ok}
 use Rattle.calendar.specs.declared.Taken.{Taken}
 use Rattle.calendar.specs.declared.Taken.the-variants.{At, Wrong}
 use Rattle.forms.specs.Form.{I, Spells}
 use Rattle.forms.specs.Read.{readField, numberOf, formed?}
-use Rattle.forms.specs.FieldLaws.{read-made, made-read}
+use Rattle.forms.proofs.FieldLaws.{read-made, made-read}
 use Rattle.forms.specs.declared.Field.{Field}
 use Rattle.forms.specs.declared.Field.the-variants.{Number, Bad}
 use Rattle.mapset.specs.Areas.{present?, nowhere?, six}
 use Rattle.mapset.specs.Decisions.{end?, step?, multiple?, ×₃-dec, ×₄-dec, together?, dimension?, limits?, follows?}
 use Rattle.mapset.specs.Sound.{version?, printable?, written?, texts?, times?, model?, axis?, grid?, count?, system?, systems?, header?, run?, runs?, starts?, epochs?, marks?, lengths?, sound-says?}
-use Rattle.mapset.specs.SoundLaws.{sound?}
+use Rattle.mapset.specs.SoundDecided.{sound?}
 use Rattle.mapset.specs.MapSet.{MapSet}
 use Rattle.layout.specs.Text.{pad}
 use Rattle.layout.specs.Records.{ValueRows, v-last}
@@ -36,15 +38,15 @@ use Rattle.reading.specs.Feed.{Fault, Why, feed, split}
 use Rattle.reading.specs.Fields.{number, blank, cells}
 use Rattle.reading.specs.Maps.{short}
 use Rattle.reading.specs.Read.{begin, read}
-use Rattle.reading.specs.RecordLaws.{cells-yields}
-use Rattle.reading.specs.Exact.{refused-unmade}
+use Rattle.reading.proofs.RecordLaws.{cells-yields}
+use Rattle.reading.proofs.Exact.{refused-unmade}
 use Rattle.rounding.specs.Round.{rounded}
 use Rattle.cells.specs.Found.{strip?, after}
 use Rattle.nodes.specs.Value.{is-value?, worth, value}
 use Rattle.sums.specs.Mean.{corners, spread, terms, weighted, weight, valued?, mean}
 use Rattle.asker.specs.Ask.{Question, question, Told, tecu, Answers}
-use Rattle.asker.specs.Sample.{axis, absent, header, texts}
-use Rattle.asker.specs.Reckoned.{gives, holds, reckoned, known?, timely?, same-told}
+use Rattle.asker.proofs.Sample.{axis, absent, header, texts}
+use Rattle.asker.proofs.Reckoned.{gives, holds, reckoned, known?, timely?, same-told}
 
 -- a row of the table
 pub data Figure : Type 0 where

@@ -7,7 +7,7 @@ use lib.ListN.{length, take, drop, length-drop}
 use lib.Seq.{sets, sets-eq, drop-drop, length-take-le}
 use lib.IntN.{ℤ}
 use borrow.Rule.Slice.PartMut.{putMid}
-use Rattle.kit.specs.Answer.{yields}
+use Rattle.kit.proofs.AnswerLaws.{yields}
 use Rattle.reading.specs.Feed.{split, feed}
 use Rattle.values.specs.Values.{Okay}
 use Rattle.blocks.specs.Blocks.{values, Filled}

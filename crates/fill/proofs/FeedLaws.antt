@@ -1,12 +1,13 @@
 -- The rows from a place of a text on.
 use mathlib.Core.Path.{_≡_, refl, ap, _∙_}
 use mathlib.Core.List.{List, [], _∷_, _++_}
-use Prim.Native.Nat.{ℕ, zero, suc, _+_, _-_, _≤_}
+use Prim.Native.Nat.{ℕ, zero, suc, _-_, _≤_}
 use native.Mathlib.Decide.{ℕ-discrete, decLe}
 use native.Mathlib.Omega.{arith}
 use lib.ListN.{length, take, drop}
 use lib.IntN.{ℤ}
-use Rattle.kit.specs.Answer.{Answer, ok, refused, bind, amap, pick, all-dec, Yields, y-ok, y-no, bind-yields, amap-yields, yields-map}
+use Rattle.kit.specs.Answer.{Answer, ok, refused, bind, amap, pick, all-dec}
+use Rattle.kit.proofs.AnswerLaws.{Yields, y-ok, y-no, bind-yields, amap-yields, yields-map}
 use Rattle.kit.specs.Range.{within?}
 use Rattle.layout.specs.Text.{pad}
 use Rattle.reading.specs.Feed.{Fault, Why, why, on-line, Feed, over, bad, row, bad-column, split, feed}

@@ -9,7 +9,7 @@ use native.Mathlib.Omega.{arith}
 use lib.ListN.{length, length-set}
 use lib.Seq.{sets, length-sets}
 use lib.IntN.{ℤ}
-use Rattle.kit.specs.ListLaws.{all-front, all-behind}
+use Rattle.kit.proofs.ListLaws.{all-front, all-behind}
 use Rattle.kit.specs.Answer.{All}
 use Rattle.mapset.specs.declared.Kind.{Kind}
 use Rattle.mapset.specs.declared.Kind.the-variants.{Tec, Rms, Height}

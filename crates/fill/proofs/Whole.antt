@@ -3,9 +3,10 @@ use mathlib.Core.Path.{_≡_, refl, sym, ap, subst, _∙_}
 use mathlib.Core.List.{List, _∷_, _++_}
 use Prim.Native.Nat.{ℕ, zero, suc, _+_, _-_, _*_, _≤_}
 use native.Mathlib.Omega.{arith}
-use lib.ListN.{length, replicate, drop, length-append, length-replicate, length-drop}
+use lib.ListN.{length, length-append}
 use lib.IntN.{ℤ, pos, negsuc}
-use Rattle.kit.specs.Answer.{All, yields}
+use Rattle.kit.specs.Answer.{All}
+use Rattle.kit.proofs.AnswerLaws.{yields}
 use Rattle.mapset.specs.declared.Kind.the-variants.{Tec, Rms, Height}
 use Rattle.mapset.specs.declared.Header.{Header}
 use Rattle.mapset.specs.Grid.{columns}
@@ -19,9 +20,9 @@ use Rattle.layout.specs.Layout.{Force, Left, maps, per-map, Writes, w-end, w-co
 use Rattle.reading.specs.Feed.{Feed, split, feed}
 use Rattle.reading.specs.Fields.{label}
 use Rattle.reading.specs.Maps.{on-row}
-use Rattle.reading.specs.LineLaws.{Carries, c-over, c-row, sized}
-use Rattle.reading.specs.MapLaws.{written, wrote-rows}
-use Rattle.reading.specs.RecordLaws.{known-maps, rec-label, cells-of}
+use Rattle.reading.proofs.LineLaws.{Carries, c-over, c-row, sized}
+use Rattle.reading.proofs.MapLaws.{written, wrote-rows}
+use Rattle.reading.proofs.RecordLaws.{known-maps, rec-label, cells-of}
 use Rattle.reading.specs.declared.Place.the-variants.{Between}
 use Rattle.areas.specs.Flat.{areas}
 use Rattle.areas.specs.Stores.{Inside, lengths, scanned, fill, cleared, fronts}

@@ -8,7 +8,7 @@ use Rattle.kit.specs.Answer.{ok}
 use Rattle.mapset.specs.Grid.{columns}
 use Rattle.mapset.specs.MapSet.{MapSet}
 use Rattle.mapset.specs.Areas.{Areas}
-use Rattle.layout.specs.Layout.{Force, per-map, begins}
+use Rattle.layout.specs.Layout.{per-map, begins}
 use Rattle.reading.specs.Feed.{split, feed}
 use Rattle.reading.specs.Maps.{run}
 use Rattle.reading.specs.declared.Place.the-variants.{Between}

@@ -3,8 +3,5 @@ pub mod Form
 pub mod Read
 pub mod Show
 pub mod Columns
-pub mod FieldLaws
-pub mod ShowLaws
-pub mod ColumnLaws
 pub mod Bytes
 pub mod Rows

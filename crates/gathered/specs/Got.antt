@@ -1,5 +1,5 @@
 -- What was got of a header so far, and what a line of it does, in the words of `reading`.
-use mathlib.Core.Bool.{Bool, true, false, cond}
+use mathlib.Core.Bool.{false, cond}
 use mathlib.Core.Option.{Option, some}
 use mathlib.Core.List.{List, [], _∷_}
 use Prim.Native.Nat.{ℕ, zero, suc}
@@ -11,9 +11,10 @@ use Rattle.mapset.specs.declared.Header.{Header}
 use Rattle.mapset.specs.declared.Texts.{Texts}
 use Rattle.mapset.specs.Header.{Content, count, tenths, epoch, axis, program, mapping, observables, system, Said, words, if-stands}
 use Rattle.layout.specs.Labels.{content}
-use Rattle.layout.specs.Layout.{Slots, Mode, plain, aux, mode}
+use Rattle.layout.specs.Layout.{Slots, Mode, aux, mode}
 use Rattle.reading.specs.Feed.{Fault, fault}
-use Rattle.reading.specs.Head.{Turn, more, done, axis-of, made, made-texts, head-step}
+use Rattle.reading.specs.Head.{Turn, more, done, made, made-texts, head-step}
+use Rattle.mapset.specs.Said.{axis-of}
 use Rattle.records.specs.Records.{says}
 use Rattle.records.specs.declared.Value.{Value}
 use Rattle.gathered.specs.declared.State.{State}

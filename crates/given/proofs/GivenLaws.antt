@@ -10,7 +10,7 @@ use lib.Signed.{ltZ}
 use mir.Syntax.{w32}
 use mir.Val.{SFits}
 use borrow.Author.Tests.{lt-ltb, le-ltb, ltb-false}
-use Rattle.kit.specs.Parts.{abs-parts, one-zero, lt-false, size-fits}
+use Rattle.kit.proofs.Parts.{abs-parts, one-zero, lt-false, size-fits}
 use Rattle.given.specs.Given.{bounded, axis-number}
 
 module _ (high : ℕ) (z : ℤ) where

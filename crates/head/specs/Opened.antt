@@ -1,8 +1,8 @@
 -- The reading of a text from its start, by what the code hands back of the header.
 use mathlib.Core.Path.{_≡_}
 use mathlib.Core.List.{List, []}
-use Prim.Native.Nat.{ℕ, suc, _-_, _≤_, _<_}
-use lib.ListN.{length, take, drop, replicate}
+use Prim.Native.Nat.{ℕ, suc, _≤_, _<_}
+use lib.ListN.{length, drop}
 use lib.IntN.{ℤ}
 use Rattle.kit.specs.Answer.{Answer, refused, amap}
 use Rattle.kit.specs.Range.{Within}
@@ -12,12 +12,10 @@ use Rattle.mapset.specs.declared.Texts.{Texts}
 use Rattle.mapset.specs.Grid.{heights, latitudes, longitudes, AxisRules, Limits}
 use Rattle.mapset.specs.Header.{Dimension}
 use Rattle.mapset.specs.MapSet.{MapSet}
-use Rattle.layout.specs.Text.{pad}
 use Rattle.layout.specs.Layout.{mode}
-use Rattle.reading.specs.Feed.{Why, why, over, bad, row, split, feed}
+use Rattle.reading.specs.Feed.{Why, why, split, feed}
 use Rattle.reading.specs.Maps.{run}
-use Rattle.reading.specs.Head.{heading}
-use Rattle.reading.specs.HeadLaws.{Got}
+use Rattle.reading.specs.Head.{heading, Got}
 use Rattle.reading.specs.declared.Place.the-variants.{Between}
 use Rattle.gathered.specs.Got.{slots-of, texts-of}
 use Rattle.gathered.specs.declared.State.{State}
@@ -28,6 +26,7 @@ use Rattle.head.specs.declared.Headed.the-variants.{Refused, Accepted}
 use Rattle.head.specs.declared.Onward.{Onward}
 use Rattle.head.specs.declared.Onward.the-variants as Onward
 use Rattle.head.specs.declared.HeaderRead.{HeaderRead}
+use Rattle.mapset.specs.Said.{blank-texts}
 
 -- ---- an accepted header
 
@@ -84,9 +83,6 @@ onward (Next.Done h) e at n = Onward.Stop (Accepted h e at n)
 onward (Next.Refused k c) e at n = Onward.Stop (Refused k n c)
 
 -- ---- what is handed back
-
-abbrev pub blank-texts : Texts
-blank-texts = record { program = replicate 20 32; agency = replicate 20 32; date = replicate 20 32; mapping = replicate 4 32; observables = replicate 60 32 }
 
 -- blanks beside a refusal
 abbrev pub beside : Headed → Texts → Texts

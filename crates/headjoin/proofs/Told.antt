@@ -1,13 +1,14 @@
 -- The tests of two headers, told by what they compare.
-use mathlib.Core.Path.{_≡_, sym}
-use Prim.Native.Nat.{ℕ, _≤_}
+use mathlib.Core.Path.{_≡_}
+use Prim.Native.Nat.{ℕ}
 use native.Mathlib.Decide.{decLe}
 use native.Mathlib.Omega.{arith}
 use lib.IntN.{ℤ}
 use Rattle.kit.specs.Answer.{×-dec}
 use Rattle.kit.specs.Integer.{Between, int?, between?}
-use Rattle.kit.specs.Parts.{eq-parts, parts-le, le-parts}
-use Rattle.kit.specs.Truth.{truth, truth-same, dec-by}
+use Rattle.kit.proofs.Parts.{eq-parts, parts-le, le-parts}
+use Rattle.kit.specs.Truth.{truth, dec-by}
+use Rattle.kit.proofs.TruthLaws.{truth-same}
 use Rattle.mapset.specs.Grid.{Limits}
 use Rattle.mapset.specs.Decisions.{limits?}
 use Rattle.mapset.specs.declared.Grid.{Grid}

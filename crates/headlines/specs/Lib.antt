@@ -1,3 +1,2 @@
 -- What a line of the header does, by what `reading` says of it.
 pub mod Step
-pub mod StepLaws

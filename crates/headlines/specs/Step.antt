@@ -4,17 +4,17 @@ use mathlib.Core.Option.{Option, none, some}
 use mathlib.Core.List.{List}
 use Prim.Native.Nat.{ℕ, _+_}
 use native.Mathlib.Decide.{ℕ-discrete}
-use lib.Dec.{eqb, ltb}
+use lib.Dec.{eqb}
 use lib.ListN.{getD}
 use Rattle.kit.specs.Answer.{Answer, ok, refused, need, bind, amap}
 use Rattle.mapset.specs.declared.Version.{Version}
 use Rattle.mapset.specs.Header.{system as a-system, starred, Said}
 use Rattle.mapset.specs.Decisions.{dimension?, limits?}
 use Rattle.layout.specs.Labels.{exponent, content, letters}
-use Rattle.layout.specs.Layout.{Slots, plain, aux, mode}
+use Rattle.layout.specs.Layout.{Slots, plain, aux, mode, exponent?}
 use Rattle.reading.specs.Feed.{Fault, fault}
 use Rattle.reading.specs.Fields.{fields}
-use Rattle.reading.specs.Maps.{missing, exponent?}
+use Rattle.reading.specs.Maps.{missing}
 use Rattle.reading.specs.Head.{place, none?, complete?, made, made-texts, on-end}
 use Rattle.records.specs.Records.{system-in, entry}
 use Rattle.gathered.specs.Got.{slots-of, Went, went, ended, gone, kept}

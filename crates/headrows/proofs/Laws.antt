@@ -4,11 +4,10 @@ use mathlib.Core.List.{List, [], _∷_, _++_, append-assoc, append-nil}
 use Prim.Native.Nat.{ℕ, _+_, _<_}
 use native.Mathlib.Omega.{arith}
 use lib.IntN.{ℤ, pos}
-use lib.Dec.{eqb, eqb→eq}
 use lib.ListN.{length, take, drop, getD, set, replicate, length-append}
 use Rattle.forms.specs.Form.{I, W1}
 use Rattle.forms.specs.Show.{showField}
-use Rattle.forms.specs.ShowLaws.{show-width}
+use Rattle.forms.proofs.ShowLaws.{show-width}
 use Rattle.mapset.specs.declared.Version.{Version}
 use Rattle.layout.specs.Labels.{codes, bytes, name, version}
 use Rattle.layout.proofs.Laws.{code-length}

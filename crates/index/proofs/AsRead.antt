@@ -1,31 +1,30 @@
 -- `indexed-as-read`: by the index made of a text, every node of every map that is there is answered as the full reading has it.
 use mathlib.Core.Path.{_≡_, refl, sym, ap, subst, _∙_}
-use mathlib.Core.Bool.{Bool, true, false}
-use mathlib.Core.Logic.{_⊎_, inl, inr, ⊎-elim}
+use mathlib.Core.Logic.{inl}
 use mathlib.Core.List.{List, [], _∷_, _++_, append-nil}
 use Prim.Native.Nat.{ℕ, zero, suc, _+_, _-_, _*_, _≤_, _<_}
 use native.Mathlib.Omega.{arith}
 use native.Mathlib.Nat.{suc-mul, mul-le-mul-right}
-use lib.IntN.{ℤ, pos, negsuc}
-use lib.ListN.{List·getD-append, length, getD, set, take, drop, replicate, length-append, length-replicate, length-drop, length-set}
+use lib.IntN.{pos, negsuc}
+use lib.ListN.{List·getD-append, length, getD, set, drop, replicate, length-append, length-replicate, length-set}
 use lib.Seq.{drop-length, getD-take, getD-drop, take-at}
 use Rattle.kit.specs.Answer.{All}
 use Rattle.kit.specs.Lists.{front}
 use Rattle.mapset.specs.declared.Kind.{Kind}
 use Rattle.mapset.specs.declared.Kind.the-variants.{Tec, Rms, Height}
 use Rattle.mapset.specs.declared.Header.{Header}
-use Rattle.mapset.specs.Grid.{layers, rows, columns}
+use Rattle.mapset.specs.Grid.{rows, columns}
 use Rattle.mapset.specs.MapSet.{Maps, MapSet}
 use Rattle.mapset.specs.Areas.{Areas, Present, value-need, Room}
-use Rattle.layout.specs.Layout.{Exponent, per-map, maps, Writes, plain, Rows, Makes, makes}
+use Rattle.layout.specs.Layout.{Exponent, per-map, maps, plain, Rows, Makes, makes}
 use Rattle.areas.specs.Flat.{areas, areas-of, found, there, mark}
 use Rattle.areas.specs.Lists.{tab}
 use Rattle.areas.specs.Valid.{values-in}
 use Rattle.areas.specs.Events as event
-use Rattle.areas.specs.Events.{Event, told}
-use Rattle.areas.specs.Stores.{before, place, first-of, put-values, put-exponent, Inside as Stored, scan, scanned, fill, cleared, fronts as all-fronts, lengths}
-use Rattle.areas.specs.Scan.{body, events}
-use Rattle.areas.proofs.ListLaws.{tab-length, tab-all, fill-length}
+use Rattle.areas.specs.Events.{Event}
+use Rattle.areas.specs.Stores.{before, put-values, put-exponent, scan, scanned, cleared, fronts as all-fronts, lengths}
+use Rattle.areas.specs.Scan.{events}
+use Rattle.areas.proofs.ListLaws.{tab-all, fill-length}
 use Rattle.areas.proofs.Needs.{needs, present-bit}
 use Rattle.areas.proofs.Made.{rows-formed}
 use Rattle.areas.proofs.ScanRows.{at-maps, brings-told}

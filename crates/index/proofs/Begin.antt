@@ -1,17 +1,17 @@
 -- The rows behind END OF HEADER, each with its line's start, and the exponent in force there.
-use mathlib.Core.Path.{_≡_, refl, sym, ap, subst, _∙_}
+use mathlib.Core.Path.{_≡_, refl, ap}
 use mathlib.Core.Option.{Option, none, some}
-use mathlib.Core.List.{List, [], _∷_, map}
-use Prim.Native.Nat.{ℕ, zero, suc, _-_, _≤_}
-use native.Mathlib.Omega.{arith}
+use mathlib.Core.List.{List, [], _∷_}
+use Prim.Native.Nat.{ℕ}
 use lib.IntN.{ℤ, negsuc}
-use lib.ListN.{length, drop}
-use Rattle.kit.specs.Answer.{same, pick, pick-yes, pick-no}
+use lib.ListN.{drop}
+use Rattle.kit.specs.Answer.{same, pick}
+use Rattle.kit.proofs.AnswerLaws.{pick-yes, pick-no}
 use Rattle.mapset.specs.MapSet.{MapSet}
 use Rattle.layout.specs.Labels.{name, Label, version, description, comment, system, exponent, aux-start, aux-end, header-end, epoch, block, file-end, head, start, end}
 use Rattle.layout.specs.Layout.{Exponent, Slots, Mode, plain, aux, Heads, h-description, h-comment, h-exponent, h-field, h-system, h-aux, h-skip, h-back, h-end, Rows, rows-of}
 use Rattle.reading.specs.Fields.{label}
-use Rattle.reading.specs.RecordLaws.{known-head, known-heads, known-maps, rec-label, rec-name}
+use Rattle.reading.proofs.RecordLaws.{known-head, known-heads, known-maps, rec-label, rec-name}
 use Rattle.areas.specs.Scan.{by-label, exponent-in, body}
 use Rattle.areas.proofs.ScanRows.{exponent-read, known-version}
 use Rattle.index.specs.Made.{Placed, just-rows, maps-of}

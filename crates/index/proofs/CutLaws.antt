@@ -4,7 +4,8 @@ use mathlib.Core.List.{List, [], _∷_, _++_, append-nil}
 use Prim.Native.Nat.{ℕ}
 use native.Mathlib.Omega.{arith}
 use native.Mathlib.Decide.{ℕ-discrete}
-use Rattle.kit.specs.Answer.{All, ×-dec, pick, pick-yes, pick-no, pick-elim}
+use Rattle.kit.specs.Answer.{All, ×-dec}
+use Rattle.kit.proofs.AnswerLaws.{pick-no, pick-elim}
 use Rattle.kit.specs.Range.{Within, Printable}
 use Rattle.forms.specs.Columns.{Blank}
 use Rattle.layout.specs.Text.{Clean}

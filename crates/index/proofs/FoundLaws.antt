@@ -1,14 +1,15 @@
 -- A block is found at the start of a text exactly where it stands there, with its values and its lines.
 use mathlib.Core.Path.{_≡_, refl, sym, ap, subst, _∙_}
 use mathlib.Core.Logic.{_↔_, _⊎_, inl, inr, ⊎-elim}
-use mathlib.Core.Option.{Option, none, some}
+use mathlib.Core.Option.{none, some}
 use mathlib.Core.List.{List, [], _∷_, _++_, append-assoc, append-nil}
-use Prim.Native.Nat.{ℕ, suc, _+_, _-_, _*_, _≤_, _<_}
+use Prim.Native.Nat.{ℕ, suc, _+_, _-_, _≤_}
 use native.Mathlib.Omega.{arith}
 use native.Mathlib.Decide.{ℕ-discrete, decLe}
 use lib.IntN.{ℤ}
 use lib.ListN.{length, drop, length-append, length-replicate}
-use Rattle.kit.specs.Answer.{Answer, ok, refused, All, ×-dec, all-dec, same, pick, pick-yes, pick-no, pick-elim, yields}
+use Rattle.kit.specs.Answer.{Answer, ok, refused, All, ×-dec, all-dec, same, pick}
+use Rattle.kit.proofs.AnswerLaws.{pick-yes, pick-no, pick-elim, yields}
 use Rattle.kit.specs.Range.{within?}
 use Rattle.forms.specs.Columns.{Blank}
 use Rattle.mapset.specs.Grid.{columns}
@@ -17,11 +18,11 @@ use Rattle.layout.specs.Text.{Clean, pad}
 use Rattle.layout.specs.Records.{Vals, Cells, ValueRows, v-last, v-full}
 use Rattle.layout.specs.Labels.{name, block, layout, Rec}
 use Rattle.layout.specs.Layout.{Opens}
-use Rattle.reading.specs.Feed.{Fault, Feed, over, bad, row, front, opens?, split, feed, NoRow}
+use Rattle.reading.specs.Feed.{Fault, row, front, opens?, split, feed, NoRow}
 use Rattle.reading.specs.Fields.{fields, cells}
 use Rattle.reading.specs.Maps.{on-row}
-use Rattle.reading.specs.RecordLaws.{blank-spaces, rec-name, rec-fields, named-rec, cells-of, cells-yields}
-use Rattle.kit.specs.ListLaws.{all-append, all-drop}
+use Rattle.reading.proofs.RecordLaws.{blank-spaces, rec-name, rec-fields, named-rec, cells-of, cells-yields}
+use Rattle.kit.proofs.ListLaws.{all-append, all-drop}
 use Rattle.index.specs.Stands as at
 use Rattle.index.specs.Stands.{Over, Eol, Blanks, Shown, Stands}
 use Rattle.index.specs.Found.{clean?, blank?, agrees?, Found, in-front, on-ok, values-at, block-at}

@@ -7,3 +7,4 @@ pub mod AsRead
 pub mod CutLaws
 pub mod FoundLaws
 pub mod Once
+pub mod Vectors

@@ -5,7 +5,8 @@ use Prim.Native.Nat.{ℕ, _+_}
 use native.Mathlib.Omega.{arith}
 use lib.ListN.{length, drop}
 use lib.Seq.{drop-drop, drop-append-seam}
-use Rattle.kit.specs.Answer.{All, pick-yes, pick-no}
+use Rattle.kit.specs.Answer.{All}
+use Rattle.kit.proofs.AnswerLaws.{pick-yes, pick-no}
 use Rattle.forms.specs.Columns.{Blank}
 use Rattle.layout.specs.Text.{Ended, none, last, lf, crlf, Clean, pad, Laid, blank, line}
 use Rattle.lines.specs.Cuts.{Cut, cuts}

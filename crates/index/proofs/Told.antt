@@ -6,7 +6,8 @@ use Prim.Native.Nat.{ℕ, zero, suc, _+_, _-_, _≤_, _<_}
 use native.Mathlib.Omega.{arith}
 use lib.IntN.{ℤ}
 use lib.ListN.{length, drop, length-append}
-use Rattle.kit.specs.Answer.{same, pick-yes, pick-no}
+use Rattle.kit.specs.Answer.{same}
+use Rattle.kit.proofs.AnswerLaws.{pick-yes, pick-no}
 use Rattle.mapset.specs.declared.Kind.{Kind}
 use Rattle.mapset.specs.declared.Kind.the-variants.{Tec, Rms, Height}
 use Rattle.mapset.specs.declared.Header.{Header}
@@ -16,7 +17,7 @@ use Rattle.layout.specs.Records.{Vals, ValueRows, v-last, v-full}
 use Rattle.layout.specs.Labels.{Label, name, labels, comment, exponent, epoch, block, file-end, start, end, layout, Rec}
 use Rattle.layout.specs.Layout.{Force, Left, nothing, maps, early, blocks, Exponent, per-map, Writes, w-end, w-comment, w-exponent, w-tec, w-epoch, w-other, w-again, w-block, w-close, w-file}
 use Rattle.reading.specs.Fields.{lookup, label}
-use Rattle.reading.specs.RecordLaws.{known-maps, rec-label, rec-name}
+use Rattle.reading.proofs.RecordLaws.{known-maps, rec-label, rec-name}
 use Rattle.areas.specs.Events as event
 use Rattle.areas.specs.Events.{Event, told}
 use Rattle.index.specs.Stands.{Stands}

@@ -1,5 +1,4 @@
 -- A block found at the start of a text, line by line. `FoundLaws` has that it is found exactly where it stands.
-use mathlib.Core.Path.{_≡_}
 use mathlib.Core.Option.{Option, none, some}
 use mathlib.Core.List.{List, [], _∷_, _++_}
 use Prim.Native.Nat.{ℕ, _-_, _%_}

@@ -8,4 +8,3 @@ pub mod Found
 -- the index that is made of a text
 pub mod Made
 -- a small text and its index
-pub mod Vectors

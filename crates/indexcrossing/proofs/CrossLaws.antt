@@ -1,21 +1,18 @@
 -- An index and its answers as they cross, case by case.
-use mathlib.Core.Path.{_≡_, refl, sym, ap, subst, _∙_}
+use mathlib.Core.Path.{_≡_, refl, sym, ap, _∙_}
 use mathlib.Core.List.{List, [], _∷_}
 use mathlib.Core.Option.{Option, none, some}
-use Prim.Native.Nat.{ℕ, _-_, _≤_, _<_}
+use Prim.Native.Nat.{ℕ, _≤_}
 use native.Mathlib.Omega.{arith}
 use lib.IntN.{ℤ}
 use lib.ListN.{length}
 use Rattle.kit.specs.Answer.{Answer, ok, refused}
 use Rattle.kit.specs.Lists.{front}
 use Rattle.mapset.specs.declared.Header.{Header}
-use Rattle.mapset.specs.declared.Texts.{Texts}
 use Rattle.mapset.specs.MapSet.{MapSet}
-use Rattle.mapset.specs.SoundLaws.{header-groups}
 use Rattle.reading.specs.Feed.{Why}
 use Rattle.reading.specs.Read.{read}
-use Rattle.reading.specs.Exact.{made-read}
-use Rattle.areas.specs.Formed.{Formed}
+use Rattle.reading.proofs.Exact.{made-read}
 use Rattle.areas.proofs.Made.{made-formed}
 use Rattle.outcome.specs.Outcome.{accepted, told, told-number, told-place}
 use Rattle.outcome.specs.declared.Reading.{Reading}
@@ -25,11 +22,10 @@ use Rattle.crossing.specs.Own.{too-short}
 use Rattle.crossing.proofs.OwnLaws.{unless-none, unless-short}
 use Rattle.crossing.specs.ReadExported.{told-header, told-texts, Small}
 use Rattle.crossing.proofs.ReadLaws.{in-years}
-use Rattle.index.specs.Index as index
 use Rattle.index.specs.Index.{Entries}
 use Rattle.pointed.specs.Told as pointed
 use Rattle.pointed.specs.Told.{Inside, Starts}
-use Rattle.pointed.specs.Once.{between-length}
+use Rattle.pointed.proofs.Once.{between-length}
 use Rattle.pointed.specs.declared.Reply.{Reply}
 use Rattle.pointed.specs.declared.Reply.the-variants as reply
 use Rattle.making.specs.Making.{with-room, made-of, made, comes}

@@ -1,8 +1,7 @@
 -- A node and a block by an index as they cross to other languages: a number, and an area of the call's own.
-use mathlib.Core.Path.{_≡_, refl, sym, _∙_}
+use mathlib.Core.Path.{_≡_}
 use mathlib.Core.List.{List, [], _∷_}
 use Prim.Native.Nat.{ℕ, _-_, _≤_}
-use native.Mathlib.Omega.{arith}
 use lib.IntN.{ℤ}
 use lib.ListN.{length}
 use Rattle.kit.specs.Lists.{front}
@@ -10,7 +9,6 @@ use Rattle.given.specs.Given.{header-of, texts-of}
 use Rattle.crossing.specs.Own.{too-short}
 use Rattle.index.specs.Index as index
 use Rattle.index.specs.Index.{Index, Entries, Node, Replies, position}
-use Rattle.index.proofs.Once.{reply-once}
 use Rattle.pointed.specs.Told.{number}
 use Rattle.pointed.specs.declared.Reply.{Reply}
 use Rattle.pointed.specs.declared.Reply.the-variants.{Given, Refused}
@@ -44,24 +42,6 @@ pub data BlockCrosses (h : List ℤ) (x : List ℕ) (l : Entries) (t : List ℕ)
   short : (k : ℕ) → k ≡ too-short (length h) (length x) (length v) 2 → 1 ≤ k → BlockCrosses h x l t q v k v
   answered : too-short (length h) (length x) (length v) 2 ≡ 0 → (a : index.Reply) → Replies (index-of h x l) t q a
       → BlockCrosses h x l t q v (told-number a) (front (told-bounds (position (index-of h x l) q) a) v)
-
--- no second number and no second content fits
-module _ (h : List ℤ) (x : List ℕ) (l : Entries) (t : List ℕ) (q : Node) where
-  pub ionex-indexed-node-once : (v : List ℤ) {n m : ℕ} {u w : List ℤ} → NodeCrosses h x l t q v n u → NodeCrosses h x l t q v m w → (n ≡ m) × (u ≡ w)
-  ionex-indexed-node-once v (short k e a) (short j f b) = (e ∙ sym f, refl)
-  ionex-indexed-node-once v (short k e a) (answered f b s) = absurd (omega (arith, e, f))
-  ionex-indexed-node-once v (answered e b s) (short k f a) = absurd (omega (arith, e, f))
-  ionex-indexed-node-once v (answered e a r) (answered f b s) =
-      let p = reply-once (index-of h x l) t q a b r s in
-      (λ i. told-number (p i), λ i. front (told-value (p i)) v)
-
-  pub ionex-indexed-block-once : (v : List ℕ) {n m : ℕ} {u w : List ℕ} → BlockCrosses h x l t q v n u → BlockCrosses h x l t q v m w → (n ≡ m) × (u ≡ w)
-  ionex-indexed-block-once v (short k e a) (short j f b) = (e ∙ sym f, refl)
-  ionex-indexed-block-once v (short k e a) (answered f b s) = absurd (omega (arith, e, f))
-  ionex-indexed-block-once v (answered e b s) (short k f a) = absurd (omega (arith, e, f))
-  ionex-indexed-block-once v (answered e a r) (answered f b s) =
-      let p = reply-once (index-of h x l) t q a b r s in
-      (λ i. told-number (p i), λ i. front (told-bounds (position (index-of h x l) q) (p i)) v)
 
 -- ---- the same of the code's reply
 

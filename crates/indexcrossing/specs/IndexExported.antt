@@ -1,5 +1,4 @@
 -- Making an index as it crosses to other languages: a number, the three areas of the index, and three areas of the call's own.
-use mathlib.Core.Path.{_≡_, sym, _∙_}
 use mathlib.Core.List.{List}
 use Prim.Native.Nat.{ℕ}
 use lib.IntN.{ℤ}
@@ -28,7 +27,3 @@ crosses o h x p =
 
 unfoldable pub index-crossed : List ℕ → Entries → List ℤ → List ℕ → List ℕ → Crossed
 index-crossed t l h x p = unless (too-short (length h) (length x) (length p) 2) (crosses (made t l) h x p) (λ k. crossed k l h x p)
-
--- no second answer
-pub ionex-index-once : (t : List ℕ) (l : Entries) (h : List ℤ) (x p : List ℕ) (a b : Crossed) → a ≡ index-crossed t l h x p → b ≡ index-crossed t l h x p → a ≡ b
-ionex-index-once t l h x p a b e f = e ∙ sym f

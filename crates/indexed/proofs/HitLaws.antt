@@ -1,6 +1,6 @@
 -- A block's values, line by line, as the code goes over them.
 use mathlib.Core.Path.{_≡_, refl, sym, ap, subst, _∙_}
-use mathlib.Core.Bool.{Bool, true, false}
+use mathlib.Core.Bool.{true}
 use mathlib.Core.Option.{none, some}
 use mathlib.Core.List.{List, [], _∷_, _++_, append-nil}
 use Prim.Native.Nat.{ℕ, zero, suc, _+_, _-_, _*_, _≤_, _<_}
@@ -9,27 +9,28 @@ use native.Mathlib.Decide.{decLe}
 use native.Mathlib.Nat.{le-trans}
 use lib.IntN.{ℤ, pos}
 use lib.ListN.{length, getD, take, drop, length-drop, length-append, length-replicate, List·getD-append}
-use lib.Seq.{drop-drop, take-nil, take-take, take-add, length-take-le, getD-append-add}
-use Rattle.kit.specs.Answer.{Answer, ok, refused, pick, amap, pick-yes, pick-no, yields}
-use Rattle.kit.specs.TruthLaws.{clash}
-use Rattle.kit.specs.ListLaws.{drop-take}
+use lib.Seq.{drop-drop, take-take, take-add, length-take-le, getD-append-add}
+use Rattle.kit.specs.Answer.{Answer, ok, refused, pick, amap}
+use Rattle.kit.proofs.AnswerLaws.{pick-yes, pick-no, yields}
+use Rattle.kit.proofs.TruthLaws.{clash}
+use Rattle.kit.proofs.ListLaws.{drop-take}
 use Rattle.forms.specs.Form.{I}
 use Rattle.forms.specs.Read.{readField, isNumber}
 use Rattle.forms.specs.declared.Field.{Field}
 use Rattle.forms.specs.declared.Field.the-variants.{Number, Bad}
 use Rattle.layout.specs.Text.{pad}
-use Rattle.reading.specs.Feed.{Fault, fault, why, feed, split, over, bad, NoRow}
+use Rattle.reading.specs.Feed.{Fault, fault, NoRow}
 use Rattle.reading.specs.Fields.{cells, number}
 use Rattle.reading.specs.Maps.{on-row}
-use Rattle.reading.specs.RecordLaws.{cells-yields}
-use Rattle.lines.specs.Cuts.{Starts, cuts}
+use Rattle.reading.proofs.RecordLaws.{cells-yields}
+use Rattle.lines.specs.Cuts.{cuts}
 use Rattle.lines.specs.Lines as L
 use Rattle.lines.specs.declared.Line.the-variants as line
 use Rattle.values.specs.Values.{value-field, Judges}
 use Rattle.values.specs.declared.Cells.{Cells}
 use Rattle.values.specs.declared.Cells.the-variants.{Fine, Wrong}
 use Rattle.values.proofs.ValueLaws.{field-of, field-short, field-whole}
-use Rattle.index.specs.Found.{Found, in-front, values-at}
+use Rattle.index.specs.Found.{in-front, values-at}
 use Rattle.index.proofs.FoundLaws.{in-front-none, in-front-twice, skip-line, row-line, wrong-line, no-values-ahead}
 use Rattle.indexed.specs.Hits.{between, values-from, Skips, Holds, Stepped, spot-of, Reads, At}
 use Rattle.indexed.specs.declared.Step.{Step}

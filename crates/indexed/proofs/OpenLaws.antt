@@ -1,22 +1,23 @@
 -- A block's opening line, and the block that is found with it.
 use mathlib.Core.Path.{_≡_, refl, sym, ap, subst, _∙_}
 use mathlib.Core.Bool.{Bool, true, false, not, _||_}
-use mathlib.Core.Logic.{_⊎_, inl, inr, ⊎-elim}
+use mathlib.Core.Logic.{⊎-elim}
 use mathlib.Core.Option.{Option, none, some}
 use mathlib.Core.List.{List, [], _∷_, _++_}
-use Prim.Native.Nat.{ℕ, _+_, _-_, _*_, _/_, _%_, _≤_, _<_}
+use Prim.Native.Nat.{ℕ, _+_, _-_, _%_, _≤_, _<_}
 use native.Mathlib.Omega.{arith}
-use native.Mathlib.Decide.{ℕ-discrete, decLt}
-use borrow.Author.Tests.{eqb-true, eqb-false, eq-eqb, ne-eqb}
+use native.Mathlib.Decide.{decLt}
+use borrow.Author.Tests.{eqb-true, eqb-false}
 use lib.Dec.{T, eqb}
 use lib.IntN.{ℤ}
-use lib.ListN.{length, getD, take, drop, length-drop, drop-of-length-le}
+use lib.ListN.{length, getD, take, drop, drop-of-length-le}
 use lib.Seq.{drop-drop}
-use Rattle.kit.specs.Answer.{Answer, ok, refused, All, same, pick, pick-yes, pick-no, pick-elim}
+use Rattle.kit.specs.Answer.{ok, refused, All, same, pick}
+use Rattle.kit.proofs.AnswerLaws.{pick-yes, pick-no, pick-elim}
 use Rattle.kit.specs.Integer.{int?}
-use Rattle.kit.specs.Truth.{truth, holds, fails, truth-true, truth-false, tells, tested-at}
-use Rattle.kit.specs.TruthLaws.{clash}
-use Rattle.mapset.specs.Grid.{layers, rows, columns}
+use Rattle.kit.specs.Truth.{truth}
+use Rattle.kit.proofs.TruthLaws.{holds, fails, truth-true, truth-false, tells, tested-at, clash}
+use Rattle.mapset.specs.Grid.{rows, columns}
 use Rattle.mapset.specs.declared.Axis.{Axis}
 use Rattle.mapset.specs.declared.Header.{Header}
 use Rattle.layout.specs.Text.{Clean, pad}
@@ -26,8 +27,8 @@ use Rattle.layout.specs.Layout.{per-map, node, Height-of, Opens}
 use Rattle.layout.specs.Names.{names, number-of}
 use Rattle.reading.specs.Feed.{Fault, feed, split, NoRow}
 use Rattle.reading.specs.Fields.{lookup, label, fields}
-use Rattle.reading.specs.LabelLaws.{label-known, label-unknown, named}
-use Rattle.reading.specs.RecordLaws.{known-maps}
+use Rattle.reading.proofs.LabelLaws.{label-known, label-unknown, named}
+use Rattle.reading.proofs.RecordLaws.{known-maps}
 use Rattle.reading.specs.Maps.{height?}
 use Rattle.agreement.specs.Agreement.{differing}
 use Rattle.lines.specs.Cuts.{Cut, cuts}

@@ -1,1 +1,4 @@
 pub mod StoreLaws
+pub mod Needed
+pub mod Once
+pub mod Wrong

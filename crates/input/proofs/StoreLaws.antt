@@ -1,13 +1,11 @@
 -- A text and six areas: what comes of it.
 use mathlib.Core.Path.{_≡_, sym, ap, _∙_}
-use mathlib.Core.List.{List, [], _∷_}
+use mathlib.Core.List.{List}
 use mathlib.Core.Option.{none, some}
-use Prim.Native.Nat.{ℕ, suc, _≤_}
-use native.Mathlib.Omega.{arith}
-use native.Mathlib.Decide.{decLe}
+use Prim.Native.Nat.{ℕ}
 use lib.IntN.{ℤ}
 use lib.ListN.{drop}
-use Rattle.kit.specs.Answer.{refused, pick, All}
+use Rattle.kit.specs.Answer.{refused}
 use Rattle.mapset.specs.declared.Header.{Header}
 use Rattle.mapset.specs.declared.Texts.{Texts}
 use Rattle.mapset.specs.Grid.{columns}
@@ -16,7 +14,7 @@ use Rattle.mapset.specs.Areas.{Areas}
 use Rattle.layout.specs.Layout.{per-map}
 use Rattle.reading.specs.Feed.{why}
 use Rattle.reading.specs.Read.{read}
-use Rattle.head.specs.Opened.{blank-texts}
+use Rattle.mapset.specs.Said.{blank-texts}
 use Rattle.areas.specs.Flat.{areas}
 use Rattle.fill.specs.Filled as filled
 use Rattle.fill.specs.Filled.{Enough}

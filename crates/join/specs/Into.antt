@@ -6,14 +6,16 @@ use Rattle.mapset.specs.declared.Header.{Header}
 use Rattle.mapset.specs.declared.Texts.{Texts}
 use Rattle.mapset.specs.MapSet.{MapSet}
 use Rattle.mapset.specs.Areas.{Areas}
-use Rattle.mapset.specs.SoundLaws.{sound?}
+use Rattle.mapset.specs.SoundDecided.{sound?}
 use Rattle.areas.specs.Flat.{areas}
 use Rattle.areas.specs.Stores.{fronts}
 use Rattle.areas.specs.Valid.{Valid}
 use Rattle.areas.specs.ValidDecided.{valid?}
-use Rattle.areas.proofs.ValidFormed.{nested}
+use Rattle.areas.specs.Nesting.{nested}
 use Rattle.needs.specs.Needs.{needed-and-lent, first-short}
-use Rattle.join.specs.Join.{count, joined, alike?, meet?, in-limits?}
+use Rattle.join.specs.Join.{count, joined, alike?, meet?, in-limits?, MayJoin}
+use mathlib.Core.Path.{_≡_}
+use Rattle.areas.specs.Formed.{Formed}
 
 -- a header record, its texts, and six areas that may be longer than needed
 pub record Lent : Type 0 where
@@ -64,3 +66,12 @@ join-into x y l = bind (lent-join x y) (λ m. with-room m l (first-short 1 (need
 unfoldable pub left : Answer Why Lent → Areas → Areas
 left (ok x) l = x .areas
 left (refused w) l = l
+
+pub record MayLent (x y : Lent) : Type 0 where
+  pub earlier : IsValid x
+  pub later : IsValid y
+  pub join : MayJoin (meaning x) (meaning y)
+
+-- ---- areas that are large enough for every map set
+abbrev pub Large : Areas → Type 0
+Large l = (m : MapSet) → Formed m → first-short 1 (needed-and-lent (areas m) l) ≡ none

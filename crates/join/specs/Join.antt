@@ -4,7 +4,7 @@ use mathlib.Core.List.{List, [], _∷_, _++_, map}
 use Prim.Native.Nat.{ℕ, _+_, _-_, _*_, _≤_}
 use native.Mathlib.Decide.{ℕ-discrete, decLe}
 use lib.ListN.{take}
-use Rattle.kit.specs.Answer.{Answer, ok, need, pick, ×-dec}
+use Rattle.kit.specs.Answer.{Answer, ok, need, pick, ×-dec, refused}
 use Rattle.kit.specs.Integer.{int?}
 use Rattle.kit.specs.Truth.{dec-by}
 use Rattle.mapset.specs.declared.Axis.{Axis}
@@ -121,3 +121,8 @@ join a b =
     (need (meet? (a .header) (b .header)) 41
     (need (in-limits? (count (a .header) (b .header)) (b .header .grid)) 42
     (ok (joined a b))))))
+
+-- both given and equal, or both refused, by whatever numbers
+pub data Agree {W A : Type 0} : Answer W A → Answer W A → Type 0 where
+  both-given : {x : A} → Agree (ok x) (ok x)
+  both-refused : {v w : W} → Agree (refused v) (refused w)

@@ -1,41 +1,42 @@
 -- Two lent sets that may be joined: what the code's numbers are, and what its areas hold, in the words of `join-into`.
 use mathlib.Core.Path.{_≡_, refl, sym, ap, subst, _∙_}
-use mathlib.Core.Bool.{Bool, true, false, _||_, cond}
+use mathlib.Core.Bool.{true, false, _||_, cond}
 use mathlib.Core.List.{List, [], _∷_, _++_}
 use mathlib.Core.Option.{Option, none, some}
 use Prim.Native.Nat.{ℕ, zero, suc, _+_, _-_, _*_, _≤_}
 use native.Mathlib.Omega.{arith}
-use native.Mathlib.Decide.{decLe}
-use native.Mathlib.Nat.{add-mul, mul-assoc, mul-le-mul-right, mul-le-mul-left}
+use native.Mathlib.Nat.{add-mul, mul-assoc, mul-le-mul-right}
 use lib.Dec.{ltb}
 use lib.IntN.{ℤ, pos}
 use lib.ListN.{length, take, drop, replicate}
 use lib.Seq.{take-take, length-take-le}
-use Rattle.kit.specs.Answer.{Answer, ok, refused, bind, pick, pick-yes, pick-no, All}
+use Rattle.kit.specs.Answer.{refused, bind, pick}
+use Rattle.kit.proofs.AnswerLaws.{pick-yes, pick-no}
 use Rattle.kit.specs.Lists.{front}
-use Rattle.kit.specs.ListLaws.{all-append, all-front, all-behind}
+use Rattle.kit.proofs.ListLaws.{all-append, all-front, all-behind}
 use Rattle.mapset.specs.declared.Kind.{Kind}
 use Rattle.mapset.specs.declared.Kind.the-variants.{Tec, Rms, Height}
 use Rattle.mapset.specs.Grid.{Limits, layers, rows, columns}
 use Rattle.mapset.specs.MapSet.{MapSet}
 use Rattle.mapset.specs.Areas.{Areas, Present, Nowhere, nowhere?, values, value-need, blocks, Room}
-use Rattle.mapset.specs.SoundLaws.{header-groups, few-values, few-blocks}
+use Rattle.mapset.specs.SoundDecided.{header-groups}
+use Rattle.mapset.proofs.SoundLaws.{few-values, few-blocks}
 use Rattle.areas.specs.Flat.{areas}
 use Rattle.areas.specs.Formed.{Formed}
 use Rattle.areas.specs.Nest.{third}
-use Rattle.areas.specs.Stores.{first-of, fronts}
+use Rattle.areas.specs.Stores.{fronts}
 use Rattle.areas.specs.Valid.{needed}
 use Rattle.areas.proofs.Needs.{needs}
 use Rattle.needs.specs.Needs.{lengths, needed-and-lent, first-short, pairs, needs-of}
 use Rattle.needs.proofs.ShortLaws.{all-long}
-use Rattle.beside.specs.Lists.{or-absent, values-of-two, third-of-two, thirds-of-two}
+use Rattle.beside.specs.Lists.{or-absent, values-of-two, third-of-two}
 use Rattle.join.specs.Join.{header-from, joined}
-use Rattle.join.specs.JoinedFormed.{joined-formed}
+use Rattle.join.proofs.JoinedFormed.{joined-formed}
 use Rattle.join.specs.Beside.{beside}
-use Rattle.join.specs.Into.{Lent, IsValid, lent, meaning, Why, with-room, lent-join, join-into, left}
-use Rattle.join.specs.IntoLaws.{MayLent, lent-areas}
-use Rattle.join.specs.IntoExactly.{given, lent-once}
-use Rattle.joining.specs.Joined.{some-of, kinds-left, kept, some-left, kind-beside, KindFits, Fillable, all-beside, count-of, short-of, Ready, Put, puts, by-room, stored, told-why, comes, came}
+use Rattle.join.specs.Into.{Lent, IsValid, meaning, with-room, lent-join, join-into, left, MayLent}
+use Rattle.join.proofs.IntoLaws.{lent-areas}
+use Rattle.join.proofs.IntoExactly.{given, lent-once}
+use Rattle.joining.specs.Joined.{some-of, kinds-left, kept, some-left, kind-beside, KindFits, Fillable, all-beside, short-of, Ready, puts, by-room, stored, told-why, comes, came}
 use Rattle.joining.specs.declared.Refusal.{Refusal}
 use Rattle.joining.specs.declared.Joining.{Joining}
 use Rattle.joining.specs.declared.Joining.the-variants.{Done, Refused}

@@ -7,7 +7,7 @@ use Rattle.mapset.specs.declared.Header.{Header}
 use Rattle.mapset.specs.declared.Times.{Times}
 use Rattle.mapset.specs.Grid.{Limits, columns}
 use Rattle.mapset.specs.Areas.{Areas}
-use Rattle.mapset.specs.SoundLaws.{few-values, few-blocks}
+use Rattle.mapset.proofs.SoundLaws.{few-values, few-blocks}
 use Rattle.layout.specs.Layout.{per-map}
 use Rattle.needs.specs.Needs.{lengths, first-short, needs-of, pairs}
 use Rattle.needs.specs.declared.Elements.{Elements}

@@ -13,14 +13,13 @@ use Rattle.mapset.specs.declared.Kind.the-variants.{Rms, Height}
 use Rattle.mapset.specs.declared.Header.{Header}
 use Rattle.mapset.specs.declared.Times.{Times}
 use Rattle.mapset.specs.declared.Texts.{Texts}
-use Rattle.mapset.specs.Grid.{Limits, layers, rows, columns}
+use Rattle.mapset.specs.Grid.{Limits, columns}
 use Rattle.mapset.specs.Areas.{Areas, nowhere?}
 use Rattle.needs.specs.Needs.{lengths, first-short, needs-of, pairs}
 use Rattle.needs.specs.declared.Others.{Others}
 use Rattle.beside.specs.Lists.{values-of-two, thirds-of-two}
 use Rattle.join.specs.Join.{header-from}
-use Rattle.join.specs.Into.{Lent, lent-of, Why, because, short, lent-join, left}
-use Rattle.join.specs.IntoLaws.{MayLent}
+use Rattle.join.specs.Into.{Lent, lent-of, Why, because, short, lent-join, left, MayLent}
 use Rattle.joining.specs.declared.Refusal.{Refusal}
 use Rattle.joining.specs.declared.Refusal.the-variants.{NotValid, Unlike, Apart, TooMany, AreaTooShort}
 use Rattle.joining.specs.declared.Joining.{Joining}

@@ -7,7 +7,8 @@ use Prim.Native.Nat.{ℕ, suc}
 use native.Mathlib.Omega.{arith}
 use lib.IntN.{ℤ}
 use lib.ListN.{drop}
-use Rattle.kit.specs.Answer.{Answer, ok, refused, amap, yields}
+use Rattle.kit.specs.Answer.{Answer, ok, refused, amap}
+use Rattle.kit.proofs.AnswerLaws.{yields}
 use Rattle.kit.specs.Range.{Within}
 use Rattle.mapset.specs.declared.Header.{Header}
 use Rattle.mapset.specs.MapSet.{Maps, MapSet}
@@ -15,10 +16,10 @@ use Rattle.layout.specs.Layout.{Force, begins}
 use Rattle.reading.specs.Feed.{Why, why, split, feed}
 use Rattle.reading.specs.Maps.{run, short}
 use Rattle.reading.specs.Read.{read}
-use Rattle.reading.specs.LineLaws.{sized}
-use Rattle.reading.specs.MapLaws.{runs, written, wrote-rows}
-use Rattle.reading.specs.RefusalLaws.{Cause, too-long, bad-byte, by-row}
-use Rattle.reading.specs.Refusals.{refusals, ten-at}
+use Rattle.reading.proofs.LineLaws.{sized}
+use Rattle.reading.proofs.MapLaws.{runs, written, wrote-rows}
+use Rattle.reading.specs.Refusals.{Cause, too-long, bad-byte, by-row}
+use Rattle.reading.proofs.FaultLaws.{refusals, ten-at}
 use Rattle.reading.specs.declared.Place.the-variants.{Between}
 use Rattle.head.specs.Opened.{MapsStart, Sound, opened, Opens}
 use Rattle.head.specs.declared.HeaderRead.{HeaderRead}

@@ -9,9 +9,9 @@ use Rattle.mapset.specs.declared.Header.{Header}
 use Rattle.mapset.specs.declared.Texts.{Texts}
 use Rattle.mapset.specs.Grid.{columns, Limits}
 use Rattle.mapset.specs.MapSet.{OtherMap, MapSet}
-use Rattle.mapset.specs.SoundLaws.{few-values, few-blocks}
+use Rattle.mapset.proofs.SoundLaws.{few-values, few-blocks}
 use Rattle.layout.specs.Layout.{per-map}
-use Rattle.reading.specs.Exact.{made-read}
+use Rattle.reading.proofs.Exact.{made-read}
 use Rattle.areas.specs.Flat.{slots, reads, values-of, wanted, areas-of, areas}
 use Rattle.areas.specs.Formed.{Rising, Formed}
 use Rattle.areas.proofs.KindLaws.{kind-values}

@@ -1,17 +1,16 @@
 -- Tests on integers, against the decisions on them.
-use mathlib.Core.Path.{_≡_, ap, _∙_}
+use mathlib.Core.Path.{_≡_}
 use mathlib.Core.Bool.{true, false}
-use native.Mathlib.Decide.{ℕ-discrete}
 use native.Mathlib.Omega.{arith}
-use lib.Dec.{eqb}
 use lib.IntN.{ℤ}
 use lib.Signed.{ltZ}
-use mir.Syntax.{Width, w32, w64}
+use mir.Syntax.{w32, w64}
 use mir.Val.{SFits, toZ, ofZ}
 use mir.Facts.{toZ-ofZ, sfits-widen}
-use Rattle.kit.specs.Integer.{int?, between?}
-use Rattle.kit.specs.Parts.{from-bits, le-parts, parts-le, lt-true, lt-false}
-use Rattle.kit.specs.Truth.{truth, holds, fails, truth-same, eq-tells}
+use Rattle.kit.specs.Integer.{between?}
+use Rattle.kit.proofs.Parts.{le-parts, parts-le, lt-true, lt-false}
+use Rattle.kit.specs.Truth.{truth}
+use Rattle.kit.proofs.TruthLaws.{holds, fails}
 
 -- a number of 32 bits is the same in 64
 pub widened : (x : ℤ) → SFits w32 x → toZ w64 (ofZ w64 (toZ w32 (ofZ w32 x))) ≡ x

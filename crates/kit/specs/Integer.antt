@@ -7,6 +7,15 @@ use native.Mathlib.Omega.{arith}
 use lib.Dec.{T}
 use lib.IntN.{ℤ, pos, negsuc}
 use lib.Signed.{ltZ, leZ, _≤ℤ_, _<ℤ_}
+use Prim.Native.Nat.{suc}
+
+abbrev pub up : ℤ → ℕ
+up (pos n) = n
+up (negsuc n) = 0
+
+abbrev pub dn : ℤ → ℕ
+dn (pos n) = 0
+dn (negsuc n) = suc n
 
 unfoldable pub int? : (a b : ℤ) → Dec (a ≡ b)
 int? (pos m) (pos n) = go (ℕ-discrete m n)

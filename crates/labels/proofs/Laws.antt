@@ -10,8 +10,7 @@ use lib.Dec.{T, eqb}
 use lib.ListN.{length, getD, drop, drop-of-length-le}
 use borrow.Author.Tests.{eq-eqb, ne-eqb, eqb-true}
 use lib.Seq.{drop-cons}
-use Rattle.kit.specs.Truth.{and-left, and-right}
-use Rattle.kit.specs.TruthLaws.{and-true, and-assoc}
+use Rattle.kit.proofs.TruthLaws.{and-left, and-right, and-true, and-assoc}
 use Rattle.layout.specs.Labels.{name}
 use Rattle.layout.specs.Names.{holds, place-of, names, number-of}
 

@@ -1,12 +1,12 @@
 -- Laws of a list of names, and of the labels. Assumes nothing.
 use mathlib.Core.Path.{_≡_}
-use mathlib.Core.Bool.{Bool, true, false, _&&_}
+use mathlib.Core.Bool.{Bool, true, _&&_}
 use mathlib.Core.List.{List, [], _∷_}
 use Prim.Native.Nat.{ℕ, zero, suc, _<_}
 use native.Mathlib.Nat.{le-of-suc-le-suc, not-suc-le-zero}
 use lib.Dec.{T, eqb, eqb→eq}
 use lib.ListN.{length, getD}
-use Rattle.kit.specs.Truth.{and-left, and-right}
+use Rattle.kit.proofs.TruthLaws.{and-left, and-right}
 use Rattle.layout.specs.Labels.{name, codes}
 use Rattle.layout.specs.Names.{names}
 

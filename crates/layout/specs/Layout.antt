@@ -8,7 +8,7 @@ use Prim.Native.Nat.{ℕ, suc, _+_, _-_, _*_, _/_, _%_, _≤_, _<_}
 use lib.IntN.{ℤ, pos, negsuc, _+ℤ_, _*ℤ_}
 use lib.ListN.{length, getD, set, drop}
 use Rattle.kit.specs.Answer.{All}
-use Rattle.kit.specs.Integer.{Between}
+use Rattle.kit.specs.Integer.{Between, between?}
 use Rattle.calendar.specs.Calendar.{Dated}
 use Rattle.mapset.specs.declared.Kind.{Kind}
 use Rattle.mapset.specs.declared.Kind.the-variants.{Tec, Rms, Height}
@@ -211,3 +211,7 @@ pub data Rows (m : MapSet) : List (List ℕ) → Type 0 where
 -- `Makes m t`: the map set m makes the text t
 pub data Makes (m : MapSet) : List ℕ → Type 0 where
   makes : {rs ls : List (List ℕ)} {t : List ℕ} → Rows m rs → Laid rs ls → Ended ls t → Makes m t
+
+-- ---- decisions
+unfoldable pub exponent? : (e : ℤ) → Dec (Exponent e)
+exponent? e = between? (negsuc 2) (pos 0) e

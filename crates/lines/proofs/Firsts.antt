@@ -7,14 +7,15 @@ use mathlib.Core.List.{List, [], _∷_, _++_, append-nil, append-assoc}
 use native.Mathlib.Decide.{ℕ-discrete, decLe}
 use lib.ListN.{length, getD, take, drop, take-append-drop, drop-of-length-le, length-append}
 use lib.Seq.{drop-cons, take-suc, length-take-le, take-all, take-at, drop-at}
-use Rattle.kit.specs.Answer.{×-dec, pick, pick-yes, pick-no, pick-elim, All, all-dec}
-use Rattle.kit.specs.ListLaws.{all-front, all-behind}
+use Rattle.kit.specs.Answer.{×-dec, pick, All, all-dec}
+use Rattle.kit.proofs.AnswerLaws.{pick-yes, pick-no, pick-elim}
+use Rattle.kit.proofs.ListLaws.{all-front, all-behind}
 use Rattle.kit.specs.Range.{Within, within?}
 use Rattle.layout.specs.Text.{Clean, pad}
 use Rattle.reading.specs.Feed.{why, front, Opens, opens?, split, Feed, over, bad, row, feed, bad-column}
-use Rattle.reading.specs.LineLaws.{split-lf, split-crlf}
+use Rattle.reading.proofs.LineLaws.{split-lf, split-crlf}
 use Rattle.lines.specs.Lines.{passing, not-lf?, printable?, blank?, look-of, Spans, Skips, Rows}
-use Rattle.lines.specs.Cuts.{Cut, with-byte, cuts, Starts}
+use Rattle.lines.specs.Cuts.{with-byte, cuts, Starts}
 use Rattle.lines.specs.declared.Look.{Look}
 use Rattle.lines.specs.declared.Look.the-variants.{Wrong, Blank, Full}
 use Rattle.lines.specs.declared.Span.{Span}

@@ -4,8 +4,7 @@ use Prim.Native.Nat.{ℕ, _+_, _-_, _≤_}
 use native.Mathlib.Omega.{arith}
 use mathlib.Core.List.{List}
 use lib.ListN.{length, take, drop, length-drop, length-take}
-use lib.Seq.{take-all}
-use Rattle.kit.specs.ListLaws.{rest-of}
+use Rattle.kit.proofs.ListLaws.{rest-of}
 use Rattle.lines.specs.Lines.{Stands, Skips, Rows}
 use Rattle.lines.specs.declared.Line.{Line}
 

@@ -1,12 +1,13 @@
 -- How many bytes pass, as a loop goes over them, and what that number says.
 use mathlib.Core.Path.{_≡_, refl, sym, ap, _∙_}
 use mathlib.Core.List.{List, [], _∷_, _++_}
-use Prim.Native.Nat.{ℕ, zero, suc, _+_, _-_, _≤_, _<_}
+use Prim.Native.Nat.{ℕ, zero, suc, _+_, _≤_, _<_}
 use native.Mathlib.Numerals.{add-one}
 use native.Mathlib.Omega.{arith}
 use lib.ListN.{length, getD, take, drop, drop-of-length-le}
 use lib.Seq.{drop-cons}
-use Rattle.kit.specs.Answer.{pick-yes, pick-no, pick-elim, All}
+use Rattle.kit.proofs.AnswerLaws.{pick-yes, pick-no, pick-elim}
+use Rattle.kit.specs.Answer.{All}
 use Rattle.lines.specs.Lines.{passing}
 
 module _ {P : ℕ → Type 0} (d : (b : ℕ) → Dec (P b)) where

@@ -10,7 +10,7 @@ use lib.ListN.{length, getD, take, drop, length-drop}
 use lib.Seq.{drop-drop, length-take-le}
 use borrow.Author.Tests.{leb-true}
 use Rattle.kit.specs.Range.{Within}
-use Rattle.kit.specs.ListLaws.{rest-of}
+use Rattle.kit.proofs.ListLaws.{rest-of}
 use Rattle.lines.specs.Lines.{passing, not-lf?, printable?, blank?, Spans, Skips, Rows}
 use Rattle.lines.specs.Quick.{Sixteen, Ahead}
 use Rattle.lines.proofs.Passing.{passing-le, passing-all, passing-step, passing-end, passing-skip, passing-before, passing-is, passing-full}

@@ -15,12 +15,12 @@ use Rattle.mapset.specs.declared.Texts.{Texts}
 use Rattle.mapset.specs.Grid.{columns, Limits}
 use Rattle.mapset.specs.MapSet.{MapSet}
 use Rattle.mapset.specs.Areas.{Areas, six, Room}
-use Rattle.mapset.specs.SoundLaws.{few-blocks}
+use Rattle.mapset.proofs.SoundLaws.{few-blocks}
 use Rattle.layout.specs.Layout.{per-map, plain, Rows, Makes, makes}
 use Rattle.reading.specs.Feed.{why}
 use Rattle.reading.specs.Read.{read}
-use Rattle.reading.specs.Exact.{made-read}
-use Rattle.head.specs.Opened.{blank-texts}
+use Rattle.reading.proofs.Exact.{made-read}
+use Rattle.mapset.specs.Said.{blank-texts}
 use Rattle.areas.specs.Flat.{areas}
 use Rattle.areas.specs.Events as event
 use Rattle.areas.specs.Scan.{at-first, brought, events}

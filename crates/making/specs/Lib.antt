@@ -1,3 +1,2 @@
 -- What is answered of a text and the areas lent for its index.
 pub mod Making
-pub mod Once

@@ -10,7 +10,7 @@ use Rattle.mapset.specs.declared.Texts.{Texts}
 use Rattle.mapset.specs.MapSet.{Maps, MapSet}
 use Rattle.reading.specs.Feed.{Why}
 use Rattle.reading.specs.Read.{read}
-use Rattle.head.specs.Opened.{blank-texts}
+use Rattle.mapset.specs.Said.{blank-texts}
 use Rattle.needs.specs.Needs.{first-short}
 use Rattle.judging.specs.Scanned.{set-of}
 use Rattle.outcome.specs.Outcome.{Told, accepted, at-place, eleven, told}

@@ -7,19 +7,19 @@ use native.Mathlib.Omega.{arith}
 use lib.ListN.{length}
 use lib.Seq.{drop-length}
 use lib.IntN.{ℤ, pos, negsuc}
-use Rattle.kit.specs.Answer.{Answer, ok, refused, need, need-yes, need-no, bind}
-use Rattle.kit.specs.Integer.{int?}
-use Rattle.kit.specs.Parts.{up}
-use Rattle.kit.specs.Truth.{truth, truth-true, truth-false}
-use Rattle.kit.specs.TruthLaws.{clash}
+use Rattle.kit.specs.Answer.{Answer, ok, refused, need, bind}
+use Rattle.kit.proofs.AnswerLaws.{need-yes, need-no}
+use Rattle.kit.specs.Integer.{int?, up}
+use Rattle.kit.specs.Truth.{truth}
+use Rattle.kit.proofs.TruthLaws.{truth-true, truth-false, clash}
 use Rattle.mapset.specs.declared.Kind.{Kind}
 use Rattle.mapset.specs.declared.Kind.the-variants.{Tec, Rms, Height}
 use Rattle.mapset.specs.declared.Header.{Header}
 use Rattle.layout.specs.Labels.{exponent}
-use Rattle.layout.specs.Layout.{Force, under, last-of, with-last, per-map, one-more, one-tec}
+use Rattle.layout.specs.Layout.{Force, under, last-of, with-last, per-map, one-more, one-tec, exponent?}
 use Rattle.reading.specs.Feed.{Fault, fault}
 use Rattle.reading.specs.Fields.{fields}
-use Rattle.reading.specs.Maps.{Todo, Step, goes, stays, misplaced, loose, exponent?, kind?, on-exponent, start-tec, start-other, end-map, on-end}
+use Rattle.reading.specs.Maps.{Todo, Step, goes, stays, misplaced, loose, kind?, on-exponent, start-tec, start-other, end-map, on-end}
 use Rattle.reading.specs.declared.Open.{Open}
 use Rattle.reading.specs.declared.Place.{Place}
 use Rattle.reading.specs.declared.Place.the-variants.{Ended, Between, Early, Inside}

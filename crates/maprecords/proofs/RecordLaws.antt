@@ -23,9 +23,9 @@ use Rattle.layout.specs.Records.{X}
 use Rattle.layout.specs.Labels.{exponent, epoch, block, file-end, layout}
 use Rattle.layout.specs.Layout.{Date}
 use Rattle.reading.specs.Feed.{Fault, fault}
-use Rattle.reading.specs.Fields.{number, fields}
+use Rattle.reading.specs.Fields.{number, fields, blank-to, unless}
 use Rattle.reading.specs.Maps.{date, on-date}
-use Rattle.reading.specs.ScanLaws.{blank-to, unless, read-is}
+use Rattle.reading.proofs.ScanLaws.{read-is}
 use Rattle.maprecords.specs.Records.{one-of, numbers-of}
 
 -- ---- one number

@@ -9,8 +9,7 @@ use Rattle.forms.specs.declared.Triple.the-variants.{Three, Amiss}
 use Rattle.layout.specs.Records.{Vals}
 use Rattle.layout.specs.Labels.{block, layout}
 use Rattle.reading.specs.Feed.{Fault, fault}
-use Rattle.reading.specs.Fields.{number}
-use Rattle.reading.specs.ScanLaws.{unless}
+use Rattle.reading.specs.Fields.{number, unless}
 use Rattle.maprecords.specs.declared.One.{One}
 use Rattle.maprecords.specs.declared.One.the-variants as one
 use Rattle.maprecords.specs.declared.Dated.{Dated}

@@ -8,7 +8,7 @@ ghost use Rattle.layout.specs.Text.{pad};
 ghost use Rattle.layout.specs.Labels as L;
 ghost use Rattle.reading.specs.Fields as R;
 ghost use Rattle.reading.specs.Maps.{date, on-date};
-ghost use Rattle.reading.specs.ScanLaws.{blank-to};
+ghost use Rattle.reading.specs.Fields.{blank-to};
 ghost use Rattle.maprecords.specs.Records.{told-one, told-dated, told-opening, one-of, numbers-of};
 ghost use Rattle.forms.specs.Form.{F1};
 ghost use Rattle.forms.specs.Read.{readField};

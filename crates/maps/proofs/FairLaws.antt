@@ -1,16 +1,17 @@
 -- What every step keeps: the epochs grow by at most the one that is remembered, there is room for it, and the maps handed back are those that
 -- were seen.
 use mathlib.Core.Path.{_≡_, refl, sym, _∙_}
-use mathlib.Core.Bool.{Bool, true, false, _||_, or-true}
+use mathlib.Core.Bool.{true, _||_, or-true}
 use mathlib.Core.List.{List, [], _∷_, _++_}
-use Prim.Native.Nat.{ℕ, suc, _+_, _<_}
+use Prim.Native.Nat.{ℕ, suc, _<_}
 use native.Mathlib.Omega.{arith}
 use lib.Dec.{ltb}
 use lib.IntN.{ℤ, pos, negsuc, natAbs}
 use lib.ListN.{length, drop, length-append}
 use lib.Seq.{drop-length, drop-append-seam}
 use borrow.Author.Tests.{lt-ltb}
-use Rattle.kit.specs.Answer.{Answer, ok, Yields, y-ok, y-no, yields, need-yields, get-yields, bind-yields}
+use Rattle.kit.specs.Answer.{Answer, ok}
+use Rattle.kit.proofs.AnswerLaws.{Yields, y-ok, y-no, yields, need-yields, get-yields, bind-yields}
 use Rattle.kit.specs.Range.{Natural}
 use Rattle.calendar.specs.declared.Taken.{Taken}
 use Rattle.calendar.specs.declared.Taken.the-variants.{At, Wrong}

@@ -1,6 +1,6 @@
 -- The maps, line by line.
 use mathlib.Core.Path.{_≡_, refl, sym, ap, _∙_, subst}
-use mathlib.Core.Bool.{Bool, true, false, _||_, or-false}
+use mathlib.Core.Bool.{or-false}
 use mathlib.Core.List.{List, [], _∷_}
 use Prim.Native.Nat.{ℕ, suc, _+_, _-_, _≤_, _<_, _^_}
 use native.Mathlib.Numerals.{add-one}
@@ -10,7 +10,7 @@ use lib.IntN.{ℤ}
 use lib.ListN.{length, take, drop, set, length-set, length-append}
 use lib.Seq.{length-take-le, take-suc-set}
 use Rattle.kit.specs.Answer.{Answer, ok, refused, bind, amap}
-use Rattle.kit.specs.TruthLaws.{clash}
+use Rattle.kit.proofs.TruthLaws.{clash}
 use Rattle.mapset.specs.declared.Header.{Header}
 use Rattle.mapset.specs.MapSet.{Maps}
 use Rattle.layout.specs.Layout.{Force}
@@ -22,7 +22,7 @@ use Rattle.reading.specs.declared.Place.{Place}
 use Rattle.reading.specs.declared.Place.the-variants.{Ended, Between, Early, Inside}
 use Rattle.lines.specs.Leads.{LeadsOver, LeadsRow}
 use Rattle.blocks.specs.Blocks.{values, Done, Judged}
-use Rattle.blocks.specs.RunLaws.{in-front, resumed, run-values}
+use Rattle.blocks.proofs.RunLaws.{in-front, resumed, run-values}
 use Rattle.blocks.specs.declared.Block.{Block}
 use Rattle.blocks.proofs.BlockLaws.{short-at}
 use Rattle.mapbounds.specs.Steps.{force-of, past-of, first-of, moved}

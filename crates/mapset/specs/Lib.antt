@@ -4,6 +4,6 @@ pub mod MapSet
 pub mod Areas
 pub mod Decisions
 pub mod Judged
-pub mod JudgedLaws
 pub mod Sound
-pub mod SoundLaws
+pub mod Said
+pub mod SoundDecided

@@ -1,13 +1,11 @@
 -- Header, area lengths, epochs and marks judged: the rules of Header and Areas in the groups in which code looks at them, as decisions.
 use mathlib.Core.Path.{_≡_}
 use mathlib.Core.Bool.{Bool, true, false}
-use mathlib.Core.Logic.{_⊎_}
 use mathlib.Core.List.{List, [], _∷_}
 use Prim.Native.Nat.{ℕ, _*_, _≤_, _<_}
 use native.Mathlib.Decide.{ℕ-discrete, decLe, decLt}
 use lib.ListN.{length, take}
-use lib.IntN.{ℤ}
-use Rattle.kit.specs.Answer.{All, all-dec, ×-dec, ⊎-dec, ¬-dec}
+use Rattle.kit.specs.Answer.{All, all-dec, ×-dec}
 use Rattle.kit.specs.Range.{Within, within?, Printable}
 use Rattle.kit.specs.Truth.{dec-by}
 use Rattle.calendar.specs.Calendar.{end}

@@ -8,10 +8,11 @@ use native.Mathlib.Omega.{arith}
 use lib.ListN.{length, getD}
 use lib.Seq.{drop-length, drop-append-seam}
 use lib.IntN.{ℤ}
-use Rattle.kit.specs.Answer.{Answer, ok, refused, need, need-yes, need-no, bind, pick}
+use Rattle.kit.specs.Answer.{Answer, ok, refused, need, bind, pick}
+use Rattle.kit.proofs.AnswerLaws.{need-yes, need-no}
 use Rattle.kit.specs.Integer.{int?}
 use Rattle.kit.specs.Truth.{truth}
-use Rattle.kit.specs.TruthLaws.{clash}
+use Rattle.kit.proofs.TruthLaws.{clash}
 use Rattle.calendar.specs.declared.Taken.{Taken}
 use Rattle.calendar.specs.declared.Taken.the-variants.{At, Wrong}
 use Rattle.mapset.specs.declared.Kind.the-variants.{Tec}

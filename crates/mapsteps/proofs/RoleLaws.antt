@@ -1,15 +1,14 @@
 -- A record's role by its label's number, and the step by its role.
 use mathlib.Core.Path.{_≡_, refl, sym, ap, _∙_}
-use mathlib.Core.Bool.{Bool, true, false, _&&_, _||_}
+use mathlib.Core.Bool.{Bool, true, false, _||_}
 use mathlib.Core.Option.{Option, none, some}
 use mathlib.Core.List.{List}
-use Prim.Native.Nat.{ℕ, zero, suc, _≤_, _<_}
-use native.Mathlib.Decide.{ℕ-discrete}
+use Prim.Native.Nat.{ℕ, suc, _≤_, _<_}
 use native.Mathlib.Omega.{arith}
 use lib.ListN.{length, getD}
 use lib.Dec.{T, eqb, leb}
 use borrow.Author.Tests.{ne-eqb, lt-leb}
-use Rattle.kit.specs.Truth.{tested-at}
+use Rattle.kit.proofs.TruthLaws.{tested-at}
 use Rattle.kit.specs.Answer.{refused, bind, get}
 use Rattle.mapset.specs.declared.Header.{Header}
 use Rattle.layout.specs.Text.{pad}
@@ -18,7 +17,7 @@ use Rattle.layout.specs.Layout.{Force}
 use Rattle.layout.specs.Names.{number-of}
 use Rattle.reading.specs.Feed.{fault}
 use Rattle.reading.specs.Fields.{label, scan, fields}
-use Rattle.reading.specs.LabelLaws.{label-known, label-unknown}
+use Rattle.reading.proofs.LabelLaws.{label-known, label-unknown}
 use Rattle.reading.specs.Maps.{Step, stays, misplaced, loose, on-comment, on-exponent, on-start, on-end, on-epoch, on-block, on-file, taken, step}
 use Rattle.reading.specs.declared.Place.{Place}
 use Rattle.mapsteps.specs.ByLabel.{role, role-of}

@@ -4,8 +4,9 @@ use mathlib.Core.List.{List, [], _∷_}
 use mathlib.Core.Option.{none, some}
 use Prim.Native.Nat.{ℕ, suc, _≤_}
 use native.Mathlib.Decide.{decLe}
-use Rattle.kit.specs.Answer.{All, pick, pick-yes}
-use Rattle.kit.specs.TruthLaws.{clash}
+use Rattle.kit.specs.Answer.{All, pick}
+use Rattle.kit.proofs.AnswerLaws.{pick-yes}
+use Rattle.kit.proofs.TruthLaws.{clash}
 use Rattle.needs.specs.Needs.{first-short}
 
 pub all-long : (i : ℕ) (xs : List (ℕ × ℕ)) → first-short i xs ≡ none → All (λ x. x .0 ≤ x .1) xs

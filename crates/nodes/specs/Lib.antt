@@ -1,4 +1,3 @@
 -- The value at one node.
 pub mod Value
 pub mod Nodes
-pub mod NodeLaws

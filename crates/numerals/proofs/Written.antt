@@ -14,7 +14,7 @@ use borrow.Author.Tests.{lt-ltb, le-ltb}
 use Rattle.forms.specs.Form.{Form, I, W1, sign}
 use Rattle.forms.specs.Show.{isMinus, figures, digits, withPoint, aligned, showField}
 use Rattle.forms.specs.Bytes.{leftByte}
-use Rattle.forms.specs.ShowLaws.{figures-enough}
+use Rattle.forms.proofs.ShowLaws.{figures-enough}
 
 -- ---- one digit more at the end
 

@@ -10,7 +10,7 @@ use lib.ListN.{length, getD, take, drop, drop-of-length-le}
 use lib.Seq.{drop-cons, drop-drop}
 use Rattle.mapset.specs.declared.Header.{Header}
 use Rattle.mapset.specs.Grid.{layers, rows, columns}
-use Rattle.mapset.specs.SoundLaws.{some-nodes}
+use Rattle.mapset.proofs.SoundLaws.{some-nodes}
 use Rattle.mapset.specs.MapSet.{Block}
 use Rattle.layout.specs.Labels.{block}
 use Rattle.layout.specs.Layout.{per-map}

@@ -9,7 +9,7 @@ use Rattle.mapset.specs.declared.Header.{Header}
 use Rattle.mapset.specs.Grid.{columns, Limits}
 use Rattle.mapset.specs.Areas.{Present}
 use Rattle.layout.specs.Layout.{per-map}
-use Rattle.writer.specs.MapRows.{Axes}
+use Rattle.writer.specs.Canon.{Axes}
 use Rattle.rows.specs.Put.{Room, Put}
 use Rattle.onemap.specs.OneMap.{slot-blocks, slot-map}
 use Rattle.onemap.specs.declared.Reached.{Reached}

@@ -9,7 +9,7 @@ use Rattle.mapset.specs.MapSet.{MapSet}
 use Rattle.mapset.specs.Areas.{Areas}
 use Rattle.reading.specs.Feed.{Why}
 use Rattle.reading.specs.Read.{read}
-use Rattle.head.specs.Opened.{blank-texts}
+use Rattle.mapset.specs.Said.{blank-texts}
 use Rattle.areas.specs.Flat.{areas}
 use Rattle.areas.specs.Stores.{fronts}
 use Rattle.needs.specs.Needs.{needed-and-lent, first-short}

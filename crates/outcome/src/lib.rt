@@ -2,7 +2,7 @@
 ghost use mathlib.Core.Path.{_≡_};
 ghost use mathlib.Core.List.{[], _∷_};
 ghost use Rattle.kit.specs.Range.{Within};
-ghost use Rattle.head.specs.Opened.{blank-texts};
+ghost use Rattle.mapset.specs.Said.{blank-texts};
 ghost use Rattle.outcome.specs.Outcome.{at-place, told-number, told-place, told-reason};
 use mapset::Header;
 use mapset::Texts;

@@ -1,2 +1,5 @@
 mod RowsLaws
 pub mod Short
+pub mod Exactly
+pub mod Sample
+pub mod WriteLaws

@@ -22,7 +22,7 @@ use Rattle.areas.specs.Lists.{zipw}
 use Rattle.areas.specs.Flat.{Slots}
 use Rattle.areas.specs.Nest.{a-tec, cut, third, if-there, kept, nest}
 use Rattle.areas.specs.Valid.{needed, values-in}
-use Rattle.areas.proofs.ValidFormed.{nested}
+use Rattle.areas.specs.Nesting.{nested}
 use Rattle.valid.specs.Groups.{Long}
 use Rattle.valid.proofs.Whole.{count, values-are, exponents-are}
 use Rattle.writer.specs.Canon.{row-of, date-of, six, block-rows, in-force, other-rows, tec-rows, map-rows, version-row, order, head-rows, canon-rows}

@@ -8,7 +8,8 @@ use native.Mathlib.Nat.{suc-mul, mul-le-mul}
 use native.Mathlib.Decide.{ℕ-discrete, decLe}
 use lib.IntN.{ℤ, pos, negsuc}
 use lib.ListN.{length, take, drop, getD, set, length-append}
-use Rattle.kit.specs.Answer.{All, pick-elim, all-dec}
+use Rattle.kit.specs.Answer.{All, all-dec}
+use Rattle.kit.proofs.AnswerLaws.{pick-elim}
 use Rattle.kit.specs.Integer.{int?}
 use Rattle.mapset.specs.declared.Kind.{Kind}
 use Rattle.mapset.specs.declared.Kind.the-variants.{Tec, Rms, Height}
@@ -16,7 +17,7 @@ use Rattle.mapset.specs.declared.Header.{Header}
 use Rattle.mapset.specs.declared.Texts.{Texts}
 use Rattle.mapset.specs.Grid.{columns}
 use Rattle.mapset.specs.Header.{Said, says}
-use Rattle.mapset.specs.SoundLaws.{sound-groups}
+use Rattle.mapset.specs.SoundDecided.{sound-groups}
 use Rattle.mapset.specs.MapSet.{Block}
 use Rattle.mapset.specs.Areas.{Areas, present?, blocks}
 use Rattle.layout.specs.Labels.{block, header-end, file-end, end}
@@ -25,11 +26,12 @@ use Rattle.areas.specs.Lists.{chop, zipw}
 use Rattle.areas.specs.Nest.{a-block}
 use Rattle.areas.specs.Stores.{first-of}
 use Rattle.areas.specs.Valid.{values-in, Valid}
-use Rattle.areas.proofs.ValidFormed.{nested, nested-formed}
+use Rattle.areas.specs.Nesting.{nested}
+use Rattle.areas.proofs.ValidFormed.{nested-formed}
 use Rattle.valid.proofs.Whole.{sound-long}
 use Rattle.writer.specs.Canon.{version-row, slot-rows, order, head-rows, canon-rows, row-of, opening, value-rows, exponent-rows, block-rows, trimmed, lines-of}
-use Rattle.writer.specs.RowLaws.{GoodRow}
-use Rattle.writer.specs.Made.{rows-good}
+use Rattle.writer.proofs.RowLaws.{GoodRow}
+use Rattle.writer.proofs.Made.{rows-good}
 use Rattle.rows.specs.Put.{Room}
 use Rattle.onemap.specs.OneMap.{epoch-rows, one-map, slot-map, slot-force}
 use Rattle.allmaps.specs.KindRows.{first-map, kind-rows, part-exponents, part-values, area-rows, area-force, all-rows}

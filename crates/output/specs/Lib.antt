@@ -1,5 +1,2 @@
 -- Canonical text in a lent output.
 pub mod Write
-pub mod WriteLaws
-pub mod Exactly
-pub mod Sample

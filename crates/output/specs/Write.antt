@@ -8,7 +8,7 @@ use Rattle.mapset.specs.declared.Header.{Header}
 use Rattle.mapset.specs.declared.Texts.{Texts}
 use Rattle.mapset.specs.Areas.{Areas}
 use Rattle.valid.specs.Groups.{validity}
-use Rattle.writer.specs.Exact.{canon-of}
+use Rattle.writer.specs.CanonOf.{canon-of}
 use Rattle.output.specs.declared.Written.{Written}
 use Rattle.output.specs.declared.Written.the-variants as W
 

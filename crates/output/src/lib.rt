@@ -4,7 +4,7 @@ ghost use mathlib.Core.List.{List};
 ghost use Prim.Native.Nat.{ℕ};
 ghost use Rattle.mapset.specs.Areas.{six};
 ghost use Rattle.areas.specs.Valid.{Valid};
-ghost use Rattle.areas.proofs.ValidFormed.{nested};
+ghost use Rattle.areas.specs.Nesting.{nested};
 ghost use Rattle.writer.specs.Canon.{canon-rows};
 ghost use Rattle.rows.specs.Put.{Room, Put};
 ghost use Rattle.output.specs.Write.{Told, told, written};

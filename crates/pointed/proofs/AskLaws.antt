@@ -1,8 +1,8 @@
 -- From the tests of the code to the refusals of `index`, one law for each.
 use mathlib.Core.Path.{_≡_, refl, sym, subst}
 use mathlib.Core.Bool.{Bool, true, false}
-use mathlib.Core.Option.{none, some}
-use mathlib.Core.List.{List, [], _∷_}
+use mathlib.Core.Option.{none}
+use mathlib.Core.List.{List}
 use Prim.Native.Nat.{ℕ, _+_, _-_, _*_, _≤_, _<_}
 use native.Mathlib.Omega.{arith}
 use borrow.Author.Tests.{ltb-true, ltb-false}
@@ -10,16 +10,17 @@ use lib.Dec.{ltb}
 use lib.IntN.{ℤ, pos}
 use lib.ListN.{length, getD, take, drop, length-drop}
 use lib.Seq.{length-take-le}
-use Rattle.kit.specs.Answer.{All, all-dec}
+use Rattle.kit.specs.Answer.{all-dec}
 use Rattle.kit.specs.Range.{Within, within?}
-use Rattle.kit.specs.Truth.{truth, truth-true, truth-false, Says}
+use Rattle.kit.specs.Truth.{truth, Says}
+use Rattle.kit.proofs.TruthLaws.{truth-true, truth-false}
 use Rattle.forms.specs.Form.{I}
 use Rattle.forms.specs.Read.{readField}
 use Rattle.forms.specs.declared.Field.the-variants.{Number}
 use Rattle.mapset.specs.Areas.{Present, blocks}
 use Rattle.mapset.specs.Grid.{layers, rows, columns, Limits}
 use Rattle.mapset.specs.Sound.{HeaderSays}
-use Rattle.mapset.specs.SoundLaws.{header-groups, groups-header, from-zero, to-three}
+use Rattle.mapset.specs.SoundDecided.{header-groups, groups-header, from-zero, to-three}
 use Rattle.mapset.specs.declared.Header.{Header}
 use Rattle.mapset.specs.declared.Texts.{Texts}
 use Rattle.layout.specs.Layout.{Exponent, per-map}

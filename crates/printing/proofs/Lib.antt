@@ -1,1 +1,3 @@
 mod PrintedLaws
+pub mod Exactly
+pub mod Said

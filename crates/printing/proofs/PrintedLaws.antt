@@ -7,7 +7,8 @@ use native.Mathlib.Omega.{arith}
 use native.Mathlib.Decide.{decLe}
 use lib.ListN.{length, drop, length-append}
 use lib.Seq.{take-at}
-use Rattle.kit.specs.Answer.{Answer, ok, refused, pick, pick-yes, pick-no}
+use Rattle.kit.specs.Answer.{Answer, ok, refused, pick}
+use Rattle.kit.proofs.AnswerLaws.{pick-yes, pick-no}
 use Rattle.mapset.specs.declared.Header.{Header}
 use Rattle.mapset.specs.declared.Texts.{Texts}
 use Rattle.mapset.specs.Areas.{Areas}
@@ -15,22 +16,23 @@ use Rattle.mapset.specs.MapSet.{MapSet}
 use Rattle.layout.specs.Layout.{Makes}
 use Rattle.reading.specs.Feed.{Why}
 use Rattle.reading.specs.Read.{read}
-use Rattle.reading.specs.Exact.{read-made}
+use Rattle.reading.proofs.Exact.{read-made}
 use Rattle.areas.specs.Flat.{areas}
 use Rattle.areas.specs.Stores.{fronts}
 use Rattle.areas.specs.Valid.{Valid}
 use Rattle.areas.proofs.Made.{made-formed}
-use Rattle.areas.proofs.ValidFormed.{nested, nested-formed, nested-areas, areas-once, needed-fronts, fronts-valid}
+use Rattle.areas.specs.Nesting.{nested}
+use Rattle.areas.proofs.ValidFormed.{nested-formed, nested-areas, areas-once, needed-fronts, fronts-valid}
 use Rattle.valid.specs.Groups.{validity}
 use Rattle.writer.specs.Canon.{canon}
-use Rattle.writer.specs.Exact.{canon-of}
+use Rattle.writer.specs.CanonOf.{canon-of}
 use Rattle.output.specs.Write as W
 use Rattle.output.specs.declared.Written.{Written}
 use Rattle.needs.specs.Needs.{needed-and-lent, first-short}
 use Rattle.needs.proofs.ShortLaws.{none-short}
 use Rattle.outcome.specs.Outcome.{Told, with-room, outcome-of, told-reason, told}
-use Rattle.outcome.specs.Once.{told-once}
-use Rattle.input.specs.Once.{Reads, accepts-exactly}
+use Rattle.outcome.proofs.Once.{told-once}
+use Rattle.input.proofs.Once.{Reads, accepts-exactly}
 use Rattle.outcome.specs.declared.Reason.{Reason}
 use Rattle.outcome.specs.declared.Reading.{Reading}
 use Rattle.outcome.specs.declared.Reading.the-variants.{Accepted, Refused}

@@ -1,4 +1,2 @@
 -- What the program prints.
 pub mod Printed
-pub mod Exactly
-pub mod Said

@@ -15,7 +15,7 @@ use Rattle.reading.specs.Read.{read}
 use Rattle.areas.specs.Flat.{areas}
 use Rattle.valid.specs.Groups.{validity}
 use Rattle.writer.specs.Canon.{canon}
-use Rattle.writer.specs.Exact.{canon-of}
+use Rattle.writer.specs.CanonOf.{canon-of}
 use Rattle.output.specs.Write as W
 use Rattle.needs.specs.Needs.{first-short}
 use Rattle.outcome.specs.declared.Reading.{Reading}

@@ -13,6 +13,9 @@ use Rattle.forms.specs.declared.Field.the-variants.{Number, Bad}
 use Rattle.layout.specs.Records.{Item, I, F, D, X, A, U, Vals}
 use Rattle.layout.specs.Labels.{Label, name, layout, labels}
 use Rattle.reading.specs.Feed.{Fault, fault}
+use Rattle.forms.specs.Columns.{columns, further, firstNotBlank}
+use Rattle.forms.specs.declared.Found.{Found}
+use Rattle.forms.specs.declared.Found.the-variants.{At, Nowhere}
 
 -- columns 61 to 80, compared byte by byte
 unfoldable pub lookup : List ℕ → List Label → Option Label
@@ -53,3 +56,12 @@ fields l r = scan 1 (layout l) (take 60 r)
 unfoldable pub cells : (c m : ℕ) → List ℕ → Answer Fault (List ℤ)
 cells c zero bs = blank bs c (ok [])
 cells c (suc m) bs = number (readField form.I (take 5 bs)) c (λ z. amap (λ zs. z ∷ zs) (cells (c + 5) m (drop 5 bs)))
+
+-- the first of the columns after the first a and up to e that is not blank
+unfoldable pub blank-to : List ℕ → ℕ → ℕ → Found
+blank-to line a e = further (a + 1) (firstNotBlank (columns line a (e - a)))
+
+-- 6 there, else x
+abbrev pub unless : {A : Type 0} → Found → Answer Fault A → Answer Fault A
+unless (At c) x = refused (fault 6 c)
+unless Nowhere x = x

@@ -7,30 +7,26 @@ use Prim.Native.Nat.{ℕ, suc, _+_}
 use native.Mathlib.Omega.{arith}
 use native.Mathlib.Decide.{ℕ-discrete}
 use lib.ListN.{getD, set, drop}
-use lib.IntN.{ℤ, pos, natAbs}
+use lib.IntN.{ℤ, natAbs}
 use Rattle.kit.specs.Answer.{Answer, ok, refused, need, bind, amap, get, pick, same}
 use Rattle.kit.specs.Range.{natural?}
-use Rattle.mapset.specs.declared.Axis.{Axis}
-use Rattle.mapset.specs.declared.Counted.{Counted}
-use Rattle.mapset.specs.declared.System.{System}
 use Rattle.mapset.specs.declared.Version.{Version}
 use Rattle.mapset.specs.declared.Header.{Header}
 use Rattle.mapset.specs.declared.Texts.{Texts}
-use Rattle.mapset.specs.Header.{Content, count, tenths, epoch as an-epoch, axis, program, mapping, observables, system as a-system, starred, Said, number, along, words, counts}
+use Rattle.mapset.specs.Header.{Content, count, tenths, epoch as an-epoch, axis, program, mapping, observables, system as a-system, starred, Said, number, along, words, counts, Accepts}
 use Rattle.mapset.specs.Decisions.{end?, step?, together?, limits?, dimension?}
 use Rattle.mapset.specs.MapSet.{MapSet}
 use Rattle.layout.specs.Records.{Vals}
 use Rattle.layout.specs.Labels.{Label, version, description, comment, system, exponent, aux-start, aux-end, header-end, epoch, block, file-end, head, start, end, name, items, content, letters}
-use Rattle.layout.specs.Layout.{Slots, systems, Mode, plain, aux, begins}
+use Rattle.layout.specs.Layout.{Slots, systems, Mode, plain, aux, begins, exponent?}
 use Rattle.reading.specs.Feed.{Fault, fault, Why, on-line, Feed, over, bad, row}
 use Rattle.reading.specs.Fields.{label, fields}
-use Rattle.reading.specs.Maps.{misplaced, missing, date, on-date, exponent?, short, run}
+use Rattle.reading.specs.Maps.{misplaced, missing, date, on-date, short, run}
 use Rattle.reading.specs.declared.Place.the-variants.{Between}
+use Rattle.mapset.specs.Said.{axis-of, number-in, axis-in, words-in, counted-in, system-in}
+use lib.ListN.{length}
 
 -- ---- what a record's values say, if they are accepted
-
-abbrev pub axis-of : ℤ → ℤ → ℤ → Axis
-axis-of a b d = record { first = a; last = b; step = d }
 
 unfoldable pub meant : (k : Content) → Vals (items k) → Answer Fault Said
 meant (count low high) v = need (natural? low high (v .0)) (fault 7 1) (ok (number (natAbs (v .0))))
@@ -79,41 +75,6 @@ complete? (b ∷ bs) [] = no (λ h. h)
 complete? (true ∷ bs) (s ∷ ss) = complete? bs ss
 complete? (false ∷ bs) (none ∷ ss) = no (λ h. h)
 complete? (false ∷ bs) (some s ∷ ss) = complete? bs ss
-
-abbrev pub number-in : Option Said → ℕ
-number-in none = 0
-number-in (some (number n)) = n
-number-in (some (along a)) = 0
-number-in (some (words ws)) = 0
-number-in (some (counts a b)) = 0
-
-abbrev pub axis-in : Option Said → Axis
-axis-in none = axis-of (pos 0) (pos 0) (pos 0)
-axis-in (some (number n)) = axis-of (pos 0) (pos 0) (pos 0)
-axis-in (some (along a)) = a
-axis-in (some (words ws)) = axis-of (pos 0) (pos 0) (pos 0)
-axis-in (some (counts a b)) = axis-of (pos 0) (pos 0) (pos 0)
-
-abbrev pub words-in : Option Said → List (List ℕ)
-words-in none = []
-words-in (some (number n)) = []
-words-in (some (along a)) = []
-words-in (some (words ws)) = ws
-words-in (some (counts a b)) = []
-
-abbrev pub counted-in : Option Said → Counted
-counted-in none = record { stands = false; count = 0 }
-counted-in (some (number n)) = record { stands = true; count = n }
-counted-in (some (along a)) = record { stands = false; count = 0 }
-counted-in (some (words ws)) = record { stands = false; count = 0 }
-counted-in (some (counts a b)) = record { stands = false; count = 0 }
-
-abbrev pub system-in : Option Said → System
-system-in none = record { stands = false; stations = 0; satellites = 0 }
-system-in (some (number n)) = record { stands = false; stations = 0; satellites = 0 }
-system-in (some (along a)) = record { stands = false; stations = 0; satellites = 0 }
-system-in (some (words ws)) = record { stands = false; stations = 0; satellites = 0 }
-system-in (some (counts a b)) = record { stands = true; stations = a; satellites = b }
 
 -- the header record of what was got, under the version record c
 unfoldable pub made : Version → Slots → Header
@@ -208,3 +169,15 @@ heading c a e got (row n r f) =
       | done ↦ amap (λ w. record { header = made c got; texts = made-texts got; maps = w .1 })
           (run (made c got) Between (begins e) 0 f)
     ])
+
+pub data Fit : Content → Option Said → Type 0 where
+  fit-no : {k : Content} → Fit k none
+  fit : {k : Content} {s : Said} → Accepts k s → Fit k (some s)
+
+abbrev pub FitAll : Slots → Type 0
+FitAll got = (i : ℕ) → Fit (content i) (getD got i none)
+
+-- what was got is of the header's length, and accepted
+pub record Got (got : Slots) : Type 0 where
+  pub sized : length got ≡ 22
+  pub fit : FitAll got

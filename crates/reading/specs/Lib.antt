@@ -4,17 +4,4 @@ pub mod Fields
 pub mod Maps
 pub mod Head
 pub mod Read
-pub mod LineLaws
-pub mod RecordLaws
-pub mod MapLaws
-pub mod SlotLaws
-pub mod HeadLaws
-pub mod Exact
-pub mod Machine
-pub mod Blame
-pub mod RefusalLaws
 pub mod Refusals
-pub mod Vectors
-pub mod Readings
-pub mod LabelLaws
-pub mod ScanLaws

@@ -1,15 +1,15 @@
 -- 01, 'Maps', read row by row. On one row the order is 4, 5, 6, 9, 8, 7: each test is a `need`, and they stand in that order.
 use mathlib.Core.Path.{_≡_, refl}
 use mathlib.Core.Bool.{Bool, true, false}
-use Prim.Native.Nat.{ℕ, zero, suc, _+_, _-_, _/_, _%_}
+use Prim.Native.Nat.{ℕ, zero, suc, _-_, _/_, _%_}
 use mathlib.Core.List.{List, [], _∷_, _++_}
 use native.Mathlib.Omega.{arith}
 use native.Mathlib.Decide.{ℕ-discrete, decLe, decLt}
 use lib.ListN.{length, getD}
-use lib.IntN.{ℤ, pos, negsuc, natAbs}
+use lib.IntN.{ℤ, pos, natAbs}
 use Rattle.kit.specs.Answer.{Answer, ok, refused, need, bind, amap, get, pick, ×-dec, ⊎-dec}
 use Rattle.kit.specs.Range.{natural?}
-use Rattle.kit.specs.Integer.{int?, between?}
+use Rattle.kit.specs.Integer.{int?}
 use Rattle.calendar.specs.Calendar.{dated}
 use Rattle.calendar.specs.declared.Taken.{Taken}
 use Rattle.calendar.specs.declared.Taken.the-variants.{At, Wrong}
@@ -20,7 +20,7 @@ use Rattle.mapset.specs.Grid.{rows, columns}
 use Rattle.mapset.specs.Decisions.{follows?}
 use Rattle.mapset.specs.MapSet.{Block, TecMap, Maps}
 use Rattle.layout.specs.Labels.{Label, version, description, comment, system, exponent, aux-start, aux-end, header-end, epoch, block, file-end, head, start, end}
-use Rattle.layout.specs.Layout.{Force, under, with-epoch, last-of, with-last, one-more, one-tec, Exponent, Date, After, InTime, per-map, node, Height-of}
+use Rattle.layout.specs.Layout.{Force, under, with-epoch, last-of, with-last, one-more, one-tec, Date, After, InTime, per-map, node, Height-of, exponent?}
 use Rattle.reading.specs.Feed.{Fault, fault, Why, why, on-line, Feed, over, bad, row}
 use Rattle.reading.specs.Fields.{label, fields, cells}
 use Rattle.reading.specs.declared.Open.{Open}
@@ -69,10 +69,6 @@ date d = dated (d .0) (d .1 .0) (d .1 .1 .0) (d .1 .1 .1 .0) (d .1 .1 .1 .1 .0) 
 unfoldable pub on-date : {A : Type 0} → Taken → (ℕ → Answer Fault A) → Answer Fault A
 on-date (At t) f = f t
 on-date (Wrong c) f = refused (fault 7 c)
-
--- ---- decisions
-unfoldable pub exponent? : (e : ℤ) → Dec (Exponent e)
-exponent? e = between? (negsuc 2) (pos 0) e
 
 unfoldable pub kind? : (a b : Kind) → Dec (a ≡ b)
 kind? Tec Tec = yes refl

@@ -1,21 +1,49 @@
 -- Refusals, in 01's words; no state of a reader stands here. The lines of a text t are `split t` (`LineLaws.ended`: with their ends they are t).
-use mathlib.Core.Path.{_≡_, refl, sym, ap, _∙_}
-use mathlib.Core.Logic.{_⊎_, inl, inr, ⊎-elim}
-use Prim.Native.Nat.{ℕ, suc, _+_, _≤_, _<_}
-use native.Mathlib.Omega.{arith}
+use mathlib.Core.Path.{_≡_}
+use mathlib.Core.Logic.{_⊎_}
+use Prim.Native.Nat.{ℕ, suc, _≤_, _<_}
 use mathlib.Core.List.{List, [], _∷_, _++_}
-use lib.ListN.{length, take, drop, getD}
-use lib.Seq.{drop-cons, take-length}
-use native.Mathlib.Decide.{decLe}
-use Rattle.kit.specs.Answer.{Answer, ok, refused, All, all-dec, pick-yes, pick-no}
-use Rattle.kit.specs.Range.{Within, within?, Printable}
+use lib.ListN.{length, take, getD}
+use Rattle.kit.specs.Answer.{Answer, ok, refused, All}
+use Rattle.kit.specs.Range.{Within, Printable}
 use Rattle.forms.specs.Columns.{Blank}
 use Rattle.mapset.specs.MapSet.{MapSet}
-use Rattle.reading.specs.Feed.{Why, why, split, bad, bad-column, feed}
+use Rattle.reading.specs.Feed.{Why, split, bad-column, feed, Fault, fault}
 use Rattle.reading.specs.Maps.{short}
 use Rattle.reading.specs.Read.{begin, read}
-use Rattle.reading.specs.Machine.{first, from, from-bad}
-use Rattle.reading.specs.RefusalLaws.{Cause, too-long, bad-byte, by-row, Refusal, refusal, reaches}
+use Rattle.layout.specs.Text.{Clean}
+use mathlib.Core.Bool.{Bool, false, _||_}
+use lib.Dec.{T, eqb}
+
+-- ---- 01's table of refusals: the columns of each number
+abbrev pub among : ℕ → List ℕ → Bool
+among c [] = false
+among c (d ∷ ds) = eqb c d || among c ds
+
+-- after the version record: 4 and 5 at the label; 6 at a column; 7 and 8 at the first column of a field, or at 0; 9 at 0
+pub data Later : Fault → Type 0 where
+  four : Later (fault 4 61)
+  five : Later (fault 5 61)
+  six : {c : ℕ} → 1 ≤ c → Later (fault 6 c)
+  seven : {c : ℕ} → T (among c (0 ∷ 1 ∷ 3 ∷ 6 ∷ 7 ∷ 9 ∷ 13 ∷ 15 ∷ 19 ∷ 25 ∷ 31 ∷ [])) → Later (fault 7 c)
+  eight : {c : ℕ} → T (among c (0 ∷ 1 ∷ 3 ∷ 9 ∷ 15 ∷ 21 ∷ 27 ∷ [])) → Later (fault 8 c)
+  nine : Later (fault 9 0)
+
+-- of the version record: 3 at the label, the version, the type or the code; or 6
+pub data First : Fault → Type 0 where
+  three : {c : ℕ} → T (among c (61 ∷ 1 ∷ 21 ∷ 41 ∷ [])) → First (fault 3 c)
+  six-first : {c : ℕ} → 1 ≤ c → First (fault 6 c)
+
+-- 01's column of the number
+abbrev pub Placed : Fault → Type 0
+Placed f = First f ⊎ Later f
+
+-- why a line is refused: over 80 bytes is 1 at column 81; a byte outside 32 to 126 is 2 at its column; else its row is, with 3 to 9 at the
+-- columns that 01 gives them (`Blame`)
+pub data Cause (l : List ℕ) (w : Why) : Type 0 where
+  too-long : ¬ (length l ≤ 80) → w .number ≡ 1 → w .column ≡ 81 → Cause l w
+  bad-byte : length l ≤ 80 → ¬ Printable l → w .number ≡ 2 → w .column ≡ bad-column l → Cause l w
+  by-row : Clean l → ¬ All Blank l → Within 3 9 (w .number) → Placed (fault (w .number) (w .column)) → Cause l w
 
 -- a text of these lines
 unfoldable pub reads : List (List ℕ) → Answer Why MapSet
@@ -41,46 +69,7 @@ pub record AtLine (t : List ℕ) (w : Why) : Type 0 where
 pub record EndsEarly (t : List ℕ) (w : Why) : Type 0 where
   pub every : (k : ℕ) → k ≤ length (split t) → reads (take k (split t)) ≡ short (suc k)
 
--- every refusal is one or the other
-pub refusals : (t : List ℕ) (w : Why) → read t ≡ refused w → AtLine t w ⊎ EndsEarly t w
-unfolding read reads from Refusal
-refusals t w e = ⊎-elim
-    (λ x. inl (record {
-      before = x .before;
-      line = x .line ∙ omega arith;
-      inside = x .inside;
-      faultless = ⊎-elim (λ f. inl (f ∙ ap short (omega arith))) inr (x .fine);
-      decided = λ t′ q. x .decided (split t′) q;
-      cause = x .cause;
-      three = λ q. x .three q .1;
-    }))
-    (λ x. inr (record { every = λ k h. x .every k h ∙ ap short (omega arith) })) (refusal (split t) first 1 w e)
-
 -- ---- 1, 2 and 10, exactly
-
-feed-long : (n : ℕ) (l : List ℕ) (ls : List (List ℕ)) → ¬ (length l ≤ 80) → feed n (l ∷ ls) ≡ bad (why 1 n 81)
-unfolding feed
-feed-long n l ls a = pick-no (decLe (length l) 80) _ _ a
-
-feed-dirty : (n : ℕ) (l : List ℕ) (ls : List (List ℕ)) → length l ≤ 80 → ¬ Printable l → feed n (l ∷ ls) ≡ bad (why 2 n (bad-column l))
-unfolding feed
-feed-dirty n l ls a b = pick-yes (decLe (length l) 80) _ _ a ∙ pick-no (all-dec (within? 32 126) l) _ _ b
-
-module _ (t : List ℕ) (k : ℕ) (h : k < length (split t)) (f : Faultless (take k (split t))) where
-  -- a line that hands on a refusal, after lines without fault
-  refused-line : (w : Why) → ((ls : List (List ℕ)) → feed (suc k) (getD (split t) k [] ∷ ls) ≡ bad w) → read t ≡ refused w
-  unfolding read reads from
-  refused-line w g =
-      reaches k (split t) first 1 w h (⊎-elim (λ f. inl (f ∙ ap short (omega arith))) inr f)
-      (λ s. ap (λ x. from s (feed (1 + k) x)) (drop-cons (split t) k [] h) ∙ ap (λ n. from s (feed n (getD (split t) k [] ∷ drop (suc k) (split t)))) (omega arith) ∙ ap (from s) (g _) ∙ from-bad s w)
-
-  -- the first line over 80 bytes
-  pub over-long : ¬ (length (getD (split t) k []) ≤ 80) → read t ≡ refused (why 1 (suc k) 81)
-  over-long a = refused-line _ (λ ls. feed-long (suc k) _ ls a)
-
-  -- the first bad byte
-  pub not-printable : length (getD (split t) k []) ≤ 80 → ¬ Printable (getD (split t) k []) → read t ≡ refused (why 2 (suc k) (bad-column (getD (split t) k [])))
-  not-printable a b = refused-line _ (λ ls. feed-dirty (suc k) _ ls a b)
 
 -- the column that 2 tells is that of the first byte outside 32 to 126
 pub record FirstBad (l : List ℕ) : Type 0 where
@@ -91,36 +80,3 @@ pub record FirstBad (l : List ℕ) : Type 0 where
   pub printable : Printable before
   pub outside : ¬ Within 32 126 byte
   pub column : bad-column l ≡ suc (length before)
-
-pub first-bad : (l : List ℕ) → ¬ Printable l → FirstBad l
-unfolding bad-column
-first-bad [] n = absurd (n tt)
-first-bad (x ∷ l) n = by (within? 32 126 x) (λ p. first-bad l (λ q. n (p, q)))
-  where
-    by : Dec (Within 32 126 x) → (Within 32 126 x → FirstBad l) → FirstBad (x ∷ l)
-    by (yes p) r =
-        let y = r p in
-        record {
-          before = x ∷ y .before;
-          byte = y .byte;
-          after = y .after;
-          whole = ap (λ m. x ∷ m) (y .whole);
-          printable = (p, y .printable);
-          outside = y .outside;
-          column = pick-yes (within? 32 126 x) _ _ p ∙ ap suc (y .column);
-        }
-    by (no k) r =
-        record { before = []; byte = x; after = l; whole = refl; printable = tt; outside = k; column = pick-no (within? 32 126 x) _ _ k }
-
--- 10 exactly where the text ends early, at its number of lines + 1
-pub ten : (t : List ℕ) (w : Why) → read t ≡ refused w → w .number ≡ 10 → EndsEarly t w
-ten t w e q = ⊎-elim (λ x. absurd (other (x .cause))) (λ x. x) (refusals t w e)
-  where
-    other : {l : List ℕ} → Cause l w → ⊥
-    other (too-long a b c) = omega arith
-    other (bad-byte a b c d) = omega arith
-    other (by-row a b c d) = omega arith
-
-pub ten-at : (t : List ℕ) (w : Why) → EndsEarly t w → read t ≡ short (suc (length (split t)))
-unfolding read reads
-ten-at t w x = ap (λ l. begin (feed 1 l)) (sym (take-length (split t))) ∙ x .every (length (split t)) (omega arith)

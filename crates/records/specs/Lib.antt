@@ -1,5 +1,3 @@
 -- What the code answers of a record, by what `reading` says of it; the tables of the records.
 pub mod Records
 pub mod Tables
-pub mod RecordLaws
-pub mod TableLaws

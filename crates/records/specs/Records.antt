@@ -1,6 +1,6 @@
 -- A record's columns 1 to 60 as the code hands them on, and what a record says.
 use mathlib.Core.List.{List, [], _∷_}
-use Prim.Native.Nat.{ℕ, _-_}
+use Prim.Native.Nat.{ℕ}
 use lib.ListN.{take}
 use lib.IntN.{ℤ, pos, natAbs}
 use Rattle.kit.specs.Answer.{Answer, ok, refused, need, bind, amap}
@@ -18,9 +18,9 @@ use Rattle.mapset.specs.Header.{Content, count, tenths, epoch, axis, program, m
 use Rattle.layout.specs.Records.{F, X}
 use Rattle.layout.specs.Labels.{system, items}
 use Rattle.reading.specs.Feed.{Fault, fault}
-use Rattle.reading.specs.Fields.{number as on-number, scan, fields}
-use Rattle.reading.specs.ScanLaws.{blank-to, unless}
-use Rattle.reading.specs.Head.{axis-of, meant}
+use Rattle.reading.specs.Fields.{number as on-number, scan, fields, blank-to, unless}
+use Rattle.mapset.specs.Said.{axis-of}
+use Rattle.reading.specs.Head.{meant}
 use Rattle.records.specs.declared.Value.{Value}
 use Rattle.records.specs.declared.Two.{Two}
 use Rattle.records.specs.declared.Two.the-variants as Two

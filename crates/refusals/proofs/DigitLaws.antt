@@ -11,7 +11,7 @@ use lib.ListN.{length, length-append}
 use Rattle.io.specs.Digits.{glyph, Fewest}
 use Rattle.io.specs.Digits as text
 use Rattle.forms.specs.Show.{figures, digits}
-use Rattle.forms.specs.ShowLaws.{figures-enough}
+use Rattle.forms.proofs.ShowLaws.{figures-enough}
 
 glyph-is : (d : ℕ) → d < 10 → glyph d ≡ 48 + d
 glyph-is d h = rw (lt-ltb d 10 h)

@@ -1,3 +1,2 @@
 -- The nearest whole number.
 pub mod Round
-pub mod RoundLaws

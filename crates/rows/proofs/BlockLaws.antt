@@ -9,9 +9,11 @@ use native.Mathlib.Decide.{decLe}
 use lib.IntN.{ℤ}
 use lib.ListN.{length, take, drop, length-drop}
 use lib.Seq.{drop-drop, take-all}
-use Rattle.kit.specs.Answer.{pick, pick-yes, pick-no}
+use Rattle.kit.specs.Answer.{pick}
+use Rattle.kit.proofs.AnswerLaws.{pick-yes, pick-no}
 use Rattle.kit.specs.Integer.{int?}
-use Rattle.kit.specs.Truth.{truth, truth-true, truth-false}
+use Rattle.kit.specs.Truth.{truth}
+use Rattle.kit.proofs.TruthLaws.{truth-true, truth-false}
 use Rattle.layout.specs.Names.{names}
 use Rattle.writer.specs.Canon.{row-of, value-row, value-rows, exponent-rows}
 use Rattle.rowtext.specs.Rows.{row-at, whole}

@@ -8,8 +8,9 @@ use native.Mathlib.Omega.{arith}
 use native.Mathlib.Decide.{ℕ-discrete}
 use lib.ListN.{length, take, drop, set, getD, length-append, length-drop}
 use lib.Seq.{take-suc, drop-cons, drop-drop, set-at, length-take-le}
-use Rattle.kit.specs.Answer.{pick, pick-yes, pick-no, all-dec}
-use Rattle.kit.specs.ListLaws.{all-append, all-front, all-behind}
+use Rattle.kit.specs.Answer.{pick, all-dec}
+use Rattle.kit.proofs.AnswerLaws.{pick-yes, pick-no}
+use Rattle.kit.proofs.ListLaws.{all-append, all-front, all-behind}
 use Rattle.forms.specs.Columns.{Blank}
 use Rattle.writer.specs.Canon.{trimmed, lines-of}
 use Rattle.rows.specs.Put.{Put}

@@ -1,4 +1,2 @@
 -- The root of the definitions.
 pub mod Put
-pub mod PutLaws
-pub mod Bounds

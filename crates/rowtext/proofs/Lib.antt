@@ -3,3 +3,4 @@ mod CopyLaws
 pub mod RowLaws
 mod NumberLaws
 mod OpeningLaws
+pub mod PlacedLaws

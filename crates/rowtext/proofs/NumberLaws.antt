@@ -6,18 +6,17 @@ use native.Mathlib.Omega.{arith}
 use lib.IntN.{ℤ, pos, negsuc}
 use mir.Syntax.{w32}
 use mir.Val.{SFits}
-use Rattle.kit.specs.Answer.{pick-no}
-use Rattle.kit.specs.Parts.{parts-le}
+use Rattle.kit.proofs.AnswerLaws.{pick-no}
+use Rattle.kit.proofs.Parts.{parts-le}
 use Rattle.days.specs.Years.{row}
 use Rattle.calendar.specs.Calendar.{DateAt, The, toldFound, date-at, end}
-use Rattle.calendar.specs.DateLaws.{date-once, dated-below}
-use Rattle.days.specs.YearLaws.{month-le}
+use Rattle.calendar.proofs.DateLaws.{date-once, dated-below}
+use Rattle.days.proofs.YearLaws.{month-le}
 use Rattle.calendar.specs.declared.Epoch.{Epoch}
 use Rattle.calendar.specs.declared.Found.{Found}
 use Rattle.calendar.specs.declared.Found.the-variants as D
-use Rattle.writer.specs.Canon.{no-date, date-of}
-use Rattle.writer.specs.HeadRows.{date-is}
-use Rattle.writer.specs.RoomLaws.{Wide}
+use Rattle.writer.specs.Canon.{no-date, date-of, Wide}
+use Rattle.writer.proofs.HeadRows.{date-is}
 
 -- ---- a node
 

@@ -9,8 +9,7 @@ use Rattle.mapset.specs.declared.Grid.{Grid}
 use Rattle.mapset.specs.Grid.{rows}
 use Rattle.layout.specs.Labels.{block}
 use Rattle.layout.specs.Layout.{node}
-use Rattle.writer.specs.Canon.{row-of}
-use Rattle.writer.specs.RoomLaws.{Wide}
+use Rattle.writer.specs.Canon.{row-of, Wide}
 use Rattle.rowtext.specs.Rows.{opening-of, Placed}
 
 module _ (g : Grid) (d n : ℕ) (e : n ≡ rows g) where

@@ -10,7 +10,7 @@ use lib.ListN.{length, take, drop, getD, replicate, length-append, length-replic
 use lib.Seq.{take-suc, take-at, drop-at, length-take-le, take-length}
 use Rattle.forms.specs.Form.{Form, I, W1}
 use Rattle.forms.specs.Show.{showField}
-use Rattle.forms.specs.ShowLaws.{show-width}
+use Rattle.forms.proofs.ShowLaws.{show-width}
 use Rattle.layout.specs.Labels.{name, block}
 use Rattle.layout.specs.Names.{names}
 use Rattle.writer.specs.Canon.{columns-of, row-of, cells-of, value-row}

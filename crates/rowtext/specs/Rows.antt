@@ -9,8 +9,7 @@ use Rattle.layout.specs.Records.{Item, I, F, X, Vals}
 use Rattle.layout.specs.Labels.{layout, block}
 use Rattle.layout.specs.Layout.{node}
 use Rattle.layout.specs.Names.{names}
-use Rattle.writer.specs.Canon.{columns-of}
-use Rattle.writer.specs.RoomLaws.{Wide}
+use Rattle.writer.specs.Canon.{columns-of, Wide}
 
 unfoldable pub row-at : ℕ → (is : List Item) → Vals is → List ℕ
 row-at k is v = columns-of is v ++ getD names k []

@@ -6,7 +6,7 @@ ghost use Rattle.mapset.specs.Areas.{six};
 ghost use Rattle.kit.specs.Truth.{truth};
 ghost use Rattle.mapset.specs.Grid.{Limits};
 ghost use Rattle.mapset.specs.Sound.{runs?, epochs?, lengths?};
-ghost use Rattle.mapset.specs.SoundLaws.{sound?};
+ghost use Rattle.mapset.specs.SoundDecided.{sound?};
 use mapset::Header;
 use mapset::Kind;
 use mapset::Lengths;

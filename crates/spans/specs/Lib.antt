@@ -1,4 +1,3 @@
 -- The maps of a second.
 pub mod Time
 pub mod Spans
-pub mod TimeLaws

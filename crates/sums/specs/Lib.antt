@@ -1,4 +1,3 @@
 -- The nodes of a question: their weights and sum.
 pub mod Mean
 pub mod Sums
-pub mod SumLaws

@@ -14,7 +14,6 @@ use Rattle.spans.specs.declared.Shares.{Shares}
 use Rattle.nodes.specs.declared.Weighed.{Weighed}
 use Rattle.nodes.specs.declared.Shape.{Shape}
 use Rattle.nodes.specs.declared.Node.{Node}
-use Rattle.nodes.specs.declared.Node.the-variants as N
 use Rattle.sums.specs.declared.Sum.{Sum}
 use Rattle.sums.specs.declared.Sum.the-variants as S
 

@@ -10,6 +10,8 @@ use Rattle.tally.specs.declared.Tally.{Tally}
 use Rattle.tally.specs.declared.Range.{Range}
 use Rattle.tally.specs.declared.Range.the-variants as R
 use Rattle.nodes.specs.Nodes.{or-zero}
+use Prim.Native.Nat.{zero}
+use lib.Signed.{_≤ℤ_}
 
 -- ---- counts
 unfoldable pub given : List (Option ℤ) → ℕ
@@ -86,3 +88,10 @@ Bounded t = natAbs (t .sum) ≤ t .given * 99_999_000
 -- small enough to be combined with another such
 abbrev pub Ready : Tally → Type 0
 Ready t = Bounded t × (nodes-in t ≤ 1_000_000_000)
+
+-- there is a smallest and a largest exactly where a node has a value
+abbrev pub Fit : ℕ → Range → Type 0
+Fit zero R.Nothing = Unit {0}
+Fit zero (R.From a b) = ⊥
+Fit (suc k) R.Nothing = ⊥
+Fit (suc k) (R.From a b) = a ≤ℤ b

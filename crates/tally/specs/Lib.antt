@@ -2,6 +2,4 @@
 pub mod Gathered
 pub mod Extremes
 pub mod Figures
-pub mod FigureLaws
 pub mod Rows
-pub mod Vectors

@@ -10,10 +10,12 @@ use native.Mathlib.Decide.{decLt}
 use lib.IntN.{ℤ}
 use lib.ListN.{length, getD, take, drop, length-drop, drop-of-length-le}
 use lib.Seq.{drop-cons, drop-drop}
-use Rattle.kit.specs.Answer.{All, all-dec, pick, pick-yes, pick-no}
+use Rattle.kit.specs.Answer.{All, all-dec, pick}
+use Rattle.kit.proofs.AnswerLaws.{pick-yes, pick-no}
 use Rattle.kit.specs.Integer.{Between, int?, between?}
-use Rattle.kit.specs.Parts.{eq-parts, parts-le, le-parts}
-use Rattle.kit.specs.Truth.{truth, truth-same, holds, fails}
+use Rattle.kit.proofs.Parts.{eq-parts, parts-le, le-parts}
+use Rattle.kit.specs.Truth.{truth}
+use Rattle.kit.proofs.TruthLaws.{truth-same, holds, fails}
 use Rattle.mapset.specs.declared.Kind.{Kind}
 use Rattle.mapset.specs.Areas.{Present}
 use Rattle.areas.specs.ValidDecided.{blank?}

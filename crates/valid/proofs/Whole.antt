@@ -7,17 +7,18 @@ use native.Mathlib.Omega.{arith}
 use native.Mathlib.Nat.{mul-le-mul, zero-mul}
 use lib.ListN.{length, take, drop}
 use lib.Seq.{length-take-le}
-use Rattle.kit.specs.Answer.{pick, pick-no, all-dec, pick-elim}
-use Rattle.kit.specs.Truth.{truth, truth-same, fails}
+use Rattle.kit.specs.Answer.{pick, all-dec}
+use Rattle.kit.proofs.AnswerLaws.{pick-no, pick-elim}
+use Rattle.kit.specs.Truth.{truth}
+use Rattle.kit.proofs.TruthLaws.{truth-same, fails}
 use Rattle.mapset.specs.declared.Kind.{Kind}
 use Rattle.mapset.specs.declared.Kind.the-variants.{Tec, Rms, Height}
 use Rattle.mapset.specs.declared.Header.{Header}
 use Rattle.mapset.specs.declared.Texts.{Texts}
 use Rattle.mapset.specs.Grid.{columns}
 use Rattle.mapset.specs.Areas.{Areas, nowhere?, blocks, value-need, Sound}
-use Rattle.mapset.specs.SoundLaws.{sound-groups}
-use Rattle.layout.specs.Layout.{per-map}
-use Rattle.reading.specs.Maps.{exponent?}
+use Rattle.mapset.specs.SoundDecided.{sound-groups}
+use Rattle.layout.specs.Layout.{per-map, exponent?}
 use Rattle.areas.specs.Nest.{third}
 use Rattle.areas.specs.Stores.{first-of}
 use Rattle.areas.specs.Valid.{needed, values-in, Valid}

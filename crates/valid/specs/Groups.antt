@@ -12,9 +12,8 @@ use Rattle.mapset.specs.declared.Texts.{Texts}
 use Rattle.mapset.specs.Grid.{columns, Limits}
 use Rattle.mapset.specs.Areas.{Areas, nowhere?, blocks}
 use Rattle.mapset.specs.Sound.{lengths, LengthsSay}
-use Rattle.mapset.specs.SoundLaws.{sound?}
-use Rattle.layout.specs.Layout.{Exponent, per-map}
-use Rattle.reading.specs.Maps.{exponent?}
+use Rattle.mapset.specs.SoundDecided.{sound?}
+use Rattle.layout.specs.Layout.{Exponent, per-map, exponent?}
 use Rattle.areas.specs.Formed.{Value}
 use Rattle.areas.specs.Nest.{third}
 use Rattle.areas.specs.Valid.{needed, values-in, Blank, Valid}

@@ -9,9 +9,8 @@ use native.Mathlib.Decide.{ℕ-discrete, decLe}
 use lib.Dec.{T, eqb}
 use lib.ListN.{length, getD, take, drop, length-drop}
 use lib.Seq.{drop-cons, length-take-le, getD-take, getD-drop}
-use Rattle.kit.specs.Truth.{tested-at}
-use Rattle.kit.specs.TruthLaws.{clash, is-true}
-use Rattle.kit.specs.ListLaws.{rest-of}
+use Rattle.kit.proofs.TruthLaws.{tested-at, clash}
+use Rattle.kit.proofs.ListLaws.{rest-of}
 use Rattle.forms.specs.Form.{I}
 use Rattle.forms.specs.Read.{readField, isNumber}
 use Rattle.forms.specs.Bytes.{isDigit, mayPrecede}

@@ -9,24 +9,23 @@ use mathlib.Core.List.{List, [], _∷_, _++_, append-assoc, append-nil}
 use lib.ListN.{length, take, drop, replicate, length-append, length-drop, length-take, set, length-set}
 use lib.Seq.{drop-drop, drop-append-le, take-suc-set, take-all}
 use lib.IntN.{ℤ}
-use Rattle.kit.specs.Answer.{Answer, ok, refused, need, need-no, amap, All, all-dec}
-use Rattle.kit.specs.AnswerLaws.{amap-amap, amap-same}
-use Rattle.kit.specs.TruthLaws.{clash}
-use Rattle.kit.specs.ListLaws.{all-append, all-drop}
+use Rattle.kit.specs.Answer.{Answer, ok, refused, need, amap, All, all-dec}
+use Rattle.kit.proofs.AnswerLaws.{need-no, amap-amap, amap-same}
+use Rattle.kit.proofs.TruthLaws.{clash}
+use Rattle.kit.proofs.ListLaws.{all-append, all-drop}
 use Rattle.forms.specs.Form.{I}
 use Rattle.forms.specs.Read.{readField, isNumber}
 use Rattle.forms.specs.Columns.{Blank}
-use Rattle.forms.specs.ColumnLaws.{columns-padded}
+use Rattle.forms.proofs.ColumnLaws.{columns-padded}
 use Rattle.forms.specs.declared.Field.{Field}
 use Rattle.forms.specs.declared.Field.the-variants.{Number, Bad}
 use Rattle.fields.proofs.Lines as lines
 use Rattle.layout.specs.Text.{pad}
 use Rattle.reading.specs.Feed.{fault}
 use Rattle.reading.specs.Fields.{number, blanks, blank, cells}
-use Rattle.reading.specs.RecordLaws.{blank-of, blank-spaces}
+use Rattle.reading.proofs.RecordLaws.{blank-of, blank-spaces}
 use Rattle.lines.specs.Lines.{passing, blank?}
-use Rattle.values.specs.Values.{Okay, listOf}
-use Rattle.values.specs.Values.{value-field, Judges, Passed}
+use Rattle.values.specs.Values.{Okay, listOf, value-field, Judges, Passed}
 use Rattle.values.specs.declared.Cells.{Cells}
 use Rattle.values.specs.declared.Cells.the-variants.{Fine, Wrong}
 use Rattle.lines.proofs.Passing.{passing-le, passing-whole, passing-not, passing-append}

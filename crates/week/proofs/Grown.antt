@@ -1,14 +1,14 @@
 -- The figures of a kind, of areas that are long enough, from the parts that the code hands on.
 use mathlib.Core.Path.{_≡_, refl, ap, ap₂, _∙_}
-use mathlib.Core.List.{List, [], _∷_, _++_}
-use Prim.Native.Nat.{ℕ, zero, suc, _+_, _*_, _≤_, _<_}
+use mathlib.Core.List.{List, _++_}
+use Prim.Native.Nat.{ℕ, suc, _+_, _*_, _≤_, _<_}
 use native.Mathlib.Nat.{mul-le-mul, le-refl}
 use native.Mathlib.Omega.{arith}
 use lib.IntN.{ℤ}
 use lib.ListN.{length, getD, take, drop, length-drop}
 use lib.Seq.{length-take-le, getD-take}
-use Rattle.kit.specs.Answer.{All, pick-no}
-use Rattle.kit.specs.ListLaws.{all-in}
+use Rattle.kit.proofs.AnswerLaws.{pick-no}
+use Rattle.kit.proofs.ListLaws.{all-in}
 use Rattle.mapset.specs.Grid.{columns}
 use Rattle.mapset.specs.Areas.{Areas, Present, nowhere?, blocks}
 use Rattle.mapset.specs.declared.Header.{Header}
@@ -23,8 +23,8 @@ use Rattle.tally.specs.Figures.{figures}
 use Rattle.tally.specs.Rows.{row}
 use Rattle.setfigures.specs.SetFigures.{map-nodes, map-figures, kind-nodes, kind-rows}
 use Rattle.setfigures.specs.Parts.{part-nodes, parts-nodes, part-row, parts-rows, KindHolds}
-use Rattle.setfigures.specs.PartLaws.{map-part}
-use Rattle.setfigures.specs.TabLaws.{tab-same}
+use Rattle.setfigures.proofs.PartLaws.{map-part}
+use Rattle.setfigures.proofs.TabLaws.{tab-same}
 
 module _ (h : Header) (a : Areas) (l : Long h a) (k : ℕ) (three : k < 3) where
   abbrev n : ℕ

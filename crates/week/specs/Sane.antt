@@ -6,8 +6,7 @@ use lib.IntN.{ℤ, natAbs}
 use Rattle.kit.specs.Answer.{pick, ×-dec}
 use Rattle.kit.specs.Integer.{le?}
 use Rattle.kit.specs.Lists.{front}
-use Rattle.tally.specs.Figures.{nodes-in, Bounded, Ready}
-use Rattle.tally.specs.FigureLaws.{Fit}
+use Rattle.tally.specs.Figures.{nodes-in, Bounded, Ready, Fit}
 use Rattle.tally.specs.declared.Tally.{Tally}
 use Rattle.tally.specs.declared.Range.{Range}
 use Rattle.tally.specs.declared.Range.the-variants as R

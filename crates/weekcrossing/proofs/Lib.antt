@@ -1,2 +1,4 @@
 pub mod RangeLaws
 pub mod WeekLaws
+pub mod Once
+pub mod Back

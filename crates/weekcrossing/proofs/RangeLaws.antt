@@ -5,9 +5,10 @@ use native.Mathlib.Omega.{arith}
 use lib.IntN.{ℤ, pos, negsuc}
 use mir.Syntax.{w32}
 use mir.Val.{SFits}
-use Rattle.kit.specs.Answer.{×-dec, pick-yes, pick-no}
+use Rattle.kit.specs.Answer.{×-dec}
+use Rattle.kit.proofs.AnswerLaws.{pick-yes, pick-no}
 use Rattle.kit.specs.Integer.{Between, between?}
-use Rattle.kit.specs.Parts.{parts-le}
+use Rattle.kit.proofs.Parts.{parts-le}
 use Rattle.tally.specs.declared.Range.the-variants as R
 use Rattle.weekcrossing.specs.WeekNumbers.{range-of}
 

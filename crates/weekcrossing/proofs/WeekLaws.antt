@@ -15,7 +15,7 @@ use Rattle.crossing.specs.Own.{too-short, unless}
 use Rattle.crossing.proofs.OwnLaws.{fit, unless-none, unless-short}
 use Rattle.week.specs.Week.{Given}
 use Rattle.week.specs.Sane.{Outcome, comes, outcome, SmallAnswer}
-use Rattle.week.specs.SaneLaws.{small-answer}
+use Rattle.week.proofs.SaneLaws.{small-answer}
 use Rattle.week.specs.declared.Week.{Week}
 use Rattle.week.specs.declared.Added.{Added}
 use Rattle.weekcrossing.specs.WeekNumbers.{broken, plain-week, week-at}

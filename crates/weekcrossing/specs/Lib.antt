@@ -1,4 +1,3 @@
 -- A week as it crosses to other languages.
 pub mod WeekNumbers
 pub mod WeekExported
-pub mod Back

@@ -1,5 +1,4 @@
 -- Adding to a week as it crosses to other languages: a number, the week, the area for the rows, and an area of the call's own for the need.
-use mathlib.Core.Path.{_≡_, sym, _∙_}
 use mathlib.Core.List.{List, [], _∷_}
 use Prim.Native.Nat.{ℕ}
 use lib.IntN.{ℤ}
@@ -64,7 +63,3 @@ set-of h x a r = given-as (header-of h) (texts-of x) a r
 unfoldable pub week-crossed : List ℤ → List ℤ → List ℕ → Areas → List ℤ → List ℕ → Crossed
 week-crossed w h x a r p =
     unless (week-short (length h) (length x) (length w) (length p)) (crosses (outcome (week-at w) (set-of h x a r)) w p) (λ k. crossed k w r p)
-
--- no second number and no second content fits
-pub ionex-week-add-once : (w h : List ℤ) (x : List ℕ) (a : Areas) (r : List ℤ) (p : List ℕ) (c d : Crossed) → c ≡ week-crossed w h x a r p → d ≡ week-crossed w h x a r p → c ≡ d
-ionex-week-add-once w h x a r p c d e f = e ∙ sym f

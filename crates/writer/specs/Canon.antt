@@ -1,12 +1,12 @@
 -- 01, 'Canonical text', as a definition on map sets: rows of 80 columns, and the text of lines that end at their last non-blank byte.
 use mathlib.Core.Option.{Option, none, some}
 use mathlib.Core.List.{List, [], _∷_, _++_}
-use Prim.Native.Nat.{ℕ, zero, suc, _+_, _-_, _*_, _/_, _%_, _<_}
+use Prim.Native.Nat.{ℕ, zero, suc, _-_, _*_, _/_, _%_}
 use native.Mathlib.Decide.{ℕ-discrete, decLe, decLt}
 use lib.IntN.{ℤ, pos, negsuc}
 use lib.ListN.{length, getD, set, take, drop, replicate}
 use Rattle.kit.specs.Answer.{pick, all-dec}
-use Rattle.kit.specs.Integer.{int?}
+use Rattle.kit.specs.Integer.{int?, Between}
 use Rattle.calendar.specs.Calendar.{date-at, end as after-2199}
 use Rattle.calendar.specs.declared.Epoch.{Epoch}
 use Rattle.forms.specs.Form as form
@@ -15,13 +15,13 @@ use Rattle.mapset.specs.declared.Kind.{Kind}
 use Rattle.mapset.specs.declared.Kind.the-variants.{Tec, Rms, Height}
 use Rattle.mapset.specs.declared.Version.{Version}
 use Rattle.mapset.specs.declared.Header.{Header}
-use Rattle.mapset.specs.Grid.{rows}
+use Rattle.mapset.specs.Grid.{rows, heights, latitudes, longitudes, AxisRules}
 use Rattle.mapset.specs.Header.{Content, count, tenths, epoch as an-epoch, axis, program, mapping, observables, system as a-system, Said, says}
 use Rattle.mapset.specs.MapSet.{Block, TecMap, OtherMap, MapSet}
 use Rattle.layout.specs.Records.{Item, I, F, D, X, A, U, Vals}
 use Rattle.layout.specs.Labels.{Label, version, exponent, header-end, epoch, block, file-end, head, system, start, end, bytes, name, items, content, layout, codes, letters}
 use Rattle.layout.specs.Layout.{Date, Slots, systems, node}
-use Rattle.reading.specs.Head.{number-in, axis-in, words-in, system-in}
+use Rattle.mapset.specs.Said.{number-in, axis-in, words-in, system-in}
 
 -- ---- rows
 
@@ -161,3 +161,13 @@ lines-of (r ∷ rs) = trimmed r ++ 10 ∷ lines-of rs
 
 unfoldable pub canon : MapSet → List ℕ
 canon m = lines-of (canon-rows m)
+
+-- every end has room, and so has what lies between two of them
+abbrev pub Wide : ℤ → Type 0
+Wide z = Between (negsuc 8999) (pos 99999) z
+
+-- the three axes are accepted
+pub record Axes (h : Header) : Type 0 where
+  pub heights : AxisRules heights (h .grid .heights)
+  pub latitudes : AxisRules latitudes (h .grid .latitudes)
+  pub longitudes : AxisRules longitudes (h .grid .longitudes)

@@ -1,10 +1,4 @@
 -- Canonical text.
 pub mod Canon
-pub mod RowLaws
-pub mod TextLaws
-pub mod RoomLaws
-pub mod HeadRows
-pub mod MapRows
-pub mod Made
-pub mod Exact
-pub mod Vectors
+pub mod CanonOf
+pub mod Meaning

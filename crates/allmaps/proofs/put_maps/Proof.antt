@@ -17,7 +17,7 @@ use Rattle.layout.specs.Labels.{file-end}
 use Rattle.layout.specs.Layout.{per-map}
 use Rattle.writer.specs.Canon.{row-of}
 use Rattle.rows.specs.Put.{Leads}
-use Rattle.rows.specs.PutLaws.{room-front, leads-self, leads-on}
+use Rattle.rows.proofs.PutLaws.{room-front, leads-self, leads-on}
 use Rattle.allmaps.specs.KindRows.{area-rows, area-force, all-rows}
 use Rattle.onemap.specs.Ready.{PutTo}
 use Rattle.onemap.proofs.BlockLaws.{few-blocks}

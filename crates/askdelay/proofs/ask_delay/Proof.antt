@@ -1,14 +1,10 @@
 use native.Mathlib.Omega.{arith}
 use mir.Facts.{toZ-ofZ}
 use Rattle.askdelay.specs.AskDelay.{no-delay}
-use Rattle.askdelay.specs.AskDelayLaws.{turns}
+use Rattle.askdelay.proofs.AskDelayLaws.{turns}
 use borrow.Author.Needs.{needs}
 use Rattle.askdelay.proofs.ask_delay.Statement.{statement}
 use Rattle.askdelay.proofs.ask_delay.Tie as tie
-use Rattle.askdelay.proofs.ask_delay.Reads as reads
-use Rattle.askdelay.proofs.ask_delay.Lts as lts
-use Rattle.askdelay.proofs.turned.Reads as turned-reads
-use Rattle.asker.proofs.ask.Reads as ask-reads
 
 returns : tie.Need-returns
 returns c = no-delay (omega (arith, c .if1 .taken))

@@ -2,9 +2,6 @@ use mathlib.Core.Path.{refl}
 use borrow.Author.Needs.{needs}
 use Rattle.askdelay.proofs.turned.Statement.{statement}
 use Rattle.askdelay.proofs.turned.Tie as tie
-use Rattle.askdelay.proofs.turned.Reads as reads
-use Rattle.askdelay.proofs.turned.Lts as lts
-use Rattle.delay.proofs.delay_of.Reads as delay-of-reads
 
 enum-known-asked : tie.Need-enum-known-asked
 enum-known-asked c = search needs

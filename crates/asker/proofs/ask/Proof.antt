@@ -6,7 +6,7 @@ use borrow.Author.Tests.{not-true, not-false}
 use Prim.Native.Nat.{_<_}
 use denote.Ref.{now}
 use mir.Facts.{toZ-ofZ}
-use Rattle.kit.specs.Truth.{truth-true, truth-false}
+use Rattle.kit.proofs.TruthLaws.{truth-true, truth-false}
 use Rattle.mapset.specs.Grid.{layers}
 use Rattle.mapset.specs.Areas.{Sound, six}
 use Rattle.spans.specs.Time.{epoch, Uses}
@@ -15,8 +15,8 @@ use Rattle.nodes.specs.declared.Shape.{Shape}
 use Rattle.asker.specs.Sun.{in-time, Cells}
 use Rattle.asker.specs.Turned.{PairFound}
 use Rattle.asker.specs.Ask.{Question, question, stop, go, Known, epochs, Served, InTime, Inside}
-use Rattle.asker.specs.AskLaws.{in-time-small, steady, spanned, few-epochs, can-ask, can-sum, has-weight, answered}
-use Rattle.asker.specs.Strip.{placed, inside-of}
+use Rattle.asker.proofs.AskLaws.{in-time-small, steady, spanned, few-epochs, can-ask, can-sum, has-weight, answered}
+use Rattle.asker.proofs.Strip.{placed, inside-of}
 use Rattle.asker.proofs.ask.Statement.{statement}
 use Rattle.asker.proofs.ask.Tie as tie
 

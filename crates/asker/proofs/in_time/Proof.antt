@@ -1,7 +1,7 @@
 -- `asker::in_time` meets its contract.
 use native.Mathlib.Decide.{decLe}
 use Rattle.kit.specs.Range.{within?}
-use Rattle.kit.specs.Truth.{both, le-tells}
+use Rattle.kit.proofs.TruthLaws.{both, le-tells}
 use Rattle.asker.proofs.in_time.Statement.{statement}
 use Rattle.asker.proofs.in_time.Tie as tie
 

@@ -1,15 +1,12 @@
-use mathlib.Core.Path.{_≡_, refl, sym, ap, _∙_}
+use mathlib.Core.Path.{sym}
 use Prim.Native.Nat.{_≤_}
 use native.Mathlib.Omega.{arith}
-use lib.ListN.{length, take}
+use lib.ListN.{length}
 use lib.Seq.{length-take-le}
 use borrow.Author.Needs.{needs}
 use Rattle.beside.proofs.Copy.{three-kinds}
 use Rattle.beside.proofs.join_exponents.Statement.{statement}
 use Rattle.beside.proofs.join_exponents.Tie as tie
-use Rattle.beside.proofs.join_exponents.Reads as reads
-use Rattle.beside.proofs.join_exponents.Lts as lts
-use Rattle.beside.proofs.put_third.Reads as put-third-reads
 
 add-s : tie.Need-add-s
 add-s c = search needs

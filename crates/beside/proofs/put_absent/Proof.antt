@@ -1,8 +1,7 @@
-use mathlib.Core.Path.{_≡_, ap}
 use Prim.Native.Nat.{_-_}
 use native.Mathlib.Omega.{arith}
-use lib.IntN.{ℤ, pos}
-use lib.ListN.{length, set, replicate, length-replicate}
+use lib.IntN.{pos}
+use lib.ListN.{replicate, length-replicate}
 use Rattle.beside.proofs.Copy.{Copied, copy-none, copy-more, copy-done, same-at}
 use Rattle.beside.proofs.put_absent.Statement.{statement}
 use Rattle.beside.proofs.put_absent.Tie as tie

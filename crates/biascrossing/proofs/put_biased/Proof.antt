@@ -1,5 +1,5 @@
 -- `biascrossing::put_biased` meets its contract.
-use mathlib.Core.Path.{_≡_, refl, ap, _∙_}
+use mathlib.Core.Path.{refl, ap, _∙_}
 use Rattle.kit.specs.Lists.{front}
 use borrow.Author.Needs.{needs}
 use Rattle.biascrossing.proofs.put_biased.Statement.{statement}

@@ -1,13 +1,12 @@
 -- `biasfill::fill_areas` meets its contract.
-use mathlib.Core.Path.{_≡_, refl, sym, ap, subst, _∙_}
-use native.Mathlib.Omega.{arith}
-use mathlib.Core.Bool.{Bool, true, false}
+use mathlib.Core.Path.{_≡_, refl, subst}
+use mathlib.Core.Bool.{Bool, false}
 use lib.ListN.{length}
 use borrow.Author.Tests.{not-true, not-false}
 use borrow.Author.Needs.{needs}
 use Rattle.biasfill.specs.Flat.{lent}
 use Rattle.biasfill.specs.Filled.{Stays, left}
-use Rattle.biasfill.specs.FilledLaws.{starts, goes-on, comes-nearer}
+use Rattle.biasfill.proofs.FilledLaws.{starts, goes-on, comes-nearer}
 use Rattle.biasfill.proofs.fill_areas.Statement.{statement}
 use Rattle.biasfill.proofs.fill_areas.Tie as tie
 

@@ -1,10 +1,10 @@
 -- `biasfill::fill_row` meets its contract.
-use mathlib.Core.Path.{_≡_, refl, sym, ap, subst, _∙_}
+use mathlib.Core.Path.{subst}
 use native.Mathlib.Omega.{arith}
 use lib.ListN.{length-take, length-drop}
 use Rattle.biasscan.specs.Turns.{Turns}
 use Rattle.biasfill.specs.Flat.{lent}
-use Rattle.biasfill.specs.FilledLaws.{halted, ended, skipped, satellite-fit, satellite-filled, station-fit, station-filled}
+use Rattle.biasfill.proofs.FilledLaws.{halted, ended, skipped, satellite-fit, satellite-filled, station-fit, station-filled}
 use borrow.Author.Needs.{needs}
 use Rattle.biasfill.proofs.fill_row.Statement.{statement}
 use Rattle.biasfill.proofs.fill_row.Tie as tie

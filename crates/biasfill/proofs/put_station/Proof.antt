@@ -1,5 +1,5 @@
 -- `biasfill::put_station` meets its contract.
-use mathlib.Core.Path.{_≡_, refl, sym, ap, subst, _∙_}
+use mathlib.Core.Path.{_≡_, _∙_}
 use mathlib.Core.List.{[], _∷_}
 use lib.IntN.{pos}
 use lib.Seq.{sets}

@@ -1,9 +1,8 @@
 -- `biasfill::store_satellite` meets its contract.
-use mathlib.Core.Path.{_≡_, refl, sym, ap, subst, _∙_}
+use mathlib.Core.Path.{refl, sym, ap, _∙_}
 use native.Mathlib.Omega.{arith}
 use Rattle.biaslines.specs.Lines.{toldSatellite}
-use Rattle.biasscan.specs.MarkLaws.{said-small}
-use Rattle.biasfill.specs.Filled.{fours}
+use Rattle.biasscan.proofs.MarkLaws.{said-small}
 use borrow.Author.Needs.{needs}
 use Rattle.biasfill.proofs.store_satellite.Statement.{statement}
 use Rattle.biasfill.proofs.store_satellite.Tie as tie

@@ -1,10 +1,9 @@
 -- `biasfill::store_station` meets its contract.
-use mathlib.Core.Path.{_≡_, refl, sym, ap, subst, _∙_}
+use mathlib.Core.Path.{_≡_, refl, sym, ap, _∙_}
 use native.Mathlib.Omega.{arith}
 use lib.ListN.{length}
 use Rattle.biaslines.specs.Lines.{toldStation}
 use Rattle.biaslines.specs.declared.StationSaid.{StationSaid}
-use Rattle.biasfill.specs.Filled.{threes, named}
 use borrow.Author.Needs.{needs}
 use Rattle.biasfill.proofs.store_station.Statement.{statement}
 use Rattle.biasfill.proofs.store_station.Tie as tie

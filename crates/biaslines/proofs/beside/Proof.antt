@@ -1,12 +1,12 @@
 -- `biaslines::beside` meets its contract.
-use mathlib.Core.Path.{_≡_, refl, sym, ap, _∙_}
-use borrow.Author.Tests.{not-true, not-false}
-use Rattle.kit.specs.Answer.{pick-yes, pick-no, same}
-use Rattle.kit.specs.Truth.{truth-true, truth-false}
-use Rattle.layout.specs.Labels.{name, bytes}
-use Rattle.biases.specs.Rules.{title, of-satellite, of-station}
+use mathlib.Core.Path.{refl, sym, _∙_}
+use Rattle.kit.proofs.AnswerLaws.{pick-yes, pick-no}
+use Rattle.kit.specs.Answer.{same}
+use Rattle.kit.proofs.TruthLaws.{truth-true, truth-false}
+use Rattle.layout.specs.Labels.{name}
+use Rattle.biases.specs.Rules.{of-satellite, of-station}
 use Rattle.biases.specs.Read.{role}
-use Rattle.biaslines.specs.LineLaws.{label-held, title-held}
+use Rattle.biaslines.proofs.LineLaws.{label-held}
 use borrow.Author.Needs.{needs}
 use Rattle.biaslines.proofs.beside.Statement.{statement}
 use Rattle.biaslines.proofs.beside.Tie as tie

@@ -1,7 +1,6 @@
 -- `biaslines::pair_after` meets its contract.
-use mathlib.Core.Path.{_≡_, refl, sym, ap, _∙_}
-use Rattle.reading.specs.Fields.{number}
-use Rattle.reading.specs.ScanLaws.{blank-to}
+use mathlib.Core.Path.{refl, sym, _∙_}
+use Rattle.reading.specs.Fields.{number, blank-to}
 use Rattle.biaslines.specs.Lines.{pair-in, pair-after}
 use borrow.Author.Needs.{needs}
 use Rattle.biaslines.proofs.pair_after.Statement.{statement}

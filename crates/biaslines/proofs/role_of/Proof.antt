@@ -1,5 +1,5 @@
 -- `biaslines::role_of` meets its contract.
-use mathlib.Core.Path.{_≡_, refl, sym, ap, _∙_}
+use mathlib.Core.Path.{sym, ap, _∙_}
 use Rattle.layout.specs.Text.{pad}
 use Rattle.biases.specs.Read.{role}
 use Rattle.biases.specs.declared.Place.{Place}

@@ -1,17 +1,16 @@
 -- `biaslines::satellite` meets its contract.
-use mathlib.Core.Path.{_≡_, refl, sym, ap, _∙_}
+use mathlib.Core.Path.{refl, sym, _∙_}
 use mir.Syntax.{w32}
-use mir.Val.{toZ, ofZ, SFits}
+use mir.Val.{SFits}
 use mir.Facts.{toZ-ofZ}
 use Rattle.kit.specs.Answer.{bind}
-use Rattle.reading.specs.Fields.{number}
-use Rattle.reading.specs.ScanLaws.{blank-to}
+use Rattle.reading.specs.Fields.{number, blank-to}
 use Rattle.biases.specs.Read.{satellite-meant}
-use Rattle.biaslines.specs.LineLaws.{satellite-is}
+use Rattle.biaslines.proofs.LineLaws.{satellite-is}
 use borrow.Author.Needs.{needs}
 use Rattle.biaslines.proofs.satellite.Statement.{statement}
 use Rattle.biaslines.proofs.satellite.Tie as tie
-use Rattle.forms.specs.ColumnLaws.{one-column}
+use Rattle.forms.proofs.ColumnLaws.{one-column}
 
 first-not-blank-requires : tie.Need-first-not-blank-requires
 first-not-blank-requires c κs = search needs

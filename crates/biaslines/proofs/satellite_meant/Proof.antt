@@ -3,12 +3,14 @@ use mathlib.Core.Path.{_≡_, refl, sym, ap, _∙_}
 use mir.Facts.{toZ-ofZ}
 use lib.IntN.{natAbs}
 use borrow.Author.Tests.{not-true, not-false}
-use Rattle.kit.specs.Answer.{ok, bind, need-yes, need-no}
+use Rattle.kit.specs.Answer.{ok, bind}
+use Rattle.kit.proofs.AnswerLaws.{need-yes, need-no}
 use Rattle.kit.specs.Range.{natural?}
-use Rattle.kit.specs.Truth.{truth, truth-true, truth-false}
+use Rattle.kit.specs.Truth.{truth}
+use Rattle.kit.proofs.TruthLaws.{truth-true, truth-false}
 use Rattle.biases.specs.Read.{satellite-meant}
 use Rattle.biases.specs.declared.Satellite.{Satellite}
-use Rattle.biaslines.specs.LineLaws.{letter-known, letter-unknown}
+use Rattle.biaslines.proofs.LineLaws.{letter-known, letter-unknown}
 use borrow.Author.Needs.{needs}
 use Rattle.biaslines.proofs.satellite_meant.Statement.{statement}
 use Rattle.biaslines.proofs.satellite_meant.Tie as tie

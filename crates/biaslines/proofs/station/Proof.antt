@@ -1,13 +1,13 @@
 -- `biaslines::station` meets its contract.
-use mathlib.Core.Path.{_≡_, refl, sym, ap, _∙_}
+use mathlib.Core.Path.{sym, ap, _∙_}
 use mir.Syntax.{w32}
 use mir.Val.{SFits}
 use mir.Facts.{toZ-ofZ}
 use Rattle.kit.specs.Answer.{bind}
-use Rattle.reading.specs.ScanLaws.{blank-to}
+use Rattle.reading.specs.Fields.{blank-to}
 use Rattle.biaslines.specs.Lines.{toldStation}
 use Rattle.biaslines.specs.declared.StationSaid.{StationSaid}
-use Rattle.biaslines.specs.LineLaws.{station-is}
+use Rattle.biaslines.proofs.LineLaws.{station-is}
 use borrow.Author.Needs.{needs}
 use Rattle.biaslines.proofs.station.Statement.{statement}
 use Rattle.biaslines.proofs.station.Tie as tie

@@ -1,16 +1,16 @@
 -- `biaslines::station_meant` meets its contract.
-use mathlib.Core.Path.{_≡_, refl, sym, ap, _∙_}
+use mathlib.Core.Path.{sym, ap, _∙_}
 use mir.Facts.{toZ-ofZ}
 use Rattle.kit.specs.Answer.{ok, bind}
 use Rattle.biases.specs.Read.{station-meant}
 use Rattle.biases.specs.declared.Station.{Station}
 use Rattle.biaslines.specs.Lines.{toldStation}
 use Rattle.biaslines.specs.declared.StationSaid.{StationSaid}
-use Rattle.biaslines.specs.LineLaws.{letter-known, letter-unknown}
+use Rattle.biaslines.proofs.LineLaws.{letter-known, letter-unknown}
 use borrow.Author.Needs.{needs}
 use Rattle.biaslines.proofs.station_meant.Statement.{statement}
 use Rattle.biaslines.proofs.station_meant.Tie as tie
-use Rattle.forms.specs.ColumnLaws.{one-column}
+use Rattle.forms.proofs.ColumnLaws.{one-column}
 
 byte-at-requires : tie.Need-byte-at-requires
 byte-at-requires c κs = search needs

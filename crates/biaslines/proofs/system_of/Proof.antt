@@ -1,9 +1,9 @@
 -- `biaslines::system_of` meets its contract.
-use mathlib.Core.Path.{_≡_, refl, sym, ap, _∙_}
+use mathlib.Core.Path.{sym, _∙_}
 use native.Mathlib.Decide.{ℕ-discrete}
-use mathlib.Core.Bool.{_||_}
-use Rattle.kit.specs.Answer.{pick-yes, pick-no, ⊎-dec}
-use Rattle.kit.specs.Truth.{truth, either, eq-tells, truth-true, truth-false}
+use Rattle.kit.proofs.AnswerLaws.{pick-yes, pick-no}
+use Rattle.kit.specs.Answer.{⊎-dec}
+use Rattle.kit.proofs.TruthLaws.{either, eq-tells, truth-true, truth-false}
 use Rattle.biaslines.specs.Lines.{system-letter}
 use Rattle.biaslines.proofs.system_of.Statement.{statement}
 use Rattle.biaslines.proofs.system_of.Tie as tie

@@ -1,8 +1,8 @@
 -- `biasread::of_header` meets its contract.
-use mathlib.Core.Path.{_≡_, refl, sym, ap, subst, _∙_}
+use mathlib.Core.Path.{sym, subst}
 use Rattle.biasscan.specs.Judged.{Judges}
 use Rattle.biasfill.specs.Flat.{lent}
-use Rattle.biasread.specs.BiasedLaws.{biases-refuse, biases-number}
+use Rattle.biasread.proofs.BiasedLaws.{biases-refuse, biases-number}
 use borrow.Author.Needs.{needs}
 use Rattle.biasread.proofs.of_header.Statement.{statement}
 use Rattle.biasread.proofs.of_header.Tie as tie

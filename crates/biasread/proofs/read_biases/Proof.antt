@@ -1,9 +1,9 @@
 -- `biasread::read_biases` meets its contract.
-use mathlib.Core.Path.{_≡_, refl, sym, ap, subst, _∙_}
+use mathlib.Core.Path.{sym, subst}
 use Rattle.judging.specs.Scanned.{Judges}
 use Rattle.judging.specs.declared.Judged.{Judged}
 use Rattle.biasfill.specs.Flat.{lent}
-use Rattle.biasread.specs.BiasedLaws.{maps-refused, maps-number}
+use Rattle.biasread.proofs.BiasedLaws.{maps-refused, maps-number}
 use borrow.Author.Needs.{needs}
 use Rattle.biasread.proofs.read_biases.Statement.{statement}
 use Rattle.biasread.proofs.read_biases.Tie as tie

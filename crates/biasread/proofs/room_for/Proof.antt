@@ -1,8 +1,8 @@
 -- `biasread::room_for` meets its contract.
-use mathlib.Core.Path.{_≡_, refl, sym, ap, subst, _∙_}
+use mathlib.Core.Path.{sym, _∙_}
 use native.Mathlib.Omega.{arith}
 use native.Mathlib.Decide.{decLe}
-use Rattle.kit.specs.Answer.{pick-yes, pick-no}
+use Rattle.kit.proofs.AnswerLaws.{pick-yes, pick-no}
 use Rattle.needs.specs.Needs.{first-short}
 use borrow.Author.Needs.{needs}
 use Rattle.biasread.proofs.room_for.Statement.{statement}

@@ -1,10 +1,10 @@
 -- `biasread::store` meets its contract.
-use mathlib.Core.Path.{_≡_, refl, sym, ap, subst, _∙_}
+use mathlib.Core.Path.{sym, ap, _∙_}
 use mathlib.Core.Option.{some}
 use Rattle.needs.specs.Needs.{fit}
 use Rattle.biasfill.specs.Flat.{lent}
 use Rattle.biasread.specs.Biased.{with-room}
-use Rattle.biasread.specs.BiasedLaws.{too-short, enough, stored-is}
+use Rattle.biasread.proofs.BiasedLaws.{too-short, enough, stored-is}
 use borrow.Author.Needs.{needs}
 use Rattle.biasread.proofs.store.Statement.{statement}
 use Rattle.biasread.proofs.store.Tie as tie

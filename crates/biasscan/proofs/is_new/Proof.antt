@@ -1,13 +1,13 @@
 -- `biasscan::is_new` meets its contract.
-use mathlib.Core.Path.{_≡_, refl, sym, ap, subst, _∙_}
+use mathlib.Core.Path.{_≡_, subst}
 use native.Mathlib.Omega.{arith}
 use Prim.Native.Nat.{ℕ, _-_, _≤_}
 use Rattle.kit.specs.Answer.{all-dec, ¬-dec}
-use Rattle.kit.specs.Truth.{holds, fails}
+use Rattle.kit.proofs.TruthLaws.{holds, fails}
 use Rattle.biases.specs.Read.{same-station?}
 use Rattle.biasscan.specs.Walk.{first, walked}
 use Rattle.biasscan.specs.Turns.{Looks, Unheard}
-use Rattle.biasscan.specs.LookLaws.{Looking, looking-first, looking-on, looking-same, looking-still}
+use Rattle.biasscan.proofs.LookLaws.{Looking, looking-first, looking-on, looking-same, looking-still}
 use borrow.Author.Needs.{needs}
 use Rattle.biasscan.proofs.is_new.Statement.{statement}
 use Rattle.biasscan.proofs.is_new.Tie as tie

@@ -1,18 +1,16 @@
 -- `biasscan::is_same` meets its contract.
-use mathlib.Core.Path.{_≡_, refl, sym, ap, subst, _∙_}
+use mathlib.Core.Path.{_≡_, sym, ap, _∙_}
 use native.Mathlib.Omega.{arith}
-use mathlib.Core.Bool.{true, false}
 use lib.ListN.{length}
-use lib.Dec.{eqb}
 use borrow.Author.Tests.{eqb-true, eqb-false, not-true, not-false}
 use Rattle.kit.specs.Answer.{ok, refused}
-use Rattle.kit.specs.Truth.{fails, tells}
+use Rattle.kit.proofs.TruthLaws.{fails, tells}
 use Rattle.layout.specs.Text.{pad}
 use Rattle.biases.specs.Read.{station-of}
 use Rattle.biaslines.specs.Lines.{toldStation}
 use Rattle.biaslines.specs.declared.StationSaid.{StationSaid}
-use Rattle.biasscan.specs.Turns.{Heard, heard?}
-use Rattle.biasscan.specs.LookLaws.{not-named, same-name}
+use Rattle.biasscan.specs.Turns.{heard?}
+use Rattle.biasscan.proofs.LookLaws.{not-named, same-name}
 use borrow.Author.Needs.{needs}
 use Rattle.biasscan.proofs.is_same.Statement.{statement}
 use Rattle.biasscan.proofs.is_same.Tie as tie

@@ -1,10 +1,10 @@
 -- `biasscan::judge` meets its contract.
-use mathlib.Core.Path.{_≡_, refl, sym, ap, subst, _∙_}
+use mathlib.Core.Path.{subst}
 use native.Mathlib.Omega.{arith}
 use Prim.Native.Nat.{_-_}
 use lib.ListN.{length}
 use Rattle.biasscan.specs.Judged.{Stands, Leads}
-use Rattle.biasscan.specs.JudgedLaws.{stands-first}
+use Rattle.biasscan.proofs.JudgedLaws.{stands-first}
 use Rattle.biasscan.specs.declared.Onward.{Onward}
 use borrow.Author.Needs.{needs}
 use Rattle.biasscan.proofs.judge.Statement.{statement}

@@ -1,11 +1,11 @@
 -- `biasscan::look` meets its contract.
-use mathlib.Core.Path.{_≡_, refl, sym, ap, subst, _∙_}
+use mathlib.Core.Path.{sym, subst, _∙_}
 use native.Mathlib.Omega.{arith}
 use lib.ListN.{length-take, length-drop}
-use Rattle.kit.specs.Truth.{truth-true, truth-false}
+use Rattle.kit.proofs.TruthLaws.{truth-true, truth-false}
 use Rattle.biases.specs.declared.Role.the-variants.{OfStation}
 use Rattle.biasscan.specs.Turns.{Turns, OnLine}
-use Rattle.biasscan.specs.TurnLaws.{last-still, skip-past, satellite-past, station-past, station-twice}
+use Rattle.biasscan.proofs.TurnLaws.{last-still, skip-past, satellite-past, station-past, station-twice}
 use borrow.Author.Needs.{needs}
 use Rattle.biasscan.proofs.look.Statement.{statement}
 use Rattle.biasscan.proofs.look.Tie as tie

@@ -1,10 +1,10 @@
 -- `biasscan::next_row` meets its contract.
-use mathlib.Core.Path.{_≡_, refl, sym, ap, subst, _∙_}
+use mathlib.Core.Path.{sym, subst, _∙_}
 use native.Mathlib.Omega.{arith}
 use lib.ListN.{length-take, length-drop}
 use Rattle.lines.specs.Leads.{Leads, LeadsRow}
 use Rattle.biases.specs.declared.Role.the-variants.{Last, Skipped}
-use Rattle.biasscan.specs.TurnLaws.{halts-over, halts-bad, on-row, on-satellite, on-station}
+use Rattle.biasscan.proofs.TurnLaws.{halts-over, halts-bad, on-row, on-satellite, on-station}
 use borrow.Author.Needs.{needs}
 use Rattle.biasscan.proofs.next_row.Statement.{statement}
 use Rattle.biasscan.proofs.next_row.Tie as tie

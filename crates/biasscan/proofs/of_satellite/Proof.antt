@@ -1,15 +1,13 @@
 -- `biasscan::of_satellite` meets its contract.
-use mathlib.Core.Path.{_≡_, refl, sym, ap, subst, _∙_}
+use mathlib.Core.Path.{_≡_, sym, ap, _∙_}
 use native.Mathlib.Omega.{arith}
-use Prim.Native.Nat.{ℕ}
-use mathlib.Core.List.{List}
-use lib.ListN.{getD, length-take, length-drop}
+use lib.ListN.{getD}
 use Rattle.biaslines.specs.Lines.{toldSatellite}
 use Rattle.biasscan.specs.Walk.{first}
-use Rattle.biasscan.specs.WalkLaws.{given-small}
+use Rattle.biasscan.proofs.WalkLaws.{given-small}
 use Rattle.biasscan.specs.Marks.{spot, marked}
-use Rattle.biasscan.specs.MarkLaws.{spot-below, unmarked, marked-twice, said-small}
-use Rattle.biasscan.specs.JudgedLaws.{satellite-refused, satellite-twice, satellite-new}
+use Rattle.biasscan.proofs.MarkLaws.{spot-below, unmarked, marked-twice, said-small}
+use Rattle.biasscan.proofs.JudgedLaws.{satellite-refused, satellite-twice, satellite-new}
 use borrow.Author.Needs.{needs}
 use Rattle.biasscan.proofs.of_satellite.Statement.{statement}
 use Rattle.biasscan.proofs.of_satellite.Tie as tie

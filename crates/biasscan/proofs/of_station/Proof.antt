@@ -1,10 +1,9 @@
 -- `biasscan::of_station` meets its contract.
-use mathlib.Core.Path.{_≡_, refl, sym, ap, subst, _∙_}
-use native.Mathlib.Omega.{arith}
-use Rattle.kit.specs.Truth.{truth-true, truth-false}
+use mathlib.Core.Path.{sym, ap, _∙_}
+use Rattle.kit.proofs.TruthLaws.{truth-true, truth-false}
 use Rattle.biaslines.specs.Lines.{toldStation}
 use Rattle.biaslines.specs.declared.StationSaid.{StationSaid}
-use Rattle.biasscan.specs.JudgedLaws.{station-refused, station-twice, station-new}
+use Rattle.biasscan.proofs.JudgedLaws.{station-refused, station-twice, station-new}
 use borrow.Author.Needs.{needs}
 use Rattle.biasscan.proofs.of_station.Statement.{statement}
 use Rattle.biasscan.proofs.of_station.Tie as tie

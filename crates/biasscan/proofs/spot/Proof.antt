@@ -1,8 +1,7 @@
 -- `biasscan::spot` meets its contract.
-use mathlib.Core.Path.{_≡_, refl, sym, ap, subst, _∙_}
-use native.Mathlib.Omega.{arith}
+use mathlib.Core.Path.{sym}
 use native.Mathlib.Decide.{ℕ-discrete}
-use Rattle.kit.specs.Answer.{pick-yes, pick-no}
+use Rattle.kit.proofs.AnswerLaws.{pick-yes, pick-no}
 use Rattle.biasscan.specs.Marks.{spot}
 use borrow.Author.Needs.{needs}
 use Rattle.biasscan.proofs.spot.Statement.{statement}

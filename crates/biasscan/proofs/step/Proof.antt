@@ -1,8 +1,8 @@
 -- `biasscan::step` meets its contract.
-use mathlib.Core.Path.{_≡_, refl, sym, ap, subst, _∙_}
+use mathlib.Core.Path.{subst}
 use native.Mathlib.Omega.{arith}
 use Rattle.biasscan.specs.Turns.{Turns}
-use Rattle.biasscan.specs.JudgedLaws.{halted, ended, skipped}
+use Rattle.biasscan.proofs.JudgedLaws.{halted, ended, skipped}
 use borrow.Author.Needs.{needs}
 use Rattle.biasscan.proofs.step.Statement.{statement}
 use Rattle.biasscan.proofs.step.Tie as tie

@@ -5,9 +5,6 @@ use borrow.Author.Needs.{needs}
 use Rattle.blocks.proofs.BlockLaws.{Filling, filling-none, filling-okay, filling-more, filling-done, turned, part-length}
 use Rattle.blocks.proofs.fill_block.Statement.{statement}
 use Rattle.blocks.proofs.fill_block.Tie as tie
-use Rattle.blocks.proofs.fill_block.Reads as reads
-use Rattle.blocks.proofs.fill_block.Lts as lts
-use Rattle.blocks.proofs.fill_step.Reads as fill-step-reads
 
 abbrev Inv-loop : tie.InvT-loop
 Inv-loop text from lines out₀ at₀ n₀ done₀ out at n done = Filling text from lines (length out₀) at n done out

@@ -6,11 +6,6 @@ use Rattle.lines.proofs.Parts.{stands, skip-in, row-in, row-end, row-fits}
 use borrow.Author.Needs.{needs}
 use Rattle.blocks.proofs.fill_step.Statement.{statement}
 use Rattle.blocks.proofs.fill_step.Tie as tie
-use Rattle.blocks.proofs.fill_step.Reads as reads
-use Rattle.blocks.proofs.fill_step.Lts as lts
-use Rattle.values.proofs.fill_row.Reads as fill-row-reads
-use Rattle.lines.proofs.line_in.Reads as line-in-reads
-use Rattle.blocks.proofs.on_row.Reads as on-row-reads
 
 sub-line-in : tie.Need-sub-line-in
 sub-line-in c = search needs

@@ -7,9 +7,6 @@ use Rattle.blocks.specs.Steps.{Moved}
 use Rattle.blocks.proofs.BlockLaws.{moved-none, moved-more, moved-stop, moved-done, stepped, short-at}
 use Rattle.blocks.proofs.judge_block.Statement.{statement}
 use Rattle.blocks.proofs.judge_block.Tie as tie
-use Rattle.blocks.proofs.judge_block.Reads as reads
-use Rattle.blocks.proofs.judge_block.Lts as lts
-use Rattle.blocks.proofs.step_at.Reads as step-at-reads
 
 abbrev Inv-loop : tie.InvT-loop
 Inv-loop text from lines count ends at₀ n₀ left₀ at n left = Moved text from lines count at n left

@@ -1,8 +1,8 @@
 -- `calendar::date_of` meets its contract.
 use native.Mathlib.Omega.{arith}
 use Prim.Native.Nat.{_+_}
-use Rattle.days.specs.YearLaws.{row-two, all-years}
-use Rattle.calendar.specs.DateLaws.{in-months, date-made}
+use Rattle.days.proofs.YearLaws.{row-two, all-years}
+use Rattle.calendar.proofs.DateLaws.{in-months, date-made}
 use borrow.Author.Needs.{needs}
 use Rattle.calendar.proofs.date_of.Statement.{statement}
 use Rattle.calendar.proofs.date_of.Tie as tie

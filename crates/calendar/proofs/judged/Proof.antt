@@ -2,7 +2,7 @@
 use mathlib.Core.Path.{_≡_, sym, ap, _∙_}
 use Rattle.calendar.specs.Calendar.{toldChecked}
 use Rattle.calendar.specs.Inner.{secondOf, datedOf, takenAs}
-use Rattle.calendar.specs.FieldLaws.{date-right, dated-by}
+use Rattle.calendar.proofs.FieldLaws.{date-right, dated-by}
 use Rattle.calendar.specs.declared.Checked.{Checked}
 use Rattle.calendar.specs.declared.Taken.the-variants as K
 use borrow.Author.Needs.{needs}

@@ -6,7 +6,8 @@ use lib.IntN.{ℤ, pos, negsuc, natAbs}
 use mir.Syntax.{w32}
 use mir.Val.{toZ, ofZ}
 use mir.Facts.{toZ-ofZ}
-use Rattle.kit.specs.Parts.{up, dn, lt-true, not-below-zero, nonneg-parts, size-of-fits}
+use Rattle.kit.specs.Integer.{up, dn}
+use Rattle.kit.proofs.Parts.{lt-true, not-below-zero, nonneg-parts, size-of-fits}
 use Rattle.calendar.specs.Inner.{clip}
 use Rattle.calendar.proofs.natural.Statement.{statement}
 use Rattle.calendar.proofs.natural.Tie as tie

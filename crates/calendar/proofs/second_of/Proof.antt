@@ -5,8 +5,8 @@ use Prim.Native.Nat.{ℕ, _+_, _*_, _-_, _<_}
 use Rattle.days.specs.Sums.{sum}
 use Rattle.days.specs.Years.{row, monthDays, yearDays}
 use Rattle.calendar.specs.Calendar.{second, end}
-use Rattle.days.specs.YearLaws.{row-two}
-use Rattle.calendar.specs.DateLaws.{below-end}
+use Rattle.days.proofs.YearLaws.{row-two}
+use Rattle.calendar.proofs.DateLaws.{below-end}
 use Rattle.calendar.specs.declared.Epoch.{Epoch}
 use borrow.Author.Needs.{needs}
 use Rattle.calendar.proofs.second_of.Statement.{statement}

@@ -5,7 +5,7 @@ use lib.IntN.{pos}
 use mir.Facts.{toZ-ofZ}
 use Rattle.calendar.specs.Calendar.{dated, toldTaken}
 use Rattle.calendar.specs.Inner.{clip}
-use Rattle.calendar.specs.FieldLaws.{dated-told, dated-clip}
+use Rattle.calendar.proofs.FieldLaws.{dated-told, dated-clip}
 use Rattle.calendar.proofs.take.Statement.{statement}
 use Rattle.calendar.proofs.take.Tie as tie
 

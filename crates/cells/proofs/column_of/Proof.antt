@@ -7,8 +7,8 @@ use lib.IntN.{ℤ, pos, _-ℤ_, _*ℤ_}
 use mir.Syntax.{w32, w64}
 use mir.Val.{toZ, ofZ, SFits}
 use mir.Facts.{toZ-ofZ}
-use Rattle.kit.specs.Parts.{size-of-fits}
-use Rattle.cells.specs.PlaceLaws.{offset-size, column-found}
+use Rattle.kit.proofs.Parts.{size-of-fits}
+use Rattle.cells.proofs.PlaceLaws.{offset-size, column-found}
 use Rattle.cells.proofs.column_of.Statement.{statement}
 use Rattle.cells.proofs.column_of.Tie as tie
 

@@ -4,7 +4,7 @@ use mathlib.Core.Path.{_≡_}
 use lib.IntN.{+ℤ-idr}
 use mir.Syntax.{w32}
 use mir.Val.{toZ, ofZ}
-use Rattle.kit.specs.Truth.{either}
+use Rattle.kit.proofs.TruthLaws.{either}
 use Rattle.cells.specs.Found.{strip?, closed?, goes-round?}
 use Rattle.cells.proofs.goes_round.Statement.{statement}
 use Rattle.cells.proofs.goes_round.Tie as tie

@@ -2,16 +2,16 @@
 use native.Mathlib.Omega.{arith}
 use mathlib.Core.Path.{_≡_, ap, _∙_}
 use mathlib.Core.Logic.{⊎-elim}
-use Prim.Native.Nat.{_+_, _≤_, _<_, _^_}
+use Prim.Native.Nat.{_<_, _^_}
 use lib.IntN.{ℤ, pos, natAbs, _+ℤ_, _-ℤ_}
 use mir.Syntax.{w32, w64}
 use mir.Val.{toZ, ofZ}
 use mir.Facts.{toZ-ofZ, sfits-widen}
 use borrow.Author.Tests.{eqb-true, eqb-false}
-use Rattle.kit.specs.Integer.{int?}
-use Rattle.kit.specs.Order.{less-size, sum-size}
-use Rattle.kit.specs.Parts.{up, dn, add-parts, sub-parts2, eq-parts, abs-parts, one-zero, size-fits, size-of-fits}
-use Rattle.kit.specs.Truth.{tells}
+use Rattle.kit.specs.Integer.{int?, up, dn}
+use Rattle.kit.proofs.Order.{less-size, sum-size}
+use Rattle.kit.proofs.Parts.{sub-parts2, eq-parts, abs-parts, one-zero, size-fits, size-of-fits}
+use Rattle.kit.proofs.TruthLaws.{tells}
 use Rattle.cells.proofs.is_turn.Statement.{statement}
 use Rattle.cells.proofs.is_turn.Tie as tie
 

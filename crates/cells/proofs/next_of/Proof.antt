@@ -3,7 +3,7 @@ use borrow.Author.Needs.{needs}
 use mathlib.Core.Path.{refl, sym}
 use borrow.Author.Tests.{not-true, not-false}
 use native.Mathlib.Decide.{ℕ-discrete}
-use Rattle.kit.specs.Answer.{pick-yes, pick-no}
+use Rattle.kit.proofs.AnswerLaws.{pick-yes, pick-no}
 use Rattle.cells.specs.Found.{after}
 use Rattle.cells.proofs.next_of.Statement.{statement}
 use Rattle.cells.proofs.next_of.Tie as tie

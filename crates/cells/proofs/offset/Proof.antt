@@ -7,8 +7,8 @@ use lib.IntN.{pos, natAbs, _-ℤ_, _*ℤ_}
 use mir.Syntax.{w32, w64}
 use mir.Val.{toZ, ofZ, SFits}
 use mir.Facts.{toZ-ofZ, toZ-pos, sfits-widen}
-use Rattle.kit.specs.Parts.{abs-scale, size-fits, size-of-fits}
-use Rattle.cells.specs.PlaceLaws.{offset-size}
+use Rattle.kit.proofs.Parts.{abs-scale, size-fits, size-of-fits}
+use Rattle.cells.proofs.PlaceLaws.{offset-size}
 use Rattle.cells.proofs.offset.Statement.{statement}
 use Rattle.cells.proofs.offset.Tie as tie
 

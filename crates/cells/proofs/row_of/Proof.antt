@@ -6,9 +6,9 @@ use lib.IntN.{ℤ, pos, _-ℤ_, _*ℤ_}
 use mir.Syntax.{w32, w64}
 use mir.Val.{toZ, ofZ, SFits}
 use mir.Facts.{toZ-ofZ, sfits-widen}
-use Rattle.kit.specs.Parts.{size-of-fits}
+use Rattle.kit.proofs.Parts.{size-of-fits}
 use Rattle.cells.specs.Found.{IsWay}
-use Rattle.cells.specs.PlaceLaws.{offset-size, row-found}
+use Rattle.cells.proofs.PlaceLaws.{offset-size, row-found}
 use Rattle.cells.proofs.row_of.Statement.{statement}
 use Rattle.cells.proofs.row_of.Tie as tie
 

@@ -7,7 +7,7 @@ use native.Mathlib.Nat.{mul-le-mul}
 use lib.IntN.{natAbs}
 use mir.Syntax.{w32}
 use mir.Val.{toZ, ofZ, SFits}
-use Rattle.kit.specs.Parts.{size-of-fits}
+use Rattle.kit.proofs.Parts.{size-of-fits}
 use Rattle.cells.proofs.step_of.Statement.{statement}
 use Rattle.cells.proofs.step_of.Tie as tie
 

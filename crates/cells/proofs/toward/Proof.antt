@@ -9,9 +9,10 @@ use lib.Signed.{ltZ}
 use mir.Syntax.{w64}
 use mir.Val.{toZ, ofZ}
 use mir.Facts.{toZ-ofZ}
-use Rattle.kit.specs.Parts.{up, dn, neg-up, neg-dn, eq-parts, abs-parts, below-zero, not-below-zero}
+use Rattle.kit.specs.Integer.{up, dn}
+use Rattle.kit.proofs.Parts.{neg-up, neg-dn, eq-parts, abs-parts, below-zero, not-below-zero}
 use Rattle.cells.specs.Place.{along}
-use Rattle.cells.specs.PlaceLaws.{along-up, along-down, along-zero}
+use Rattle.cells.proofs.PlaceLaws.{along-up, along-down, along-zero}
 use Rattle.cells.proofs.toward.Statement.{statement}
 use Rattle.cells.proofs.toward.Tie as tie
 

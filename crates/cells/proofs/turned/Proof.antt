@@ -7,7 +7,7 @@ use lib.IntN.{natAbs}
 use mir.Syntax.{w64}
 use mir.Val.{toZ, ofZ}
 use mir.Facts.{toZ-ofZ}
-use Rattle.cells.specs.PlaceLaws.{back-whole, back-part, ahead}
+use Rattle.cells.proofs.PlaceLaws.{back-whole, back-part, ahead}
 use Rattle.cells.proofs.turned.Statement.{statement}
 use Rattle.cells.proofs.turned.Tie as tie
 

@@ -1,7 +1,7 @@
 use mathlib.Core.Path.{sym}
 use native.Mathlib.Decide.{decLt}
 use native.Mathlib.Omega.{arith}
-use Rattle.kit.specs.Answer.{pick-yes, pick-no}
+use Rattle.kit.proofs.AnswerLaws.{pick-yes, pick-no}
 use Rattle.crossing.specs.Own.{lesser}
 use Rattle.crossing.proofs.lesser.Statement.{statement}
 use Rattle.crossing.proofs.lesser.Tie as tie

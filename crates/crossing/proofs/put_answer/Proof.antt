@@ -6,10 +6,6 @@ use Rattle.kit.specs.Lists.{front}
 use borrow.Author.Needs.{needs}
 use Rattle.crossing.proofs.put_answer.Statement.{statement}
 use Rattle.crossing.proofs.put_answer.Tie as tie
-use Rattle.crossing.proofs.put_answer.Reads as reads
-use Rattle.crossing.proofs.put_answer.Lts as lts
-use Rattle.crossing.proofs.number_of.Reads as number-of-reads
-use Rattle.crossing.proofs.put_value.Reads as put-value-reads
 
 enum-known-answer : tie.Need-enum-known-answer
 enum-known-answer c = search needs

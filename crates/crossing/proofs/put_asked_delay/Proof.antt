@@ -1,10 +1,6 @@
 use borrow.Author.Needs.{needs}
 use Rattle.crossing.proofs.put_asked_delay.Statement.{statement}
 use Rattle.crossing.proofs.put_asked_delay.Tie as tie
-use Rattle.crossing.proofs.put_asked_delay.Reads as reads
-use Rattle.crossing.proofs.put_asked_delay.Lts as lts
-use Rattle.crossing.proofs.number_of.Reads as number-of-reads
-use Rattle.crossing.proofs.put_delay.Reads as put-delay-reads
 
 enum-known-answer : tie.Need-enum-known-answer
 enum-known-answer c = search needs

@@ -3,8 +3,6 @@ use Rattle.numbers.proofs.SetLaws.{sets-front}
 use borrow.Author.Needs.{needs}
 use Rattle.crossing.proofs.put_count.Statement.{statement}
 use Rattle.crossing.proofs.put_count.Tie as tie
-use Rattle.crossing.proofs.put_count.Reads as reads
-use Rattle.crossing.proofs.put_count.Lts as lts
 
 slice-write-out : tie.Need-slice-write-out
 slice-write-out c = search needs

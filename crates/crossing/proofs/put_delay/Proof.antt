@@ -2,9 +2,6 @@ use mathlib.Core.Path.{refl}
 use borrow.Author.Needs.{needs}
 use Rattle.crossing.proofs.put_delay.Statement.{statement}
 use Rattle.crossing.proofs.put_delay.Tie as tie
-use Rattle.crossing.proofs.put_delay.Reads as reads
-use Rattle.crossing.proofs.put_delay.Lts as lts
-use Rattle.crossing.proofs.put_record.Reads as put-record-reads
 
 enum-known-delayed : tie.Need-enum-known-delayed
 enum-known-delayed c = search needs

@@ -4,8 +4,6 @@ use Rattle.crossing.specs.NeedsExported.{listed}
 use borrow.Author.Needs.{needs}
 use Rattle.crossing.proofs.put_elements.Statement.{statement}
 use Rattle.crossing.proofs.put_elements.Tie as tie
-use Rattle.crossing.proofs.put_elements.Reads as reads
-use Rattle.crossing.proofs.put_elements.Lts as lts
 
 slice-write-out : tie.Need-slice-write-out
 slice-write-out c = search needs

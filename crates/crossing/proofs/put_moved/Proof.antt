@@ -4,8 +4,6 @@ use Rattle.numbers.proofs.SetLaws.{sets-front}
 use borrow.Author.Needs.{needs}
 use Rattle.crossing.proofs.put_moved.Statement.{statement}
 use Rattle.crossing.proofs.put_moved.Tie as tie
-use Rattle.crossing.proofs.put_moved.Reads as reads
-use Rattle.crossing.proofs.put_moved.Lts as lts
 
 enum-known-when : tie.Need-enum-known-when
 enum-known-when c = search needs

@@ -2,10 +2,6 @@ use mathlib.Core.Path.{refl}
 use borrow.Author.Needs.{needs}
 use Rattle.crossing.proofs.put_needs.Statement.{statement}
 use Rattle.crossing.proofs.put_needs.Tie as tie
-use Rattle.crossing.proofs.put_needs.Reads as reads
-use Rattle.crossing.proofs.put_needs.Lts as lts
-use Rattle.crossing.proofs.put_elements.Reads as put-elements-reads
-use Rattle.crossing.proofs.put_refusal.Reads as put-refusal-reads
 
 enum-known-measured : tie.Need-enum-known-measured
 enum-known-measured c = search needs

@@ -3,11 +3,6 @@ use Rattle.crossing.proofs.ReadLaws.{no-header, no-texts}
 use borrow.Author.Needs.{needs}
 use Rattle.crossing.proofs.put_reading.Statement.{statement}
 use Rattle.crossing.proofs.put_reading.Tie as tie
-use Rattle.crossing.proofs.put_reading.Reads as reads
-use Rattle.crossing.proofs.put_reading.Lts as lts
-use Rattle.crossing.proofs.put_refusal.Reads as put-refusal-reads
-use Rattle.numbers.proofs.put_header.Reads as put-header-reads
-use Rattle.numbers.proofs.put_texts.Reads as put-texts-reads
 
 enum-known-answer : tie.Need-enum-known-answer
 enum-known-answer c = search needs

@@ -4,8 +4,6 @@ use Rattle.numbers.proofs.SetLaws.{sets-front}
 use borrow.Author.Needs.{needs}
 use Rattle.crossing.proofs.put_record.Statement.{statement}
 use Rattle.crossing.proofs.put_record.Tie as tie
-use Rattle.crossing.proofs.put_record.Reads as reads
-use Rattle.crossing.proofs.put_record.Lts as lts
 
 slice-write-out : tie.Need-slice-write-out
 slice-write-out c = search needs

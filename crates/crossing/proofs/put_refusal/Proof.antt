@@ -3,9 +3,6 @@ use Rattle.kit.specs.Lists.{front}
 use borrow.Author.Needs.{needs}
 use Rattle.crossing.proofs.put_refusal.Statement.{statement}
 use Rattle.crossing.proofs.put_refusal.Tie as tie
-use Rattle.crossing.proofs.put_refusal.Reads as reads
-use Rattle.crossing.proofs.put_refusal.Lts as lts
-use Rattle.outcome.proofs.refusal_of.Reads as refusal-of-reads
 
 refusal-of-requires : tie.Need-refusal-of-requires
 refusal-of-requires c κs = search needs

@@ -4,8 +4,6 @@ use Rattle.numbers.proofs.SetLaws.{sets-front}
 use borrow.Author.Needs.{needs}
 use Rattle.crossing.proofs.put_value.Statement.{statement}
 use Rattle.crossing.proofs.put_value.Tie as tie
-use Rattle.crossing.proofs.put_value.Reads as reads
-use Rattle.crossing.proofs.put_value.Lts as lts
 
 slice-set-from-v : tie.Need-slice-set-from-v
 slice-set-from-v c = search needs

@@ -2,9 +2,6 @@ use mathlib.Core.Path.{refl}
 use borrow.Author.Needs.{needs}
 use Rattle.crossing.proofs.put_written.Statement.{statement}
 use Rattle.crossing.proofs.put_written.Tie as tie
-use Rattle.crossing.proofs.put_written.Reads as reads
-use Rattle.crossing.proofs.put_written.Lts as lts
-use Rattle.crossing.proofs.put_count.Reads as put-count-reads
 
 enum-known-answer : tie.Need-enum-known-answer
 enum-known-answer c = search needs

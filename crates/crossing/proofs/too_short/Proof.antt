@@ -1,12 +1,10 @@
 use mathlib.Core.Path.{sym, _∙_}
 use native.Mathlib.Omega.{arith}
 use native.Mathlib.Decide.{decLe}
-use Rattle.kit.specs.Answer.{pick-yes, pick-no}
+use Rattle.kit.proofs.AnswerLaws.{pick-yes, pick-no}
 use Rattle.crossing.specs.Own.{too-short}
 use Rattle.crossing.proofs.too_short.Statement.{statement}
 use Rattle.crossing.proofs.too_short.Tie as tie
-use Rattle.crossing.proofs.too_short.Reads as reads
-use Rattle.crossing.proofs.too_short.Lts as lts
 
 returns : tie.Need-returns
 unfolding too-short

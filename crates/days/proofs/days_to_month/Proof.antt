@@ -3,9 +3,9 @@ use native.Mathlib.Omega.{arith}
 use mathlib.Core.Path.{_≡_, refl, ap, _∙_}
 use Prim.Native.Nat.{_-_, _≤_}
 use Rattle.days.specs.Sums.{sum}
-use Rattle.days.specs.SumLaws.{sum-suc, sum-bound}
+use Rattle.days.proofs.SumLaws.{sum-suc, sum-bound}
 use Rattle.days.specs.Years.{monthDays}
-use Rattle.days.specs.YearLaws.{month-le}
+use Rattle.days.proofs.YearLaws.{month-le}
 use Rattle.days.proofs.days_to_month.Statement.{statement}
 use Rattle.days.proofs.days_to_month.Tie as tie
 

@@ -2,7 +2,7 @@
 use borrow.Author.Needs.{needs}
 use native.Mathlib.Omega.{arith}
 use Prim.Native.Nat.{_+_}
-use Rattle.days.specs.Formula.{leap-le, years-by-formula}
+use Rattle.days.proofs.FormulaLaws.{leap-le, years-by-formula}
 use Rattle.days.proofs.days_to_year.Statement.{statement}
 use Rattle.days.proofs.days_to_year.Tie as tie
 

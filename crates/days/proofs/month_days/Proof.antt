@@ -3,7 +3,7 @@ use borrow.Author.Needs.{needs}
 use native.Mathlib.Omega.{arith}
 use mathlib.Core.Path.{refl}
 use Rattle.days.specs.Years.{monthDays}
-use Rattle.days.specs.YearLaws.{month-le}
+use Rattle.days.proofs.YearLaws.{month-le}
 use Rattle.days.proofs.month_days.Statement.{statement}
 use Rattle.days.proofs.month_days.Tie as tie
 

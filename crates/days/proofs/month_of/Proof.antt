@@ -3,7 +3,7 @@ use native.Mathlib.Omega.{arith}
 use mathlib.Core.Path.{_≡_, ap}
 use Prim.Native.Nat.{_+_, _-_, _≤_}
 use Rattle.days.specs.Sums.{sum}
-use Rattle.days.specs.SumLaws.{sum-suc}
+use Rattle.days.proofs.SumLaws.{sum-suc}
 use Rattle.days.specs.Years.{monthDays}
 use Rattle.days.proofs.month_of.Statement.{statement}
 use Rattle.days.proofs.month_of.Tie as tie

@@ -1,7 +1,7 @@
 -- `days::year_days` meets its contract.
 use borrow.Author.Needs.{needs}
 use mathlib.Core.Path.{sym, _∙_}
-use Rattle.days.specs.YearLaws.{days-leap, days-common}
+use Rattle.days.proofs.YearLaws.{days-leap, days-common}
 use Rattle.days.proofs.year_days.Statement.{statement}
 use Rattle.days.proofs.year_days.Tie as tie
 

@@ -3,12 +3,12 @@ use borrow.Author.Needs.{needs}
 use native.Mathlib.Omega.{arith}
 use native.Mathlib.Decide.{decLe}
 use mathlib.Core.Path.{_≡_, ap}
-use Prim.Native.Nat.{ℕ, _+_, _-_, _*_, _/_, _≤_, _<_}
+use Prim.Native.Nat.{ℕ, _+_, _-_, _/_, _≤_, _<_}
 use Rattle.days.specs.Sums.{sum, Place}
-use Rattle.days.specs.SumLaws.{sum-suc, sum-bound}
+use Rattle.days.proofs.SumLaws.{sum-suc, sum-bound}
 use Rattle.days.specs.Years.{yearDays}
-use Rattle.days.specs.YearLaws.{year-le, all-years}
-use Rattle.days.specs.Formula.{years-least}
+use Rattle.days.proofs.YearLaws.{year-le, all-years}
+use Rattle.days.proofs.FormulaLaws.{years-least}
 use Rattle.days.proofs.year_of.Statement.{statement}
 use Rattle.days.proofs.year_of.Tie as tie
 

@@ -6,8 +6,6 @@ use mathlib.Core.Path.{refl}
 use Rattle.stores.proofs.ClearLaws.{Cleared, cleared-none, cleared-more, cleared-done}
 use Rattle.entering.proofs.clear_positions.Statement.{statement}
 use Rattle.entering.proofs.clear_positions.Tie as tie
-use Rattle.entering.proofs.clear_positions.Reads as reads
-use Rattle.entering.proofs.clear_positions.Lts as lts
 
 abbrev Inv-loop : tie.InvT-loop
 Inv-loop positions₀ j₀ positions j = Cleared 0 positions₀ positions j

@@ -2,18 +2,12 @@ use mir.Syntax.{w32}
 use mir.Val.{toZ, ofZ}
 use mathlib.Core.Path.{_≡_, sym, ap, _∙_}
 use native.Mathlib.Omega.{arith}
-use mir.Facts.{toZ-ofZ}
 use Rattle.index.specs.Index.{entries}
 use Rattle.entering.specs.Enter.{enters}
 use Rattle.entering.proofs.ScanLaws.{kept-as}
 use borrow.Author.Needs.{needs}
 use Rattle.entering.proofs.enter.Statement.{statement}
 use Rattle.entering.proofs.enter.Tie as tie
-use Rattle.entering.proofs.enter.Reads as reads
-use Rattle.entering.proofs.enter.Lts as lts
-use Rattle.entering.proofs.put_position.Reads as put-position-reads
-use Rattle.stores.proofs.put_exponent.Reads as put-exponent-reads
-use Rattle.stores.proofs.put_mark.Reads as put-mark-reads
 
 e-is : (c : tie.After-known-told2) → toZ w32 (ofZ w32 (c .before .event2 .given .0 .1 .1 .1 .0)) ≡ c .before .event2 .given .0 .1 .1 .1 .0
 e-is c = search needs

@@ -7,11 +7,6 @@ use Rattle.entering.proofs.ScanLaws.{steady-cleared}
 use borrow.Author.Needs.{needs}
 use Rattle.entering.proofs.enter_all.Statement.{statement}
 use Rattle.entering.proofs.enter_all.Tie as tie
-use Rattle.entering.proofs.enter_all.Reads as reads
-use Rattle.entering.proofs.enter_all.Lts as lts
-use Rattle.entering.proofs.maps_start.Reads as maps-start-reads
-use Rattle.entering.proofs.prefill.Reads as prefill-reads
-use Rattle.entering.proofs.scan.Reads as scan-reads
 
 e-is : (c : tie.After-struct-told) → toZ w32 (ofZ w32 (c .before .before .before .before .before .before .before .before .before .before .before .before .before .maps-start .result .exponent)) ≡ c .before .before .before .before .before .before .before .before .before .before .before .before .before .maps-start .result .exponent
 e-is c = search needs

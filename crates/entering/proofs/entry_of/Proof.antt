@@ -2,9 +2,6 @@ use Rattle.entering.proofs.ScanLaws.{entry-tec, entry-rms, entry-height
 use borrow.Author.Needs.{needs}
 use Rattle.entering.proofs.entry_of.Statement.{statement}
 use Rattle.entering.proofs.entry_of.Tie as tie
-use Rattle.entering.proofs.entry_of.Reads as reads
-use Rattle.entering.proofs.entry_of.Lts as lts
-use Rattle.stores.proofs.block_place.Reads as block-place-reads
 
 mul-all : tie.Need-mul-all
 mul-all c = search needs

@@ -10,9 +10,6 @@ use lib.ListN.{length}
 use Rattle.entering.proofs.HeadLaws.{Heading, heading-more, heading-stop, heading-end}
 use Rattle.entering.proofs.maps_start.Statement.{statement}
 use Rattle.entering.proofs.maps_start.Tie as tie
-use Rattle.entering.proofs.maps_start.Reads as reads
-use Rattle.entering.proofs.maps_start.Lts as lts
-use Rattle.entering.proofs.walk_at.Reads as walk-at-reads
 
 abbrev Inv-loop : tie.InvT-loop
 Inv-loop text w₀ w = Heading text w

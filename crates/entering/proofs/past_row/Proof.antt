@@ -8,10 +8,6 @@ use Rattle.entering.proofs.HeadLaws.{passes-at, passes-other, passes-au
 use borrow.Author.Needs.{needs}
 use Rattle.entering.proofs.past_row.Statement.{statement}
 use Rattle.entering.proofs.past_row.Tie as tie
-use Rattle.entering.proofs.past_row.Reads as reads
-use Rattle.entering.proofs.past_row.Lts as lts
-use Rattle.events.proofs.whole_in.Reads as whole-in-reads
-use Rattle.labels.proofs.label_of.Reads as label-of-reads
 
 label-of-requires : tie.Need-label-of-requires
 label-of-requires c κs = search needs

@@ -8,11 +8,6 @@ use Rattle.index.specs.Index.{entries}
 use borrow.Author.Needs.{needs}
 use Rattle.entering.proofs.prefill.Statement.{statement}
 use Rattle.entering.proofs.prefill.Tie as tie
-use Rattle.entering.proofs.prefill.Reads as reads
-use Rattle.entering.proofs.prefill.Lts as lts
-use Rattle.entering.proofs.clear_positions.Reads as clear-positions-reads
-use Rattle.stores.proofs.clear_front.Reads as clear-front-reads
-use Rattle.stores.proofs.clear_marks.Reads as clear-marks-reads
 
 mul-all : tie.Need-mul-all
 mul-all c = search needs

@@ -1,4 +1,4 @@
-use mathlib.Core.Path.{_≡_, ap}
+use mathlib.Core.Path.{ap}
 use Prim.Native.Nat.{_*_, _<_}
 use native.Mathlib.Omega.{arith}
 use lib.ListN.{set}
@@ -6,9 +6,6 @@ use Rattle.index.proofs.Kept.{first-in}
 use borrow.Author.Needs.{needs}
 use Rattle.entering.proofs.put_position.Statement.{statement}
 use Rattle.entering.proofs.put_position.Tie as tie
-use Rattle.entering.proofs.put_position.Reads as reads
-use Rattle.entering.proofs.put_position.Lts as lts
-use Rattle.entering.proofs.entry_of.Reads as entry-of-reads
 
 low : (c : tie.After-entry-of) → c .entry-of .result < 3 * (c .before .before .args .size .maps * c .before .before .args .size .blocks)
 low c = let b = c .before .before in omega (arith, c .entry-of .ensures, first-in (b .args .kind) (b .args .size .maps * b .args .size .blocks) _ (b .pre .0))

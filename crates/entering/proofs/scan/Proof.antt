@@ -1,4 +1,4 @@
-use mathlib.Core.Path.{_≡_, ap, _∙_}
+use mathlib.Core.Path.{ap, _∙_}
 use Prim.Native.Nat.{_-_, _<_}
 use native.Mathlib.Omega.{arith}
 use lib.ListN.{length}
@@ -14,10 +14,6 @@ use Rattle.entering.proofs.ScanLaws.{Going, Sized, going-start, going-s
 use Prim.Native.Nat.{ℕ}
 use Rattle.entering.proofs.scan.Statement.{statement}
 use Rattle.entering.proofs.scan.Tie as tie
-use Rattle.entering.proofs.scan.Reads as reads
-use Rattle.entering.proofs.scan.Lts as lts
-use Rattle.entering.proofs.enter.Reads as enter-reads
-use Rattle.entering.proofs.step_at.Reads as step-at-reads
 
 abbrev Inv-loop : tie.InvT-loop
 Inv-loop text from exponent size positions₀ exponents₀ marks₀ s₀ at₀ due₀ positions exponents marks s at due =

@@ -5,12 +5,6 @@ use Rattle.entering.proofs.ScanLaws.{turned-over, turned-skip, turned-v
 use borrow.Author.Needs.{needs}
 use Rattle.entering.proofs.step_at.Statement.{statement}
 use Rattle.entering.proofs.step_at.Tie as tie
-use Rattle.entering.proofs.step_at.Reads as reads
-use Rattle.entering.proofs.step_at.Lts as lts
-use Rattle.entering.proofs.due_of.Reads as due-of-reads
-use Rattle.entering.proofs.less_16.Reads as less-16-reads
-use Rattle.events.proofs.brought_by.Reads as brought-by-reads
-use Rattle.lines.proofs.line_in.Reads as line-in-reads
 
 sub-line-in : tie.Need-sub-line-in
 sub-line-in c = search needs

@@ -6,10 +6,6 @@ use Rattle.entering.proofs.HeadLaws.{walk-over, walk-skip, walk-row}
 use borrow.Author.Needs.{needs}
 use Rattle.entering.proofs.walk_at.Statement.{statement}
 use Rattle.entering.proofs.walk_at.Tie as tie
-use Rattle.entering.proofs.walk_at.Reads as reads
-use Rattle.entering.proofs.walk_at.Lts as lts
-use Rattle.entering.proofs.past_row.Reads as past-row-reads
-use Rattle.lines.proofs.line_in.Reads as line-in-reads
 
 sub-line-in : tie.Need-sub-line-in
 sub-line-in c = search needs

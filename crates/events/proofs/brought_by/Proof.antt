@@ -3,14 +3,6 @@ use Rattle.events.proofs.RowLaws.{takes-at, takes-none}
 use borrow.Author.Needs.{needs}
 use Rattle.events.proofs.brought_by.Statement.{statement}
 use Rattle.events.proofs.brought_by.Tie as tie
-use Rattle.events.proofs.brought_by.Reads as reads
-use Rattle.events.proofs.brought_by.Lts as lts
-use Rattle.events.proofs.one_block.Reads as one-block-reads
-use Rattle.events.proofs.start_other.Reads as start-other-reads
-use Rattle.events.proofs.start_tec.Reads as start-tec-reads
-use Rattle.events.proofs.with_epoch.Reads as with-epoch-reads
-use Rattle.events.proofs.with_exponent.Reads as with-exponent-reads
-use Rattle.labels.proofs.label_of.Reads as label-of-reads
 
 label-of-requires : tie.Need-label-of-requires
 label-of-requires c κs = search needs

@@ -4,9 +4,6 @@ use mir.Facts.{toZ-ofZ}
 use borrow.Author.Needs.{needs}
 use Rattle.events.proofs.number_in.Statement.{statement}
 use Rattle.events.proofs.number_in.Tie as tie
-use Rattle.events.proofs.number_in.Reads as reads
-use Rattle.events.proofs.number_in.Lts as lts
-use Rattle.events.proofs.whole_in.Reads as whole-in-reads
 
 whole-in-requires : tie.Need-whole-in-requires
 whole-in-requires c κs = search needs

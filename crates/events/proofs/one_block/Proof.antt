@@ -5,8 +5,6 @@ use Rattle.events.proofs.RowLaws.{opened}
 use borrow.Author.Needs.{needs}
 use Rattle.events.proofs.one_block.Statement.{statement}
 use Rattle.events.proofs.one_block.Tie as tie
-use Rattle.events.proofs.one_block.Reads as reads
-use Rattle.events.proofs.one_block.Lts as lts
 
 add-t4 : tie.Need-add-t4
 add-t4 c = search needs

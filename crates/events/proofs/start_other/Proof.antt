@@ -5,9 +5,6 @@ use Rattle.events.proofs.RowLaws.{started}
 use borrow.Author.Needs.{needs}
 use Rattle.events.proofs.start_other.Statement.{statement}
 use Rattle.events.proofs.start_other.Tie as tie
-use Rattle.events.proofs.start_other.Reads as reads
-use Rattle.events.proofs.start_other.Lts as lts
-use Rattle.events.proofs.number_in.Reads as number-in-reads
 
 number-in-requires : tie.Need-number-in-requires
 number-in-requires c κs = search needs

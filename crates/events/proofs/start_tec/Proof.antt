@@ -9,8 +9,6 @@ use Rattle.areas.specs.Scan.{now, goes}
 use borrow.Author.Needs.{needs}
 use Rattle.events.proofs.start_tec.Statement.{statement}
 use Rattle.events.proofs.start_tec.Tie as tie
-use Rattle.events.proofs.start_tec.Reads as reads
-use Rattle.events.proofs.start_tec.Lts as lts
 
 add-t4 : tie.Need-add-t4
 add-t4 c = search needs

@@ -5,9 +5,6 @@ use Rattle.events.proofs.RowLaws.{dated-tec, dated-rms, dated-height}
 use borrow.Author.Needs.{needs}
 use Rattle.events.proofs.with_epoch.Statement.{statement}
 use Rattle.events.proofs.with_epoch.Tie as tie
-use Rattle.events.proofs.with_epoch.Reads as reads
-use Rattle.events.proofs.with_epoch.Lts as lts
-use Rattle.events.proofs.epoch_in.Reads as epoch-in-reads
 
 enum-told : tie.Need-enum-told
 enum-told c = search needs

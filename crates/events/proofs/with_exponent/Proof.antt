@@ -5,9 +5,6 @@ use Rattle.areas.specs.Scan.{now, goes}
 use borrow.Author.Needs.{needs}
 use Rattle.events.proofs.with_exponent.Statement.{statement}
 use Rattle.events.proofs.with_exponent.Tie as tie
-use Rattle.events.proofs.with_exponent.Reads as reads
-use Rattle.events.proofs.with_exponent.Lts as lts
-use Rattle.events.proofs.whole_in.Reads as whole-in-reads
 
 whole-in-requires : tie.Need-whole-in-requires
 whole-in-requires c κs = search needs

@@ -5,7 +5,7 @@ use Prim.Native.Nat.{ℕ, _+_}
 use native.Mathlib.Omega.{arith}
 use lib.Seq.{length-take-le}
 use borrow.Author.Needs.{needs}
-use Rattle.kit.specs.ListLaws.{rest-of}
+use Rattle.kit.proofs.ListLaws.{rest-of}
 use Rattle.forms.specs.Form.{I}
 use Rattle.forms.specs.Read.{readField, isNumber}
 use Rattle.fields.proofs.Point.{pointAt, decimal-short, decimal-judged}

@@ -7,7 +7,7 @@ use lib.ListN.{length}
 use lib.Seq.{length-take-le}
 use mir.Facts.{toZ-ofZ}
 use borrow.Author.Needs.{needs}
-use Rattle.kit.specs.ListLaws.{rest-of}
+use Rattle.kit.proofs.ListLaws.{rest-of}
 use Rattle.forms.specs.Form.{decimal}
 use Rattle.forms.specs.Read.{readField, isNumber}
 use Rattle.forms.specs.declared.Field.the-variants.{Number}

@@ -5,9 +5,9 @@ use mir.Syntax.{w32, w64}
 use mir.Val.{toZ, ofZ, SFits}
 use mir.Facts.{toZ-ofZ}
 use borrow.Author.Needs.{needs}
-use Rattle.kit.specs.Parts.{size-fits}
+use Rattle.kit.proofs.Parts.{size-fits}
 use Rattle.forms.specs.Form.{signed}
-use Rattle.forms.specs.ShowLaws.{signed-size}
+use Rattle.forms.proofs.ShowLaws.{signed-size}
 use Rattle.fields.proofs.signed_of.Statement.{statement}
 use Rattle.fields.proofs.signed_of.Tie as tie
 

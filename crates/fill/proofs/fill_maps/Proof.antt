@@ -9,10 +9,6 @@ use Rattle.fill.proofs.Whole.{ready-cleared, values-there, all-filled}
 use borrow.Author.Needs.{needs}
 use Rattle.fill.proofs.fill_maps.Statement.{statement}
 use Rattle.fill.proofs.fill_maps.Tie as tie
-use Rattle.fill.proofs.fill_maps.Reads as reads
-use Rattle.fill.proofs.fill_maps.Lts as lts
-use Rattle.stores.proofs.prefill.Reads as prefill-reads
-use Rattle.fill.proofs.scan.Reads as scan-reads
 use Rattle.areas.proofs.ListLaws.{fill-length}
 
 prefill-requires : tie.Need-prefill-requires

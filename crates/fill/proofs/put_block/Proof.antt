@@ -3,9 +3,6 @@ use Rattle.fill.proofs.BlockLaws.{block-okay, block-put}
 use borrow.Author.Needs.{needs}
 use Rattle.fill.proofs.put_block.Statement.{statement}
 use Rattle.fill.proofs.put_block.Tie as tie
-use Rattle.fill.proofs.put_block.Reads as reads
-use Rattle.fill.proofs.put_block.Lts as lts
-use Rattle.blocks.proofs.fill_block.Reads as fill-block-reads
 
 add-e : tie.Need-add-e
 add-e c = search needs

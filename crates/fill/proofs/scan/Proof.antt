@@ -13,10 +13,6 @@ use Rattle.mapset.specs.Areas.{six}
 use Rattle.fill.proofs.Going.{Going, going-start, going-sized, going-turned, going-more, going-done, inside-now, weight, lighter}
 use Rattle.fill.proofs.scan.Statement.{statement}
 use Rattle.fill.proofs.scan.Tie as tie
-use Rattle.fill.proofs.scan.Reads as reads
-use Rattle.fill.proofs.scan.Lts as lts
-use Rattle.fill.proofs.step_at.Reads as step-at-reads
-use Rattle.fill.proofs.store.Reads as store-reads
 
 abbrev Inv-loop : tie.InvT-loop
 Inv-loop text from exponent size tec₀ rms₀ height₀ exponents₀ epochs₀ marks₀ s₀ at₀ tec rms height exponents epochs marks s at =

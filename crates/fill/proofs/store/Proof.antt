@@ -8,13 +8,6 @@ use Rattle.fill.proofs.EventLaws.{at-event, of-kind, below-all, values-
 use borrow.Author.Needs.{needs}
 use Rattle.fill.proofs.store.Statement.{statement}
 use Rattle.fill.proofs.store.Tie as tie
-use Rattle.fill.proofs.store.Reads as reads
-use Rattle.fill.proofs.store.Lts as lts
-use Rattle.stores.proofs.block_place.Reads as block-place-reads
-use Rattle.fill.proofs.put_block.Reads as put-block-reads
-use Rattle.stores.proofs.put_epoch.Reads as put-epoch-reads
-use Rattle.stores.proofs.put_exponent.Reads as put-exponent-reads
-use Rattle.stores.proofs.put_mark.Reads as put-mark-reads
 
 exponent-of : (c : tie.After-known-told3) → toZ w32 (ofZ w32 (c .before .event3 .given .0 .1 .1 .1 .0)) ≡ c .before .event3 .given .0 .1 .1 .1 .0
 exponent-of c = search needs

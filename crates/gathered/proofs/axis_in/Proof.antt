@@ -1,6 +1,6 @@
 -- `gathered::axis_in` meets its contract.
 use native.Mathlib.Omega.{arith}
-use Rattle.gathered.specs.GotLaws.{axis-got}
+use Rattle.gathered.proofs.GotLaws.{axis-got}
 use borrow.Author.Needs.{needs}
 use Rattle.gathered.proofs.axis_in.Statement.{statement}
 use Rattle.gathered.proofs.axis_in.Tie as tie

@@ -1,11 +1,8 @@
 use mathlib.Core.Path.{refl, sym, _∙_}
-use Rattle.reading.specs.ScanLaws.{blank-to}
+use Rattle.reading.specs.Fields.{blank-to}
 use borrow.Author.Needs.{needs}
 use Rattle.gathered.proofs.beside_mapping.Statement.{statement}
 use Rattle.gathered.proofs.beside_mapping.Tie as tie
-use Rattle.gathered.proofs.beside_mapping.Reads as reads
-use Rattle.gathered.proofs.beside_mapping.Lts as lts
-use Rattle.fields.proofs.first_not_blank.Reads as first-not-blank-reads
 
 first-not-blank-requires : tie.Need-first-not-blank-requires
 first-not-blank-requires c κs = search needs

@@ -4,11 +4,9 @@ use Prim.Native.Nat.{_-_, _≤_}
 use native.Mathlib.Omega.{arith}
 use borrow.Author.Needs.{needs}
 use borrow.Author.Tests.{not-true, not-false}
-use Rattle.gathered.specs.GotLaws.{complete-from, complete-all, may-miss, got-one, missed, complete-end}
+use Rattle.gathered.proofs.GotLaws.{complete-from, complete-all, may-miss, got-one, missed, complete-end}
 use Rattle.gathered.proofs.complete.Statement.{statement}
 use Rattle.gathered.proofs.complete.Tie as tie
-use Rattle.gathered.proofs.complete.Reads as reads
-use Rattle.gathered.proofs.complete.Lts as lts
 
 abbrev Inv-loop : tie.InvT-loop
 Inv-loop s i₀ i = (i ≤ 22) × (complete-from s i ≡ complete-from s 0)

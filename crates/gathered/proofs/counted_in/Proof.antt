@@ -1,6 +1,6 @@
 -- `gathered::counted_in` meets its contract.
 use native.Mathlib.Omega.{arith}
-use Rattle.gathered.specs.GotLaws.{counted-got}
+use Rattle.gathered.proofs.GotLaws.{counted-got}
 use borrow.Author.Needs.{needs}
 use Rattle.gathered.proofs.counted_in.Statement.{statement}
 use Rattle.gathered.proofs.counted_in.Tie as tie

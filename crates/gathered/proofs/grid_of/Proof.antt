@@ -3,9 +3,6 @@ use Rattle.reading.specs.Head.{made}
 use borrow.Author.Needs.{needs}
 use Rattle.gathered.proofs.grid_of.Statement.{statement}
 use Rattle.gathered.proofs.grid_of.Tie as tie
-use Rattle.gathered.proofs.grid_of.Reads as reads
-use Rattle.gathered.proofs.grid_of.Lts as lts
-use Rattle.gathered.proofs.axis_in.Reads as axis-in-reads
 
 axis-in-requires : tie.Need-axis-in-requires
 axis-in-requires c κs = search needs

@@ -3,13 +3,6 @@ use Rattle.reading.specs.Head.{made}
 use borrow.Author.Needs.{needs}
 use Rattle.gathered.proofs.header_of.Statement.{statement}
 use Rattle.gathered.proofs.header_of.Tie as tie
-use Rattle.gathered.proofs.header_of.Reads as reads
-use Rattle.gathered.proofs.header_of.Lts as lts
-use Rattle.gathered.proofs.counted_in.Reads as counted-in-reads
-use Rattle.gathered.proofs.grid_of.Reads as grid-of-reads
-use Rattle.gathered.proofs.model_of.Reads as model-of-reads
-use Rattle.gathered.proofs.systems_of.Reads as systems-of-reads
-use Rattle.gathered.proofs.times_of.Reads as times-of-reads
 
 times-of-requires : tie.Need-times-of-requires
 times-of-requires c κs = search needs

@@ -4,13 +4,10 @@ use mathlib.Core.Path.{_≡_, sym, ap, _∙_}
 use Rattle.kit.specs.Answer.{ok, bind}
 use Rattle.layout.specs.Layout.{Slots, mode}
 use Rattle.gathered.specs.Got.{kept, went}
-use Rattle.gathered.specs.GotLaws.{value-kept}
+use Rattle.gathered.proofs.GotLaws.{value-kept}
 use borrow.Author.Needs.{needs}
 use Rattle.gathered.proofs.keep.Statement.{statement}
 use Rattle.gathered.proofs.keep.Tie as tie
-use Rattle.gathered.proofs.keep.Reads as reads
-use Rattle.gathered.proofs.keep.Lts as lts
-use Rattle.gathered.proofs.refuse.Reads as refuse-reads
 
 enum-known-h : tie.Need-enum-known-h
 enum-known-h c = search needs

@@ -2,16 +2,11 @@ use mathlib.Core.Path.{sym, ap, _∙_}
 use Rattle.kit.specs.Answer.{ok, bind}
 use Rattle.layout.specs.Layout.{Slots, mode}
 use Rattle.gathered.specs.Got.{kept, went}
-use Rattle.gathered.specs.GotLaws.{mapping-kept}
-use Rattle.records.specs.RecordLaws.{mapping-says}
+use Rattle.gathered.proofs.GotLaws.{mapping-kept}
+use Rattle.records.proofs.RecordLaws.{mapping-says}
 use borrow.Author.Needs.{needs}
 use Rattle.gathered.proofs.keep_mapping.Statement.{statement}
 use Rattle.gathered.proofs.keep_mapping.Tie as tie
-use Rattle.gathered.proofs.keep_mapping.Reads as reads
-use Rattle.gathered.proofs.keep_mapping.Lts as lts
-use Rattle.fields.proofs.text4.Reads as text4-reads
-use Rattle.gathered.proofs.beside_mapping.Reads as beside-mapping-reads
-use Rattle.gathered.proofs.refuse.Reads as refuse-reads
 
 beside-mapping-requires : tie.Need-beside-mapping-requires
 beside-mapping-requires c κs = search needs

@@ -2,14 +2,11 @@ use mathlib.Core.Path.{ap}
 use Rattle.kit.specs.Answer.{ok, bind}
 use Rattle.layout.specs.Layout.{Slots, mode}
 use Rattle.gathered.specs.Got.{kept, went}
-use Rattle.gathered.specs.GotLaws.{observables-kept}
-use Rattle.records.specs.RecordLaws.{observables-says}
+use Rattle.gathered.proofs.GotLaws.{observables-kept}
+use Rattle.records.proofs.RecordLaws.{observables-says}
 use borrow.Author.Needs.{needs}
 use Rattle.gathered.proofs.keep_observables.Statement.{statement}
 use Rattle.gathered.proofs.keep_observables.Tie as tie
-use Rattle.gathered.proofs.keep_observables.Reads as reads
-use Rattle.gathered.proofs.keep_observables.Lts as lts
-use Rattle.fields.proofs.text60.Reads as text60-reads
 
 text60-requires : tie.Need-text60-requires
 text60-requires c κs = search needs

@@ -2,14 +2,11 @@ use mathlib.Core.Path.{ap}
 use Rattle.kit.specs.Answer.{ok, bind}
 use Rattle.layout.specs.Layout.{Slots, mode}
 use Rattle.gathered.specs.Got.{kept, went}
-use Rattle.gathered.specs.GotLaws.{program-kept}
-use Rattle.records.specs.RecordLaws.{program-says}
+use Rattle.gathered.proofs.GotLaws.{program-kept}
+use Rattle.records.proofs.RecordLaws.{program-says}
 use borrow.Author.Needs.{needs}
 use Rattle.gathered.proofs.keep_program.Statement.{statement}
 use Rattle.gathered.proofs.keep_program.Tie as tie
-use Rattle.gathered.proofs.keep_program.Reads as reads
-use Rattle.gathered.proofs.keep_program.Lts as lts
-use Rattle.fields.proofs.text20.Reads as text20-reads
 
 text20-requires : tie.Need-text20-requires
 text20-requires c κs = search needs

@@ -3,9 +3,6 @@ use Rattle.reading.specs.Head.{made}
 use borrow.Author.Needs.{needs}
 use Rattle.gathered.proofs.model_of.Statement.{statement}
 use Rattle.gathered.proofs.model_of.Tie as tie
-use Rattle.gathered.proofs.model_of.Reads as reads
-use Rattle.gathered.proofs.model_of.Lts as lts
-use Rattle.gathered.proofs.number_in.Reads as number-in-reads
 
 number-in-requires : tie.Need-number-in-requires
 number-in-requires c κs = search needs

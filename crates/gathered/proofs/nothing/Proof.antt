@@ -2,8 +2,6 @@ use mathlib.Core.Path.{refl}
 use Rattle.gathered.specs.Got.{slots-of, slot}
 use Rattle.gathered.proofs.nothing.Statement.{statement}
 use Rattle.gathered.proofs.nothing.Tie as tie
-use Rattle.gathered.proofs.nothing.Reads as reads
-use Rattle.gathered.proofs.nothing.Lts as lts
 
 returns : tie.Need-returns
 unfolding slots-of slot

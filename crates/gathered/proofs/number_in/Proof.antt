@@ -1,6 +1,6 @@
 -- `gathered::number_in` meets its contract.
 use native.Mathlib.Omega.{arith}
-use Rattle.gathered.specs.GotLaws.{number-got}
+use Rattle.gathered.proofs.GotLaws.{number-got}
 use borrow.Author.Needs.{needs}
 use Rattle.gathered.proofs.number_in.Statement.{statement}
 use Rattle.gathered.proofs.number_in.Tie as tie

@@ -1,6 +1,6 @@
 -- `gathered::second_in` meets its contract.
 use native.Mathlib.Omega.{arith}
-use Rattle.gathered.specs.GotLaws.{second-got}
+use Rattle.gathered.proofs.GotLaws.{second-got}
 use borrow.Author.Needs.{needs}
 use Rattle.gathered.proofs.second_in.Statement.{statement}
 use Rattle.gathered.proofs.second_in.Tie as tie

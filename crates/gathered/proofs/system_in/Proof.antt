@@ -1,6 +1,6 @@
 -- `gathered::system_in` meets its contract.
 use native.Mathlib.Omega.{arith}
-use Rattle.gathered.specs.GotLaws.{system-got}
+use Rattle.gathered.proofs.GotLaws.{system-got}
 use borrow.Author.Needs.{needs}
 use Rattle.gathered.proofs.system_in.Statement.{statement}
 use Rattle.gathered.proofs.system_in.Tie as tie

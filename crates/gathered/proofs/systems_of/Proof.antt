@@ -3,9 +3,6 @@ use Rattle.reading.specs.Head.{made}
 use borrow.Author.Needs.{needs}
 use Rattle.gathered.proofs.systems_of.Statement.{statement}
 use Rattle.gathered.proofs.systems_of.Tie as tie
-use Rattle.gathered.proofs.systems_of.Reads as reads
-use Rattle.gathered.proofs.systems_of.Lts as lts
-use Rattle.gathered.proofs.system_in.Reads as system-in-reads
 
 system-in-requires : tie.Need-system-in-requires
 system-in-requires c κs = search needs

@@ -3,10 +3,6 @@ use Rattle.reading.specs.Head.{made}
 use borrow.Author.Needs.{needs}
 use Rattle.gathered.proofs.times_of.Statement.{statement}
 use Rattle.gathered.proofs.times_of.Tie as tie
-use Rattle.gathered.proofs.times_of.Reads as reads
-use Rattle.gathered.proofs.times_of.Lts as lts
-use Rattle.gathered.proofs.number_in.Reads as number-in-reads
-use Rattle.gathered.proofs.second_in.Reads as second-in-reads
 
 second-in-requires : tie.Need-second-in-requires
 second-in-requires c κs = search needs

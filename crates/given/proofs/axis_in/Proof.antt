@@ -9,9 +9,6 @@ use Rattle.given.specs.Given.{axis-number}
 use borrow.Author.Needs.{needs}
 use Rattle.given.proofs.axis_in.Statement.{statement}
 use Rattle.given.proofs.axis_in.Tie as tie
-use Rattle.given.proofs.axis_in.Reads as reads
-use Rattle.given.proofs.axis_in.Lts as lts
-use Rattle.given.proofs.on_axis.Reads as on-axis-reads
 
 mul-on-axis : tie.Need-mul-on-axis
 mul-on-axis c = search needs

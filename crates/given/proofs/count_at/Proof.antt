@@ -9,9 +9,6 @@ use Rattle.given.proofs.GivenLaws.{bounded-le}
 use borrow.Author.Needs.{needs}
 use Rattle.given.proofs.count_at.Statement.{statement}
 use Rattle.given.proofs.count_at.Tie as tie
-use Rattle.given.proofs.count_at.Reads as reads
-use Rattle.given.proofs.count_at.Lts as lts
-use Rattle.given.proofs.held.Reads as held-reads
 
 mul-held : tie.Need-mul-held
 mul-held c = search needs

@@ -2,9 +2,6 @@ use mathlib.Core.Path.{refl}
 use borrow.Author.Needs.{needs}
 use Rattle.given.proofs.grid_in.Statement.{statement}
 use Rattle.given.proofs.grid_in.Tie as tie
-use Rattle.given.proofs.grid_in.Reads as reads
-use Rattle.given.proofs.grid_in.Lts as lts
-use Rattle.given.proofs.axis_in.Reads as axis-in-reads
 
 axis-in-requires : tie.Need-axis-in-requires
 axis-in-requires c κs = search needs

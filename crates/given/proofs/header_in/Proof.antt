@@ -2,14 +2,6 @@ use Rattle.given.specs.Given.{header-of}
 use borrow.Author.Needs.{needs}
 use Rattle.given.proofs.header_in.Statement.{statement}
 use Rattle.given.proofs.header_in.Tie as tie
-use Rattle.given.proofs.header_in.Reads as reads
-use Rattle.given.proofs.header_in.Lts as lts
-use Rattle.given.proofs.counted_in.Reads as counted-in-reads
-use Rattle.given.proofs.grid_in.Reads as grid-in-reads
-use Rattle.given.proofs.model_in.Reads as model-in-reads
-use Rattle.given.proofs.systems_in.Reads as systems-in-reads
-use Rattle.given.proofs.times_in.Reads as times-in-reads
-use Rattle.given.proofs.version_in.Reads as version-in-reads
 
 version-in-requires : tie.Need-version-in-requires
 version-in-requires c κs = search needs

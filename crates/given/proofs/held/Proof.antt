@@ -4,14 +4,11 @@ use lib.IntN.{pos}
 use lib.Signed.{ltZ}
 use mir.Syntax.{w64}
 use mir.Facts.{toZ-ofZ}
-use Rattle.kit.specs.Parts.{not-below-zero, nonneg-parts, size-of-fits}
+use Rattle.kit.proofs.Parts.{not-below-zero, nonneg-parts, size-of-fits}
 use Rattle.given.proofs.GivenLaws.{bounded-below, bounded-above, bounded-within}
 use borrow.Author.Needs.{needs}
 use Rattle.given.proofs.held.Statement.{statement}
 use Rattle.given.proofs.held.Tie as tie
-use Rattle.given.proofs.held.Reads as reads
-use Rattle.given.proofs.held.Lts as lts
-use Rattle.kit.proofs.negative.Reads as negative-reads
 
 negative-requires : tie.Need-negative-requires
 negative-requires c κs = search needs

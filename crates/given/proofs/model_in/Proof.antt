@@ -2,9 +2,6 @@ use mathlib.Core.Path.{refl}
 use borrow.Author.Needs.{needs}
 use Rattle.given.proofs.model_in.Statement.{statement}
 use Rattle.given.proofs.model_in.Tie as tie
-use Rattle.given.proofs.model_in.Reads as reads
-use Rattle.given.proofs.model_in.Lts as lts
-use Rattle.given.proofs.count_at.Reads as count-at-reads
 
 count-at-requires : tie.Need-count-at-requires
 count-at-requires c κs = search needs

@@ -6,8 +6,6 @@ use Rattle.given.proofs.GivenLaws.{axis-below, axis-above, axis-within,
 use borrow.Author.Needs.{needs}
 use Rattle.given.proofs.on_axis.Statement.{statement}
 use Rattle.given.proofs.on_axis.Tie as tie
-use Rattle.given.proofs.on_axis.Reads as reads
-use Rattle.given.proofs.on_axis.Lts as lts
 
 below : (c : tie.After-less) → ltZ (c .before .args .x) (negsuc 2147483646) ≡ c .less .result
 below c = sym (rw (toZ-ofZ (c .before .fits .x)) at (c .less .ensures))

@@ -7,9 +7,6 @@ use Rattle.given.specs.Given.{bounded}
 use borrow.Author.Needs.{needs}
 use Rattle.given.proofs.second_at.Statement.{statement}
 use Rattle.given.proofs.second_at.Tie as tie
-use Rattle.given.proofs.second_at.Reads as reads
-use Rattle.given.proofs.second_at.Lts as lts
-use Rattle.given.proofs.held.Reads as held-reads
 
 mul-held : tie.Need-mul-held
 mul-held c = search needs

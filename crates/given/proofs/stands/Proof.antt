@@ -5,8 +5,6 @@ use mir.Facts.{toZ-ofZ}
 use borrow.Author.Needs.{needs}
 use Rattle.given.proofs.stands.Statement.{statement}
 use Rattle.given.proofs.stands.Tie as tie
-use Rattle.given.proofs.stands.Reads as reads
-use Rattle.given.proofs.stands.Lts as lts
 
 below : (c : tie.After-less) → ltZ (c .before .args .x) (pos 0) ≡ c .less .result
 below c = sym (rw (toZ-ofZ (c .before .fits .x)) at (c .less .ensures))

@@ -7,10 +7,6 @@ use Rattle.given.specs.Given.{stands-of}
 use borrow.Author.Needs.{needs}
 use Rattle.given.proofs.system_in.Statement.{statement}
 use Rattle.given.proofs.system_in.Tie as tie
-use Rattle.given.proofs.system_in.Reads as reads
-use Rattle.given.proofs.system_in.Lts as lts
-use Rattle.given.proofs.count_at.Reads as count-at-reads
-use Rattle.given.proofs.stands.Reads as stands-reads
 
 mul-stands : tie.Need-mul-stands
 mul-stands c = search needs

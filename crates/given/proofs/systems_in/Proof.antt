@@ -2,9 +2,6 @@ use mathlib.Core.Path.{refl}
 use borrow.Author.Needs.{needs}
 use Rattle.given.proofs.systems_in.Statement.{statement}
 use Rattle.given.proofs.systems_in.Tie as tie
-use Rattle.given.proofs.systems_in.Reads as reads
-use Rattle.given.proofs.systems_in.Lts as lts
-use Rattle.given.proofs.system_in.Reads as system-in-reads
 
 system-in-requires : tie.Need-system-in-requires
 system-in-requires c κs = search needs

@@ -7,11 +7,6 @@ use Rattle.given.specs.Given.{texts-of}
 use borrow.Author.Needs.{needs}
 use Rattle.given.proofs.texts_in.Statement.{statement}
 use Rattle.given.proofs.texts_in.Tie as tie
-use Rattle.given.proofs.texts_in.Reads as reads
-use Rattle.given.proofs.texts_in.Lts as lts
-use Rattle.fields.proofs.text20.Reads as text20-reads
-use Rattle.fields.proofs.text4.Reads as text4-reads
-use Rattle.fields.proofs.text60.Reads as text60-reads
 
 text20-requires : tie.Need-text20-requires
 text20-requires c κs = search needs

@@ -2,10 +2,6 @@ use mathlib.Core.Path.{refl}
 use borrow.Author.Needs.{needs}
 use Rattle.given.proofs.times_in.Statement.{statement}
 use Rattle.given.proofs.times_in.Tie as tie
-use Rattle.given.proofs.times_in.Reads as reads
-use Rattle.given.proofs.times_in.Lts as lts
-use Rattle.given.proofs.count_at.Reads as count-at-reads
-use Rattle.given.proofs.second_at.Reads as second-at-reads
 
 second-at-requires : tie.Need-second-at-requires
 second-at-requires c κs = search needs

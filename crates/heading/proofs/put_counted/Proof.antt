@@ -1,6 +1,6 @@
 -- `heading::put_counted` meets its contract.
 use borrow.Author.Needs.{needs}
-use Rattle.rows.specs.PutLaws.{put-none}
+use Rattle.rows.proofs.PutLaws.{put-none}
 use Rattle.heading.proofs.put_counted.Statement.{statement}
 use Rattle.heading.proofs.put_counted.Tie as tie
 

@@ -1,8 +1,8 @@
 -- `heading::put_first` meets its contract.
 use native.Mathlib.Omega.{arith}
 use borrow.Author.Needs.{needs}
-use Rattle.mapset.specs.SoundLaws.{takes-known}
-use Rattle.rows.specs.PutLaws.{room-first, room-next, put-next}
+use Rattle.mapset.specs.SoundDecided.{takes-known}
+use Rattle.rows.proofs.PutLaws.{room-first, room-next, put-next}
 use Rattle.heading.specs.Header.{first-rows}
 use Rattle.heading.proofs.put_first.Statement.{statement}
 use Rattle.heading.proofs.put_first.Tie as tie

@@ -1,7 +1,7 @@
 -- `heading::put_header` meets its contract.
 use mathlib.Core.List.{_++_}
 use borrow.Author.Needs.{needs}
-use Rattle.rows.specs.PutLaws.{room-front, room-behind, put-then}
+use Rattle.rows.proofs.PutLaws.{room-front, room-behind, put-then}
 use Rattle.heading.specs.Header.{first-rows, middle-rows, systems-rows, last-rows}
 use Rattle.heading.proofs.Laws.{header-rows}
 use Rattle.heading.proofs.put_header.Statement.{statement}

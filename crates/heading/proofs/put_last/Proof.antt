@@ -3,7 +3,7 @@ use native.Mathlib.Omega.{arith}
 use borrow.Author.Needs.{needs}
 use Rattle.layout.specs.Names.{names}
 use Rattle.writer.specs.Canon.{columns-of}
-use Rattle.rows.specs.PutLaws.{room-first, room-next, put-next}
+use Rattle.rows.proofs.PutLaws.{room-first, room-next, put-next}
 use Rattle.rowtext.specs.Rows.{row-at}
 use Rattle.heading.specs.Header.{last-rows}
 use Rattle.heading.proofs.put_last.Statement.{statement}

@@ -1,7 +1,7 @@
 -- `heading::put_middle` meets its contract.
 use native.Mathlib.Omega.{arith}
 use borrow.Author.Needs.{needs}
-use Rattle.rows.specs.PutLaws.{room-first, room-next, room-front, room-behind, put-next, put-then}
+use Rattle.rows.proofs.PutLaws.{room-first, room-next, room-front, room-behind, put-next, put-then}
 use Rattle.heading.specs.Header.{counted-rows, middle-rows}
 use Rattle.heading.proofs.Laws.{count-small}
 use Rattle.heading.proofs.put_middle.Statement.{statement}

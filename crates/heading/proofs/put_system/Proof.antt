@@ -1,6 +1,6 @@
 -- `heading::put_system` meets its contract.
 use borrow.Author.Needs.{needs}
-use Rattle.rows.specs.PutLaws.{put-none}
+use Rattle.rows.proofs.PutLaws.{put-none}
 use Rattle.heading.proofs.put_system.Statement.{statement}
 use Rattle.heading.proofs.put_system.Tie as tie
 

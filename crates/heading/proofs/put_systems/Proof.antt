@@ -5,7 +5,7 @@ use Prim.Native.Nat.{ℕ}
 use native.Mathlib.Omega.{arith}
 use borrow.Author.Needs.{needs}
 use Rattle.mapset.specs.declared.Systems.{Systems}
-use Rattle.rows.specs.PutLaws.{room-front, room-behind, put-then}
+use Rattle.rows.proofs.PutLaws.{room-front, room-behind, put-then}
 use Rattle.heading.specs.Header.{system-rows, systems-rows}
 use Rattle.heading.proofs.Laws.{count-small}
 use Rattle.heading.proofs.put_systems.Statement.{statement}

@@ -2,7 +2,7 @@
 use mathlib.Core.Path.{_∙_}
 use native.Mathlib.Decide.{ℕ-discrete}
 use Rattle.kit.specs.Answer.{×-dec}
-use Rattle.kit.specs.Truth.{both, eq-tells}
+use Rattle.kit.proofs.TruthLaws.{both, eq-tells}
 use Rattle.join.specs.Join.{grid?, alike?}
 use Rattle.headjoin.proofs.Told.{by-parts}
 use borrow.Author.Needs.{needs}

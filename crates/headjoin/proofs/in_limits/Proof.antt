@@ -2,7 +2,8 @@
 use mathlib.Core.Path.{_≡_, refl, _∙_}
 use Prim.Native.Nat.{_+_, _-_}
 use native.Mathlib.Decide.{decLe}
-use Rattle.kit.specs.Truth.{truth, both, le-tells}
+use Rattle.kit.specs.Truth.{truth}
+use Rattle.kit.proofs.TruthLaws.{both, le-tells}
 use Rattle.mapset.specs.Decisions.{limits?}
 use Rattle.join.specs.Join.{in-limits?}
 use Rattle.headjoin.proofs.Told.{limits-told}

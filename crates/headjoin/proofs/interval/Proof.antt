@@ -1,7 +1,7 @@
 -- `headjoin::interval` meets its contract.
 use mathlib.Core.Path.{sym}
 use native.Mathlib.Decide.{ℕ-discrete}
-use Rattle.kit.specs.Answer.{pick-yes, pick-no}
+use Rattle.kit.proofs.AnswerLaws.{pick-yes, pick-no}
 use Rattle.headjoin.proofs.interval.Statement.{statement}
 use Rattle.headjoin.proofs.interval.Tie as tie
 

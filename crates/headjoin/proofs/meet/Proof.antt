@@ -1,5 +1,5 @@
 -- `headjoin::meet` meets its contract.
-use Rattle.kit.specs.Truth.{eq-tells}
+use Rattle.kit.proofs.TruthLaws.{eq-tells}
 use Rattle.join.specs.Join.{meet?}
 use Rattle.headjoin.proofs.meet.Statement.{statement}
 use Rattle.headjoin.proofs.meet.Tie as tie

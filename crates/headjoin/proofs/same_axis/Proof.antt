@@ -4,7 +4,7 @@ use mir.Syntax.{w32}
 use mir.Val.{toZ, ofZ}
 use Rattle.kit.specs.Answer.{×-dec}
 use Rattle.kit.specs.Integer.{int?}
-use Rattle.kit.specs.Truth.{truth, both}
+use Rattle.kit.proofs.TruthLaws.{both}
 use Rattle.join.specs.Join.{axis?}
 use Rattle.headjoin.proofs.Told.{by-parts}
 use borrow.Author.Needs.{needs}

@@ -1,7 +1,7 @@
 -- `headjoin::same_grid` meets its contract.
 use mathlib.Core.Path.{_∙_}
 use Rattle.kit.specs.Answer.{×-dec}
-use Rattle.kit.specs.Truth.{both}
+use Rattle.kit.proofs.TruthLaws.{both}
 use Rattle.join.specs.Join.{axis?, grid?}
 use Rattle.headjoin.proofs.Told.{by-parts}
 use borrow.Author.Needs.{needs}

@@ -1,14 +1,9 @@
 use mathlib.Core.Path.{sym, _∙_}
-use Rattle.headlines.specs.StepLaws.{end-is}
+use Rattle.headlines.proofs.StepLaws.{end-is}
 use borrow.Author.Needs.{needs}
 use Rattle.headlines.proofs.at_end.Statement.{statement}
 use Rattle.headlines.proofs.at_end.Tie as tie
-use Rattle.headlines.proofs.at_end.Reads as reads
-use Rattle.headlines.proofs.at_end.Lts as lts
-use Rattle.fields.proofs.first_not_blank.Reads as first-not-blank-reads
-use Rattle.gathered.proofs.refuse.Reads as refuse-reads
-use Rattle.headlines.proofs.ended.Reads as ended-reads
-use Rattle.reading.specs.ScanLaws.{blank-to}
+use Rattle.reading.specs.Fields.{blank-to}
 
 first-not-blank-requires : tie.Need-first-not-blank-requires
 first-not-blank-requires c κs = search needs

@@ -1,15 +1,16 @@
 use mathlib.Core.Path.{_≡_, sym, ap, _∙_}
-use Rattle.kit.specs.Answer.{ok, bind, need-yes, need-no}
-use Rattle.kit.specs.Truth.{truth, truth-true, truth-false}
+use Rattle.kit.specs.Answer.{ok, bind}
+use Rattle.kit.proofs.AnswerLaws.{need-yes, need-no}
+use Rattle.kit.specs.Truth.{truth}
+use Rattle.kit.proofs.TruthLaws.{truth-true, truth-false}
 use mir.Syntax.{w32}
 use mir.Val.{toZ, ofZ, SFits}
 use mir.Facts.{toZ-ofZ}
 use lib.IntN.{ℤ, pos, negsuc}
-use Rattle.layout.specs.Layout.{Slots, aux, mode}
+use Rattle.layout.specs.Layout.{Slots, aux, mode, exponent?}
 use Rattle.gathered.specs.Got.{slots-of, went}
-use Rattle.headlines.specs.StepLaws.{same-slots}
+use Rattle.headlines.proofs.StepLaws.{same-slots}
 use Rattle.kit.specs.Integer.{between?}
-use Rattle.reading.specs.Maps.{exponent?}
 use borrow.Author.Needs.{needs}
 use Rattle.headlines.proofs.at_exponent.Statement.{statement}
 use Rattle.headlines.proofs.at_exponent.Tie as tie

@@ -7,20 +7,12 @@ use Rattle.mapset.specs.Header.{program, mapping, observables}
 use Rattle.layout.specs.Labels.{content}
 use Rattle.gathered.specs.Got.{kept}
 use Rattle.records.specs.Tables.{kind-of}
-use Rattle.headlines.specs.StepLaws.{is-fresh, is-repeated, fresh-at}
-use Rattle.records.specs.TableLaws.{plain-contents, table-at, kind-below, content-is, numbers}
-use Rattle.gathered.specs.GotLaws.{program-place, mapping-place, observables-place}
+use Rattle.headlines.proofs.StepLaws.{is-fresh, is-repeated, fresh-at}
+use Rattle.records.proofs.TableLaws.{plain-contents, table-at, kind-below, content-is, numbers}
+use Rattle.gathered.proofs.GotLaws.{program-place, mapping-place, observables-place}
 use borrow.Author.Needs.{needs}
 use Rattle.headlines.proofs.at_place.Statement.{statement}
 use Rattle.headlines.proofs.at_place.Tie as tie
-use Rattle.headlines.proofs.at_place.Reads as reads
-use Rattle.headlines.proofs.at_place.Lts as lts
-use Rattle.gathered.proofs.keep.Reads as keep-reads
-use Rattle.gathered.proofs.keep_mapping.Reads as keep-mapping-reads
-use Rattle.gathered.proofs.keep_observables.Reads as keep-observables-reads
-use Rattle.gathered.proofs.keep_program.Reads as keep-program-reads
-use Rattle.gathered.proofs.refuse.Reads as refuse-reads
-use Rattle.records.proofs.content.hear.Reads as hear-reads
 
 small : (c : tie.Then2) → kind-of (content (c .before .before .before .before .args .i)) ≤ 5
 small c = rw (table-at kind-of (c .before .before .before .before .args .i) 0 (omega arith)) at (c .if2 .taken)

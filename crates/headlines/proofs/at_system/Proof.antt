@@ -6,22 +6,14 @@ use mathlib.Core.Path.{subst}
 use borrow.Author.Tests.{le-ltb, lt-ltb}
 use Rattle.mapset.specs.Header.{Content, system}
 use Rattle.layout.specs.Labels.{content}
-use Rattle.reading.specs.SlotLaws.{system-content}
-use Rattle.records.specs.Records.{toldHeard}
+use Rattle.reading.proofs.SlotLaws.{system-content}
+use Rattle.records.specs.Records.{toldHeard, entry}
 use Rattle.gathered.specs.Got.{kept}
 use Rattle.records.specs.Tables.{Numbers}
-use Rattle.records.specs.Records.{entry}
-use Rattle.headlines.specs.StepLaws.{letter-is, is-fresh, is-repeated}
+use Rattle.headlines.proofs.StepLaws.{letter-is, is-fresh, is-repeated}
 use borrow.Author.Needs.{needs}
 use Rattle.headlines.proofs.at_system.Statement.{statement}
 use Rattle.headlines.proofs.at_system.Tie as tie
-use Rattle.headlines.proofs.at_system.Reads as reads
-use Rattle.headlines.proofs.at_system.Lts as lts
-use Rattle.gathered.proofs.keep.Reads as keep-reads
-use Rattle.gathered.proofs.refuse.Reads as refuse-reads
-use Rattle.records.proofs.content.hear_system.Reads as hear-system-reads
-use Rattle.headlines.proofs.no_system.Reads as no-system-reads
-use Rattle.fields.proofs.byte_at.Reads as byte-at-reads
 use Rattle.labels.specs.Letters.{if-below}
 use Rattle.headlines.specs.Step.{by-letter, system-at}
 

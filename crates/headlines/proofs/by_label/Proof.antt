@@ -3,21 +3,13 @@ use Rattle.kit.specs.Answer.{ok}
 use native.Mathlib.Omega.{arith}
 use mathlib.Core.Bool.{Bool, true}
 use borrow.Author.Tests.{ne-eqb}
-use Rattle.records.specs.TableLaws.{place-below}
+use Rattle.records.proofs.TableLaws.{place-below}
 use Rattle.layout.specs.Layout.{Slots, aux, mode}
 use Rattle.gathered.specs.Got.{slots-of, went}
-use Rattle.headlines.specs.StepLaws.{same-slots}
+use Rattle.headlines.proofs.StepLaws.{same-slots}
 use borrow.Author.Needs.{needs}
 use Rattle.headlines.proofs.by_label.Statement.{statement}
 use Rattle.headlines.proofs.by_label.Tie as tie
-use Rattle.headlines.proofs.by_label.Reads as reads
-use Rattle.headlines.proofs.by_label.Lts as lts
-use Rattle.gathered.proofs.refuse.Reads as refuse-reads
-use Rattle.headlines.proofs.at_end.Reads as at-end-reads
-use Rattle.headlines.proofs.at_exponent.Reads as at-exponent-reads
-use Rattle.headlines.proofs.at_place.Reads as at-place-reads
-use Rattle.headlines.proofs.at_system.Reads as at-system-reads
-use Rattle.headlines.proofs.more.Reads as more-reads
 use Rattle.headlines.specs.Step.{acted}
 
 array-read-action : tie.Need-array-read-action

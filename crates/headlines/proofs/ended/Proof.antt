@@ -1,17 +1,10 @@
 use mathlib.Core.Path.{sym, _∙_}
-use Rattle.kit.specs.Truth.{truth-true, truth-false}
+use Rattle.kit.proofs.TruthLaws.{truth-true, truth-false}
 use borrow.Author.Tests.{not-true, not-false}
-use Rattle.headlines.specs.StepLaws.{lacking, disagreeing, too-large, all-well}
+use Rattle.headlines.proofs.StepLaws.{lacking, disagreeing, too-large, all-well}
 use borrow.Author.Needs.{needs}
 use Rattle.headlines.proofs.ended.Statement.{statement}
 use Rattle.headlines.proofs.ended.Tie as tie
-use Rattle.headlines.proofs.ended.Reads as reads
-use Rattle.headlines.proofs.ended.Lts as lts
-use Rattle.gathered.proofs.complete.Reads as complete-reads
-use Rattle.gathered.proofs.header_of.Reads as header-of-reads
-use Rattle.gathered.proofs.refuse.Reads as refuse-reads
-use Rattle.mapset.proofs.axes.dimension_agrees.Reads as dimension-agrees-reads
-use Rattle.mapset.proofs.axes.limits_hold.Reads as limits-hold-reads
 
 complete-requires : tie.Need-complete-requires
 complete-requires c κs = search needs

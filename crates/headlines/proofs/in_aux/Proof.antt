@@ -4,13 +4,10 @@ use mathlib.Core.Bool.{false}
 use borrow.Author.Tests.{eq-eqb, ne-eqb}
 use Rattle.layout.specs.Layout.{Slots, plain}
 use Rattle.gathered.specs.Got.{went}
-use Rattle.headlines.specs.StepLaws.{same-slots}
+use Rattle.headlines.proofs.StepLaws.{same-slots}
 use borrow.Author.Needs.{needs}
 use Rattle.headlines.proofs.in_aux.Statement.{statement}
 use Rattle.headlines.proofs.in_aux.Tie as tie
-use Rattle.headlines.proofs.in_aux.Reads as reads
-use Rattle.headlines.proofs.in_aux.Lts as lts
-use Rattle.headlines.proofs.more.Reads as more-reads
 
 more-requires : tie.Need-more-requires
 more-requires c κs = search needs

@@ -3,10 +3,6 @@ use Rattle.kit.specs.Answer.{bind}
 use borrow.Author.Needs.{needs}
 use Rattle.headlines.proofs.no_system.Statement.{statement}
 use Rattle.headlines.proofs.no_system.Tie as tie
-use Rattle.headlines.proofs.no_system.Reads as reads
-use Rattle.headlines.proofs.no_system.Lts as lts
-use Rattle.gathered.proofs.refuse.Reads as refuse-reads
-use Rattle.records.proofs.content.system_record.Reads as system-record-reads
 use Rattle.headlines.specs.Step.{system-at}
 
 system-record-requires : tie.Need-system-record-requires

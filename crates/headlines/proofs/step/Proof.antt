@@ -1,15 +1,9 @@
 use mathlib.Core.Path.{sym, _∙_}
 use native.Mathlib.Omega.{arith}
-use Rattle.headlines.specs.StepLaws.{aux-is, unknown-is, known-is}
+use Rattle.headlines.proofs.StepLaws.{aux-is, unknown-is, known-is}
 use borrow.Author.Needs.{needs}
 use Rattle.headlines.proofs.step.Statement.{statement}
 use Rattle.headlines.proofs.step.Tie as tie
-use Rattle.headlines.proofs.step.Reads as reads
-use Rattle.headlines.proofs.step.Lts as lts
-use Rattle.gathered.proofs.refuse.Reads as refuse-reads
-use Rattle.headlines.proofs.by_label.Reads as by-label-reads
-use Rattle.headlines.proofs.in_aux.Reads as in-aux-reads
-use Rattle.labels.proofs.label_of.Reads as label-of-reads
 
 label-of-requires : tie.Need-label-of-requires
 label-of-requires c κs = search needs

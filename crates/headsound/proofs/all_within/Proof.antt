@@ -5,7 +5,8 @@ use Prim.Native.Nat.{_≤_, _-_}
 use lib.ListN.{length, drop}
 use Rattle.kit.specs.Answer.{all-dec}
 use Rattle.kit.specs.Range.{within?}
-use Rattle.kit.specs.Truth.{truth, all-next, all-stop, all-end}
+use Rattle.kit.specs.Truth.{truth}
+use Rattle.kit.proofs.TruthLaws.{all-next, all-stop, all-end}
 use Rattle.headsound.proofs.all_within.Statement.{statement}
 use Rattle.headsound.proofs.all_within.Tie as tie
 

@@ -4,7 +4,7 @@ use mathlib.Core.Path.{_≡_, sym, _∙_}
 use Prim.Native.Nat.{ℕ}
 use native.Mathlib.Omega.{arith}
 use Rattle.mapset.specs.Judged.{line}
-use Rattle.mapset.specs.SoundLaws.{unfit, fit}
+use Rattle.mapset.proofs.SoundLaws.{unfit, fit}
 use Rattle.headsound.proofs.axis_fits.Statement.{statement}
 use Rattle.headsound.proofs.axis_fits.Tie as tie
 

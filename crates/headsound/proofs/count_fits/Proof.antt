@@ -1,6 +1,6 @@
 -- `headsound::count_fits` meets its contract.
 use borrow.Author.Needs.{needs}
-use Rattle.kit.specs.Truth.{eq-tells}
+use Rattle.kit.proofs.TruthLaws.{eq-tells}
 use Rattle.mapset.specs.Sound.{count?}
 use Rattle.headsound.proofs.count_fits.Statement.{statement}
 use Rattle.headsound.proofs.count_fits.Tie as tie

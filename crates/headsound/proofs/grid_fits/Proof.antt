@@ -1,7 +1,7 @@
 -- `headsound::grid_fits` meets its contract.
 use borrow.Author.Needs.{needs}
 use Rattle.kit.specs.Answer.{×-dec}
-use Rattle.kit.specs.Truth.{both}
+use Rattle.kit.proofs.TruthLaws.{both}
 use Rattle.mapset.specs.Grid.{heights, latitudes, longitudes}
 use Rattle.mapset.specs.Sound.{axis?, grid?}
 use Rattle.headsound.proofs.grid_fits.Statement.{statement}

@@ -1,6 +1,6 @@
 -- `headsound::header_fits` meets its contract.
 use borrow.Author.Needs.{needs}
-use Rattle.kit.specs.Truth.{both}
+use Rattle.kit.proofs.TruthLaws.{both}
 use Rattle.mapset.specs.Decisions.{dimension?, limits?}
 use Rattle.mapset.specs.Sound.{version?, texts?, times?, model?, grid?, count?, systems?, header?}
 use Rattle.headsound.proofs.header_fits.Statement.{statement}

@@ -2,7 +2,7 @@
 use borrow.Author.Needs.{needs}
 use Rattle.kit.specs.Answer.{×-dec}
 use Rattle.kit.specs.Range.{within?}
-use Rattle.kit.specs.Truth.{both}
+use Rattle.kit.proofs.TruthLaws.{both}
 use Rattle.mapset.specs.Sound.{model?}
 use Rattle.headsound.proofs.model_fits.Statement.{statement}
 use Rattle.headsound.proofs.model_fits.Tie as tie

@@ -1,6 +1,6 @@
 -- `headsound::system_fits` meets its contract.
 use borrow.Author.Needs.{needs}
-use Rattle.kit.specs.Truth.{both}
+use Rattle.kit.proofs.TruthLaws.{both}
 use Rattle.mapset.specs.Sound.{count?, system?}
 use Rattle.headsound.proofs.system_fits.Statement.{statement}
 use Rattle.headsound.proofs.system_fits.Tie as tie

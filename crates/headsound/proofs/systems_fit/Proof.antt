@@ -1,7 +1,7 @@
 -- `headsound::systems_fit` meets its contract.
 use borrow.Author.Needs.{needs}
 use Rattle.kit.specs.Answer.{×-dec}
-use Rattle.kit.specs.Truth.{both}
+use Rattle.kit.proofs.TruthLaws.{both}
 use Rattle.mapset.specs.Sound.{system?, systems?}
 use Rattle.headsound.proofs.systems_fit.Statement.{statement}
 use Rattle.headsound.proofs.systems_fit.Tie as tie

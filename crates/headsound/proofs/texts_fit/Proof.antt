@@ -1,9 +1,9 @@
 -- `headsound::texts_fit` meets its contract.
 use borrow.Author.Needs.{needs}
 use Rattle.kit.specs.Answer.{×-dec}
-use Rattle.kit.specs.Truth.{both}
+use Rattle.kit.proofs.TruthLaws.{both}
 use Rattle.mapset.specs.Sound.{texts?, written?}
-use Rattle.mapset.specs.SoundLaws.{written}
+use Rattle.mapset.proofs.SoundLaws.{written}
 use Rattle.headsound.proofs.texts_fit.Statement.{statement}
 use Rattle.headsound.proofs.texts_fit.Tie as tie
 

@@ -3,7 +3,7 @@ use borrow.Author.Needs.{needs}
 use native.Mathlib.Decide.{decLt}
 use Rattle.kit.specs.Answer.{×-dec}
 use Rattle.kit.specs.Range.{within?}
-use Rattle.kit.specs.Truth.{both, lt-tells}
+use Rattle.kit.proofs.TruthLaws.{both, lt-tells}
 use Rattle.calendar.specs.Calendar.{end}
 use Rattle.mapset.specs.Sound.{times?}
 use Rattle.headsound.proofs.times_fit.Statement.{statement}

@@ -3,7 +3,7 @@ use borrow.Author.Needs.{needs}
 use native.Mathlib.Decide.{ℕ-discrete}
 use Rattle.kit.specs.Answer.{×-dec}
 use Rattle.kit.specs.Range.{within?}
-use Rattle.kit.specs.Truth.{both, eq-tells}
+use Rattle.kit.proofs.TruthLaws.{both, eq-tells}
 use Rattle.mapset.specs.Decisions.{takes-code?}
 use Rattle.mapset.specs.Sound.{version?}
 use Rattle.headsound.proofs.version_fits.Statement.{statement}

@@ -1,6 +1,6 @@
 -- `headsound::within` meets its contract.
 use Rattle.kit.specs.Range.{within?}
-use Rattle.kit.specs.Truth.{both, le-tells}
+use Rattle.kit.proofs.TruthLaws.{both, le-tells}
 use native.Mathlib.Decide.{decLe}
 use Rattle.headsound.proofs.within.Statement.{statement}
 use Rattle.headsound.proofs.within.Tie as tie

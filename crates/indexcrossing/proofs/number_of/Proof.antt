@@ -3,8 +3,6 @@ use mathlib.Core.Path.{refl}
 use borrow.Author.Needs.{needs}
 use Rattle.indexcrossing.proofs.number_of.Statement.{statement}
 use Rattle.indexcrossing.proofs.number_of.Tie as tie
-use Rattle.indexcrossing.proofs.number_of.Reads as reads
-use Rattle.indexcrossing.proofs.number_of.Lts as lts
 
 enum-told : tie.Need-enum-told
 enum-told c = search needs

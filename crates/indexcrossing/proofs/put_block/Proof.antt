@@ -4,9 +4,6 @@ use Rattle.indexcrossing.specs.Crossed.{Ordered}
 use borrow.Author.Needs.{needs}
 use Rattle.indexcrossing.proofs.put_block.Statement.{statement}
 use Rattle.indexcrossing.proofs.put_block.Tie as tie
-use Rattle.indexcrossing.proofs.put_block.Reads as reads
-use Rattle.indexcrossing.proofs.put_block.Lts as lts
-use Rattle.indexcrossing.proofs.number_of.Reads as number-of-reads
 
 enum-known-reply : tie.Need-enum-known-reply
 enum-known-reply c = search needs

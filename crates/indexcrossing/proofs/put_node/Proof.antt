@@ -6,10 +6,6 @@ use Rattle.kit.specs.Lists.{front}
 use borrow.Author.Needs.{needs}
 use Rattle.indexcrossing.proofs.put_node.Statement.{statement}
 use Rattle.indexcrossing.proofs.put_node.Tie as tie
-use Rattle.indexcrossing.proofs.put_node.Reads as reads
-use Rattle.indexcrossing.proofs.put_node.Lts as lts
-use Rattle.indexcrossing.proofs.number_of.Reads as number-of-reads
-use Rattle.indexcrossing.proofs.put_two.Reads as put-two-reads
 
 enum-known-reply : tie.Need-enum-known-reply
 enum-known-reply c = search needs

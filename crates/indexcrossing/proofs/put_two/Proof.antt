@@ -4,8 +4,6 @@ use Rattle.numbers.proofs.SetLaws.{sets-front}
 use borrow.Author.Needs.{needs}
 use Rattle.indexcrossing.proofs.put_two.Statement.{statement}
 use Rattle.indexcrossing.proofs.put_two.Tie as tie
-use Rattle.indexcrossing.proofs.put_two.Reads as reads
-use Rattle.indexcrossing.proofs.put_two.Lts as lts
 
 slice-set-from-first : tie.Need-slice-set-from-first
 slice-set-from-first c = search needs

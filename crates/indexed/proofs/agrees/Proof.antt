@@ -13,11 +13,6 @@ use Rattle.indexed.proofs.OpenLaws.{row-wrong, line-wrong, height-wrong
 use borrow.Author.Needs.{needs}
 use Rattle.indexed.proofs.agrees.Statement.{statement}
 use Rattle.indexed.proofs.agrees.Tie as tie
-use Rattle.indexed.proofs.agrees.Reads as reads
-use Rattle.indexed.proofs.agrees.Lts as lts
-use Rattle.agreement.proofs.grid.differs.Reads as differs-reads
-use Rattle.agreement.proofs.grid.height_agrees.Reads as height-agrees-reads
-use Rattle.agreement.proofs.grid.row_agrees.Reads as row-agrees-reads
 
 row-is : (c : tie.After-row-agrees) → let a = c .before .before .args in
     c .row-agrees .result ≡ truth (int? (a .latitude) (node (a .header .grid .latitudes) ((per-map (a .header) - (c .before .per-map .result - a .d)) % rows (a .header .grid))))

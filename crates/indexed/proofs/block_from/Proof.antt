@@ -5,12 +5,6 @@ use Rattle.indexed.proofs.OpenLaws.{from-behind, from-over, from-bad, f
 use borrow.Author.Needs.{needs}
 use Rattle.indexed.proofs.block_from.Statement.{statement}
 use Rattle.indexed.proofs.block_from.Tie as tie
-use Rattle.indexed.proofs.block_from.Reads as reads
-use Rattle.indexed.proofs.block_from.Lts as lts
-use Rattle.indexed.proofs.opens.Reads as opens-reads
-use Rattle.indexed.proofs.values_from.Reads as values-from-reads
-use Rattle.lines.proofs.line_in.Reads as line-in-reads
-use Rattle.mapset.proofs.axes.nodes.Reads as nodes-reads
 
 returns : tie.Need-returns
 returns c =

@@ -2,9 +2,6 @@ use Rattle.indexed.proofs.OpenLaws.{opening-tells}
 use borrow.Author.Needs.{needs}
 use Rattle.indexed.proofs.is_opening.Statement.{statement}
 use Rattle.indexed.proofs.is_opening.Tie as tie
-use Rattle.indexed.proofs.is_opening.Reads as reads
-use Rattle.indexed.proofs.is_opening.Lts as lts
-use Rattle.labels.proofs.label_of.Reads as label-of-reads
 
 label-of-requires : tie.Need-label-of-requires
 label-of-requires c κs = search needs

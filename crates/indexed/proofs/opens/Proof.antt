@@ -7,11 +7,6 @@ use Rattle.indexed.proofs.OpenLaws.{unnamed, ill-formed, judged}
 use borrow.Author.Needs.{needs}
 use Rattle.indexed.proofs.opens.Statement.{statement}
 use Rattle.indexed.proofs.opens.Tie as tie
-use Rattle.indexed.proofs.opens.Reads as reads
-use Rattle.indexed.proofs.opens.Lts as lts
-use Rattle.indexed.proofs.agrees.Reads as agrees-reads
-use Rattle.indexed.proofs.is_opening.Reads as is-opening-reads
-use Rattle.maprecords.proofs.opening_in.Reads as opening-in-reads
 
 is-opening-requires : tie.Need-is-opening-requires
 is-opening-requires c κs = search needs

@@ -3,8 +3,6 @@ use Rattle.indexed.proofs.HitLaws.{spot-before, spot-behind, spot-here}
 use borrow.Author.Needs.{needs}
 use Rattle.indexed.proofs.spot_of.Statement.{statement}
 use Rattle.indexed.proofs.spot_of.Tie as tie
-use Rattle.indexed.proofs.spot_of.Reads as reads
-use Rattle.indexed.proofs.spot_of.Lts as lts
 
 returns : tie.Need-returns
 returns c = spot-before _ _ _ _ (omega arith)

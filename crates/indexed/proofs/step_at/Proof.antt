@@ -4,11 +4,6 @@ use Rattle.indexed.proofs.HitLaws.{at-over, at-bad, at-skip, at-wrong, 
 use borrow.Author.Needs.{needs}
 use Rattle.indexed.proofs.step_at.Statement.{statement}
 use Rattle.indexed.proofs.step_at.Tie as tie
-use Rattle.indexed.proofs.step_at.Reads as reads
-use Rattle.indexed.proofs.step_at.Lts as lts
-use Rattle.indexed.proofs.on_row.Reads as on-row-reads
-use Rattle.lines.proofs.line_in.Reads as line-in-reads
-use Rattle.values.proofs.row_at.Reads as row-at-reads
 
 sub-line-in : tie.Need-sub-line-in
 sub-line-in c = search needs

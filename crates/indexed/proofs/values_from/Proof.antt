@@ -6,10 +6,6 @@ use borrow.Author.Needs.{needs}
 use Rattle.indexed.proofs.HitLaws.{Going, going-none, going-nothing, going-skip, going-row, going-done, stepped}
 use Rattle.indexed.proofs.values_from.Statement.{statement}
 use Rattle.indexed.proofs.values_from.Tie as tie
-use Rattle.indexed.proofs.values_from.Reads as reads
-use Rattle.indexed.proofs.values_from.Lts as lts
-use Rattle.indexed.proofs.spot_of.Reads as spot-of-reads
-use Rattle.indexed.proofs.step_at.Reads as step-at-reads
 
 abbrev Inv-loop : tie.InvT-loop
 Inv-loop text from count column ends at₀ left₀ spot₀ at left spot = Going text from count column at left spot

@@ -1,24 +1,13 @@
-use mathlib.Core.Path.{_≡_, subst}
-use mathlib.Core.List.{List}
-use Prim.Native.Nat.{ℕ}
+use mathlib.Core.Path.{_≡_}
 use mir.Syntax.{w32}
 use mir.Val.{toZ, ofZ}
-use Rattle.mapset.specs.declared.Texts.{Texts}
 use Rattle.mapset.specs.Areas.{six}
-use Rattle.judging.specs.Scanned.{Judges}
-use Rattle.judging.specs.declared.Judged.{Judged}
 use Rattle.judging.proofs.JudgeLaws.{one-to-ten}
 use Rattle.input.proofs.StoreLaws.{outcome-refused}
 use borrow.Author.Needs.{needs}
 use Rattle.input.proofs.read_text.Statement.{statement}
 use Rattle.input.proofs.read_text.Tie as tie
-use Rattle.input.proofs.read_text.Reads as reads
-use Rattle.input.proofs.read_text.Lts as lts
-use Rattle.judging.proofs.judge.Reads as judge-reads
 use Rattle.judging.proofs.NeedLaws.{judged}
-use Rattle.outcome.proofs.reason_of.Reads as reason-of-reads
-use Rattle.outcome.proofs.refused.Reads as refused-reads
-use Rattle.input.proofs.store.Reads as store-reads
 
 exponent-of : (c : tie.After-known-told2) → toZ w32 (ofZ w32 (c .before .answer2 .given .0 .1 .0)) ≡ c .before .answer2 .given .0 .1 .0
 exponent-of c = search needs

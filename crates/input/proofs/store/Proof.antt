@@ -7,13 +7,6 @@ use Rattle.input.proofs.StoreLaws.{short-by, readable-by, enough-by, st
 use borrow.Author.Needs.{needs}
 use Rattle.input.proofs.store.Statement.{statement}
 use Rattle.input.proofs.store.Tie as tie
-use Rattle.input.proofs.store.Reads as reads
-use Rattle.input.proofs.store.Lts as lts
-use Rattle.fill.proofs.fill_maps.Reads as fill-maps-reads
-use Rattle.needs.proofs.needed.Reads as needed-reads
-use Rattle.needs.proofs.room_for.Reads as room-for-reads
-use Rattle.needs.proofs.size_of.Reads as size-of-reads
-use Rattle.outcome.proofs.refused.Reads as refused-reads
 
 size-of-requires : tie.Need-size-of-requires
 size-of-requires c κs = let s = c .before .before .before in limits (s .args .text .now) (s .args .texts) (s .args .header) (s .args .exponent) (s .args .at) (s .args .some) (s .pre)

@@ -1,11 +1,11 @@
 -- `joining::judged` meets its contract.
 use mathlib.Core.Path.{sym, _∙_}
 use borrow.Author.Tests.{not-true, not-false}
-use Rattle.kit.specs.Truth.{truth-true, truth-false}
+use Rattle.kit.proofs.TruthLaws.{truth-true, truth-false}
 use Rattle.mapset.specs.Areas.{six}
-use Rattle.join.specs.Join.{count, Alike, Meet, InLimits}
+use Rattle.join.specs.Join.{Alike, Meet}
 use Rattle.join.specs.Into.{Lent, lent-of, IsValid}
-use Rattle.join.specs.IntoExactly.{may-lent, not-valid, not-alike, not-met, too-many, lent-once}
+use Rattle.join.proofs.IntoExactly.{may-lent, not-valid, not-alike, not-met, too-many, lent-once}
 use Rattle.joining.proofs.StoreLaws.{maps-of}
 use borrow.Author.Needs.{needs}
 use Rattle.joining.proofs.judged.Statement.{statement}

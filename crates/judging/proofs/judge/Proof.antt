@@ -6,10 +6,6 @@ use Rattle.judging.proofs.JudgeLaws.{maps-start, refused-head, refused-
 use borrow.Author.Needs.{needs}
 use Rattle.judging.proofs.judge.Statement.{statement}
 use Rattle.judging.proofs.judge.Tie as tie
-use Rattle.judging.proofs.judge.Reads as reads
-use Rattle.judging.proofs.judge.Lts as lts
-use Rattle.head.proofs.opening.read_header.Reads as read-header-reads
-use Rattle.maps.proofs.judge_maps.Reads as judge-maps-reads
 
 exponent-of : (c : tie.After-known-told2) → toZ w32 (ofZ w32 (c .before .answer2 .given .0 .1 .0)) ≡ c .before .answer2 .given .0 .1 .0
 exponent-of c = search needs

@@ -8,11 +8,10 @@ use lib.IntN.{ℤ, pos, natAbs, _-ℤ_}
 use mir.Syntax.{w64}
 use mir.Val.{toZ, ofZ, SFits}
 use mir.Facts.{toZ-ofZ}
-use Rattle.kit.specs.Parts.{up, dn, sub-parts2, abs-parts, fits-parts, one-zero, lt-true, lt-false, nonneg-parts}
+use Rattle.kit.specs.Integer.{up, dn}
+use Rattle.kit.proofs.Parts.{sub-parts2, abs-parts, fits-parts, one-zero, lt-true, lt-false, nonneg-parts}
 use Rattle.kit.proofs.magnitude.Statement.{statement}
 use Rattle.kit.proofs.magnitude.Tie as tie
-use Rattle.kit.proofs.magnitude.Reads as reads
-use Rattle.kit.proofs.magnitude.Lts as lts
 
 -- -x, where x is negative
 minus : (x : ℤ) → up x < dn x → (dn (pos 0 -ℤ x) ≡ 0) × (up (pos 0 -ℤ x) ≡ natAbs x)

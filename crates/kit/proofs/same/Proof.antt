@@ -1,6 +1,6 @@
 -- `kit::same` meets its contract.
 use mir.Syntax.{w32}
-use Rattle.kit.specs.IntegerLaws.{same-bits}
+use Rattle.kit.proofs.IntegerLaws.{same-bits}
 use Rattle.kit.proofs.same.Statement.{statement}
 use Rattle.kit.proofs.same.Tie as tie
 

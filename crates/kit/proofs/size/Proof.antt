@@ -4,7 +4,7 @@ use native.Mathlib.Omega.{arith}
 use lib.IntN.{natAbs}
 use mir.Syntax.{w32}
 use mir.Facts.{toZ-ofZ, sfits-widen}
-use Rattle.kit.specs.Parts.{size-of-fits}
+use Rattle.kit.proofs.Parts.{size-of-fits}
 use Rattle.kit.proofs.Signed.{widened}
 use Rattle.kit.proofs.size.Statement.{statement}
 use Rattle.kit.proofs.size.Tie as tie

@@ -6,11 +6,9 @@ use lib.IntN.{pos, negℤ, _-ℤ_, +ℤ-idl}
 use mir.Syntax.{w64}
 use mir.Val.{toZ, SFits}
 use mir.Facts.{toZ-ofZ, toZ-pos}
-use Rattle.kit.specs.Parts.{fits-parts, neg-up, neg-dn}
+use Rattle.kit.proofs.Parts.{fits-parts, neg-up, neg-dn}
 use Rattle.kit.proofs.with_sign.Statement.{statement}
 use Rattle.kit.proofs.with_sign.Tie as tie
-use Rattle.kit.proofs.with_sign.Reads as reads
-use Rattle.kit.proofs.with_sign.Lts as lts
 
 cast-result : tie.Need-cast-result
 cast-result c = search needs

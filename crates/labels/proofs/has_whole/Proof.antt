@@ -7,8 +7,6 @@ use Rattle.layout.specs.Names.{holds}
 use Rattle.labels.proofs.Laws.{whole-next, whole-end}
 use Rattle.labels.proofs.has_whole.Statement.{statement}
 use Rattle.labels.proofs.has_whole.Tie as tie
-use Rattle.labels.proofs.has_whole.Reads as reads
-use Rattle.labels.proofs.has_whole.Lts as lts
 
 abbrev Inv-loop : tie.InvT-loop
 Inv-loop line label ok₀ j₀ ok j = (j ≤ 20) × (holds line 60 label ≡ (ok && holds line (60 + j) (drop j label)))

@@ -5,10 +5,6 @@ use Rattle.labels.proofs.Laws.{opens-block}
 use borrow.Author.Needs.{needs}
 use Rattle.labels.proofs.label_of.Statement.{statement}
 use Rattle.labels.proofs.label_of.Tie as tie
-use Rattle.labels.proofs.label_of.Reads as reads
-use Rattle.labels.proofs.label_of.Lts as lts
-use Rattle.labels.proofs.has_whole.Reads as has-whole-reads
-use Rattle.labels.proofs.search.Reads as search-reads
 
 search-requires : tie.Need-search-requires
 search-requires c κs = search needs

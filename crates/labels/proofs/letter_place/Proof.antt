@@ -1,6 +1,7 @@
 -- `labels::letter_place` meets its contract.
 use mathlib.Core.Path.{refl}
-use Rattle.kit.specs.Answer.{pick, pick-no}
+use Rattle.kit.specs.Answer.{pick}
+use Rattle.kit.proofs.AnswerLaws.{pick-no}
 use native.Mathlib.Decide.{ℕ-discrete}
 use Rattle.reading.specs.Head.{place}
 use Rattle.labels.proofs.letter_place.Statement.{statement}

@@ -3,8 +3,6 @@ use native.Mathlib.Omega.{arith}
 use Rattle.lines.proofs.QuickLines.{So, so-next, so-end}
 use Rattle.lines.proofs.all_printable.Statement.{statement}
 use Rattle.lines.proofs.all_printable.Tie as tie
-use Rattle.lines.proofs.all_printable.Reads as reads
-use Rattle.lines.proofs.all_printable.Lts as lts
 
 abbrev Inv-loop : tie.InvT-loop
 Inv-loop b ok₀ i₀ ok i = (i ≤ 16) × So ok i b

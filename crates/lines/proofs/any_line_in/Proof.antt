@@ -5,10 +5,6 @@ use Rattle.lines.proofs.Firsts.{stand-over, stand-bad, stand-skip, stan
 use borrow.Author.Needs.{needs}
 use Rattle.lines.proofs.any_line_in.Statement.{statement}
 use Rattle.lines.proofs.any_line_in.Tie as tie
-use Rattle.lines.proofs.any_line_in.Reads as reads
-use Rattle.lines.proofs.any_line_in.Lts as lts
-use Rattle.lines.proofs.look_at.Reads as look-at-reads
-use Rattle.lines.proofs.span_in.Reads as span-in-reads
 
 returns : tie.Need-returns
 returns c =

@@ -6,8 +6,6 @@ use Rattle.lines.specs.Lines.{passing, not-lf?}
 use Rattle.lines.proofs.Passing.{passing-step, passing-stop, passing-end}
 use Rattle.lines.proofs.before_lf.Statement.{statement}
 use Rattle.lines.proofs.before_lf.Tie as tie
-use Rattle.lines.proofs.before_lf.Reads as reads
-use Rattle.lines.proofs.before_lf.Lts as lts
 
 abbrev Inv-loop : tie.InvT-loop
 Inv-loop t i₀ i = (i ≤ length t) × (passing not-lf? t ≡ i + passing not-lf? (drop i t))

@@ -6,8 +6,6 @@ use Rattle.lines.specs.Lines.{passing, blank?}
 use Rattle.lines.proofs.Passing.{passing-step, passing-stop, passing-end}
 use Rattle.lines.proofs.blanks_in.Statement.{statement}
 use Rattle.lines.proofs.blanks_in.Tie as tie
-use Rattle.lines.proofs.blanks_in.Reads as reads
-use Rattle.lines.proofs.blanks_in.Lts as lts
 
 abbrev Inv-loop : tie.InvT-loop
 Inv-loop t i₀ i = (i ≤ length t) × (passing blank? t ≡ i + passing blank? (drop i t))

@@ -5,11 +5,6 @@ use Rattle.lines.proofs.QuickLines.{quick-row, quick-skip}
 use borrow.Author.Needs.{needs}
 use Rattle.lines.proofs.line_in.Statement.{statement}
 use Rattle.lines.proofs.line_in.Tie as tie
-use Rattle.lines.proofs.line_in.Reads as reads
-use Rattle.lines.proofs.line_in.Lts as lts
-use Rattle.lines.proofs.any_line_in.Reads as any-line-in-reads
-use Rattle.lines.proofs.blanks_in.Reads as blanks-in-reads
-use Rattle.lines.proofs.run_in.Reads as run-in-reads
 
 run-in-requires : tie.Need-run-in-requires
 run-in-requires c κs = search needs

@@ -3,10 +3,6 @@ use Rattle.lines.proofs.Firsts.{look-long, look-odd, look-full, look-bl
 use borrow.Author.Needs.{needs}
 use Rattle.lines.proofs.look_at.Statement.{statement}
 use Rattle.lines.proofs.look_at.Tie as tie
-use Rattle.lines.proofs.look_at.Reads as reads
-use Rattle.lines.proofs.look_at.Lts as lts
-use Rattle.lines.proofs.blanks_in.Reads as blanks-in-reads
-use Rattle.lines.proofs.printable_in.Reads as printable-in-reads
 
 returns : tie.Need-returns
 returns c =

@@ -3,10 +3,6 @@ use Rattle.lines.proofs.QuickLines.{ahead-le, ahead-run}
 use borrow.Author.Needs.{needs}
 use Rattle.lines.proofs.run_in.Statement.{statement}
 use Rattle.lines.proofs.run_in.Tie as tie
-use Rattle.lines.proofs.run_in.Reads as reads
-use Rattle.lines.proofs.run_in.Lts as lts
-use Rattle.lines.proofs.printable_in.Reads as printable-in-reads
-use Rattle.lines.proofs.sixteens_in.Reads as sixteens-in-reads
 
 sixteens-in-requires : tie.Need-sixteens-in-requires
 sixteens-in-requires c κs = search needs

@@ -7,9 +7,6 @@ use Rattle.lines.specs.Quick.{Ahead}
 use Rattle.lines.proofs.QuickLines.{ahead-none, ahead-more}
 use Rattle.lines.proofs.sixteens_in.Statement.{statement}
 use Rattle.lines.proofs.sixteens_in.Tie as tie
-use Rattle.lines.proofs.sixteens_in.Reads as reads
-use Rattle.lines.proofs.sixteens_in.Lts as lts
-use Rattle.lines.proofs.all_printable.Reads as all-printable-reads
 
 abbrev Inv-loop : tie.InvT-loop
 Inv-loop text i₀ i = Ahead text i

@@ -3,9 +3,6 @@ use Rattle.lines.proofs.Firsts.{spans-last, spans-empty, spans-cr, span
 use borrow.Author.Needs.{needs}
 use Rattle.lines.proofs.span_in.Statement.{statement}
 use Rattle.lines.proofs.span_in.Tie as tie
-use Rattle.lines.proofs.span_in.Reads as reads
-use Rattle.lines.proofs.span_in.Lts as lts
-use Rattle.lines.proofs.before_lf.Reads as before-lf-reads
 
 before-lf-requires : tie.Need-before-lf-requires
 before-lf-requires c κs = search needs

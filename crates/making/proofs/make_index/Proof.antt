@@ -1,22 +1,10 @@
-use mathlib.Core.Path.{_≡_, subst}
-use mathlib.Core.List.{List}
-use Prim.Native.Nat.{ℕ}
-use Rattle.mapset.specs.declared.Texts.{Texts}
-use Rattle.judging.specs.Scanned.{Judges}
-use Rattle.judging.specs.declared.Judged.{Judged}
 use Rattle.judging.proofs.JudgeLaws.{one-to-ten}
 use Rattle.index.specs.Index.{entries}
 use Rattle.making.proofs.MakeLaws.{made-refused}
 use borrow.Author.Needs.{needs}
 use Rattle.making.proofs.make_index.Statement.{statement}
 use Rattle.making.proofs.make_index.Tie as tie
-use Rattle.making.proofs.make_index.Reads as reads
-use Rattle.making.proofs.make_index.Lts as lts
-use Rattle.judging.proofs.judge.Reads as judge-reads
 use Rattle.judging.proofs.NeedLaws.{judged}
-use Rattle.making.proofs.store.Reads as store-reads
-use Rattle.outcome.proofs.reason_of.Reads as reason-of-reads
-use Rattle.outcome.proofs.refused.Reads as refused-reads
 
 judge-requires : tie.Need-judge-requires
 judge-requires c κs = search needs

@@ -1,13 +1,11 @@
 use mathlib.Core.Path.{sym, _∙_}
 use native.Mathlib.Omega.{arith}
 use native.Mathlib.Decide.{decLe}
-use Rattle.kit.specs.Answer.{pick-yes, pick-no}
+use Rattle.kit.proofs.AnswerLaws.{pick-yes, pick-no}
 use Rattle.needs.specs.Needs.{first-short}
 use borrow.Author.Needs.{needs}
 use Rattle.making.proofs.room_for.Statement.{statement}
 use Rattle.making.proofs.room_for.Tie as tie
-use Rattle.making.proofs.room_for.Reads as reads
-use Rattle.making.proofs.room_for.Lts as lts
 
 mul-all : tie.Need-mul-all
 mul-all c = search needs

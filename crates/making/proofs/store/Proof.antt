@@ -5,12 +5,6 @@ use Rattle.making.proofs.MakeLaws.{limits, few-by, short-by, steady-by,
 use borrow.Author.Needs.{needs}
 use Rattle.making.proofs.store.Statement.{statement}
 use Rattle.making.proofs.store.Tie as tie
-use Rattle.making.proofs.store.Reads as reads
-use Rattle.making.proofs.store.Lts as lts
-use Rattle.entering.proofs.enter_all.Reads as enter-all-reads
-use Rattle.making.proofs.room_for.Reads as room-for-reads
-use Rattle.needs.proofs.size_of.Reads as size-of-reads
-use Rattle.outcome.proofs.refused.Reads as refused-reads
 
 size-of-requires : tie.Need-size-of-requires
 size-of-requires c κs = let s = c .before .before .before in limits (s .args .text .now) (s .args .header) (s .args .texts) (s .pre)

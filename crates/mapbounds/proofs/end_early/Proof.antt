@@ -7,10 +7,6 @@ use Rattle.mapbounds.proofs.StepLaws.{stops, early-kind, early-bad, ear
 use borrow.Author.Needs.{needs}
 use Rattle.mapbounds.proofs.end_early.Statement.{statement}
 use Rattle.mapbounds.proofs.end_early.Tie as tie
-use Rattle.mapbounds.proofs.end_early.Reads as reads
-use Rattle.mapbounds.proofs.end_early.Lts as lts
-use Rattle.maprecords.proofs.one_number.Reads as one-number-reads
-use Rattle.mapbounds.proofs.same_kind.Reads as same-kind-reads
 
 same-kind-requires : tie.Need-same-kind-requires
 same-kind-requires c κs = search needs

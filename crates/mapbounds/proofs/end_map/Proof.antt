@@ -11,12 +11,6 @@ use Rattle.mapbounds.proofs.StepLaws.{stops, stills, end-kind, end-bad,
 use borrow.Author.Needs.{needs}
 use Rattle.mapbounds.proofs.end_map.Statement.{statement}
 use Rattle.mapbounds.proofs.end_map.Tie as tie
-use Rattle.mapbounds.proofs.end_map.Reads as reads
-use Rattle.mapbounds.proofs.end_map.Lts as lts
-use Rattle.agreement.proofs.grid.counts.Reads as counts-reads
-use Rattle.maprecords.proofs.one_number.Reads as one-number-reads
-use Rattle.mapbounds.proofs.same_kind.Reads as same-kind-reads
-use Rattle.mapbounds.proofs.still.Reads as still-reads
 
 same-kind-requires : tie.Need-same-kind-requires
 same-kind-requires c κs = search needs

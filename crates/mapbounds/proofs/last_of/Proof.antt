@@ -1,8 +1,6 @@
 use borrow.Author.Needs.{needs}
 use Rattle.mapbounds.proofs.last_of.Statement.{statement}
 use Rattle.mapbounds.proofs.last_of.Tie as tie
-use Rattle.mapbounds.proofs.last_of.Reads as reads
-use Rattle.mapbounds.proofs.last_of.Lts as lts
 
 enum-told : tie.Need-enum-told
 enum-told c = search needs

@@ -3,10 +3,6 @@ use Rattle.mapbounds.proofs.StepLaws.{stops, stills, comment-ended, com
 use borrow.Author.Needs.{needs}
 use Rattle.mapbounds.proofs.on_comment.Statement.{statement}
 use Rattle.mapbounds.proofs.on_comment.Tie as tie
-use Rattle.mapbounds.proofs.on_comment.Reads as reads
-use Rattle.mapbounds.proofs.on_comment.Lts as lts
-use Rattle.mapbounds.proofs.has_ended.Reads as has-ended-reads
-use Rattle.mapbounds.proofs.still.Reads as still-reads
 
 has-ended-requires : tie.Need-has-ended-requires
 has-ended-requires c κs = search needs

@@ -6,10 +6,6 @@ use Rattle.mapbounds.specs.Steps.{force-of, moved}
 use borrow.Author.Needs.{needs}
 use Rattle.mapbounds.proofs.on_end.Statement.{statement}
 use Rattle.mapbounds.proofs.on_end.Tie as tie
-use Rattle.mapbounds.proofs.on_end.Reads as reads
-use Rattle.mapbounds.proofs.on_end.Lts as lts
-use Rattle.mapbounds.proofs.end_early.Reads as end-early-reads
-use Rattle.mapbounds.proofs.end_map.Reads as end-map-reads
 
 enum-told : tie.Need-enum-told
 enum-told c = search needs

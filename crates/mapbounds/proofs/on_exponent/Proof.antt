@@ -3,18 +3,13 @@ use mir.Syntax.{w32}
 use mir.Val.{toZ, ofZ}
 use borrow.Author.Tests.{not-true, not-false}
 use Rattle.layout.specs.Text.{pad}
-use Rattle.reading.specs.Maps.{exponent?}
+use Rattle.layout.specs.Layout.{exponent?}
 use Rattle.mapbounds.specs.Steps.{force-of}
 use Rattle.maprecords.specs.Records.{told-one}
 use Rattle.mapbounds.proofs.StepLaws.{stops, stills, exponent-ended, exponent-bad, exponent-range, exponent-fine}
 use borrow.Author.Needs.{needs}
 use Rattle.mapbounds.proofs.on_exponent.Statement.{statement}
 use Rattle.mapbounds.proofs.on_exponent.Tie as tie
-use Rattle.mapbounds.proofs.on_exponent.Reads as reads
-use Rattle.mapbounds.proofs.on_exponent.Lts as lts
-use Rattle.maprecords.proofs.one_number.Reads as one-number-reads
-use Rattle.mapbounds.proofs.has_ended.Reads as has-ended-reads
-use Rattle.mapbounds.proofs.still.Reads as still-reads
 
 has-ended-requires : tie.Need-has-ended-requires
 has-ended-requires c κs = search needs

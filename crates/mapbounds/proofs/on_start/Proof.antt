@@ -6,9 +6,6 @@ use Rattle.mapbounds.specs.Steps.{force-of, moved}
 use borrow.Author.Needs.{needs}
 use Rattle.mapbounds.proofs.on_start.Statement.{statement}
 use Rattle.mapbounds.proofs.on_start.Tie as tie
-use Rattle.mapbounds.proofs.on_start.Reads as reads
-use Rattle.mapbounds.proofs.on_start.Lts as lts
-use Rattle.mapbounds.proofs.start_map.Reads as start-map-reads
 
 enum-told : tie.Need-enum-told
 enum-told c = search needs

@@ -5,8 +5,6 @@ use Rattle.reading.specs.Maps.{kind?}
 use borrow.Author.Needs.{needs}
 use Rattle.mapbounds.proofs.same_kind.Statement.{statement}
 use Rattle.mapbounds.proofs.same_kind.Tie as tie
-use Rattle.mapbounds.proofs.same_kind.Reads as reads
-use Rattle.mapbounds.proofs.same_kind.Lts as lts
 
 enum-told : tie.Need-enum-told
 enum-told c = search needs

@@ -6,10 +6,6 @@ use Rattle.mapbounds.specs.Steps.{force-of, moved}
 use borrow.Author.Needs.{needs}
 use Rattle.mapbounds.proofs.start_map.Statement.{statement}
 use Rattle.mapbounds.proofs.start_map.Tie as tie
-use Rattle.mapbounds.proofs.start_map.Reads as reads
-use Rattle.mapbounds.proofs.start_map.Lts as lts
-use Rattle.mapbounds.proofs.start_other.Reads as start-other-reads
-use Rattle.mapbounds.proofs.start_tec.Reads as start-tec-reads
 
 enum-told : tie.Need-enum-told
 enum-told c = search needs

@@ -2,7 +2,7 @@ use mathlib.Core.Path.{_≡_, sym, ap, _∙_}
 use native.Mathlib.Omega.{arith}
 use mir.Syntax.{w32}
 use mir.Val.{toZ, ofZ}
-use Rattle.kit.specs.Parts.{up}
+use Rattle.kit.specs.Integer.{up}
 use Rattle.layout.specs.Text.{pad}
 use Rattle.mapbounds.specs.Steps.{force-of}
 use Rattle.maprecords.specs.Records.{told-one}
@@ -10,13 +10,6 @@ use Rattle.mapbounds.proofs.StepLaws.{stops, stills, other-bad, other-l
 use borrow.Author.Needs.{needs}
 use Rattle.mapbounds.proofs.start_other.Statement.{statement}
 use Rattle.mapbounds.proofs.start_other.Tie as tie
-use Rattle.mapbounds.proofs.start_other.Reads as reads
-use Rattle.mapbounds.proofs.start_other.Lts as lts
-use Rattle.agreement.proofs.grid.natural.Reads as natural-reads
-use Rattle.maprecords.proofs.one_number.Reads as one-number-reads
-use Rattle.mapbounds.proofs.last_of.Reads as last-of-reads
-use Rattle.mapbounds.proofs.still.Reads as still-reads
-use Rattle.mapbounds.proofs.with_last.Reads as with-last-reads
 
 up-is : (c : tie.After-natural) → c .natural .result ≡ up (c .before .before .z .given .0 .0)
 up-is c =

@@ -3,7 +3,7 @@ use native.Mathlib.Omega.{arith}
 use mir.Syntax.{w32}
 use mir.Val.{toZ, ofZ}
 use Rattle.layout.specs.Text.{pad}
-use Rattle.kit.specs.Parts.{up}
+use Rattle.kit.specs.Integer.{up}
 use Rattle.mapbounds.specs.Steps.{force-of}
 use Rattle.maprecords.specs.Records.{told-one}
 use Rattle.mapbounds.proofs.StepLaws.{stops, stills, tec-bad, tec-number, tec-many, tec-fine}
@@ -11,11 +11,6 @@ use Rattle.reading.specs.declared.Place.the-variants.{Early}
 use borrow.Author.Needs.{needs}
 use Rattle.mapbounds.proofs.start_tec.Statement.{statement}
 use Rattle.mapbounds.proofs.start_tec.Tie as tie
-use Rattle.mapbounds.proofs.start_tec.Reads as reads
-use Rattle.mapbounds.proofs.start_tec.Lts as lts
-use Rattle.agreement.proofs.grid.natural.Reads as natural-reads
-use Rattle.maprecords.proofs.one_number.Reads as one-number-reads
-use Rattle.mapbounds.proofs.still.Reads as still-reads
 
 one-number-requires : tie.Need-one-number-requires
 one-number-requires c κs = search needs

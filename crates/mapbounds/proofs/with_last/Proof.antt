@@ -4,8 +4,6 @@ use mir.Val.{toZ, ofZ}
 use borrow.Author.Needs.{needs}
 use Rattle.mapbounds.proofs.with_last.Statement.{statement}
 use Rattle.mapbounds.proofs.with_last.Tie as tie
-use Rattle.mapbounds.proofs.with_last.Reads as reads
-use Rattle.mapbounds.proofs.with_last.Lts as lts
 
 enum-told : tie.Need-enum-told
 enum-told c = search needs

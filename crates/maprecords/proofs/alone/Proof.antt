@@ -1,10 +1,9 @@
 use mathlib.Core.Path.{refl, sym, _∙_}
 use Rattle.kit.specs.Answer.{amap}
-use Rattle.reading.specs.Fields.{number}
+use Rattle.reading.specs.Fields.{number, blank-to}
 use borrow.Author.Needs.{needs}
 use Rattle.maprecords.proofs.alone.Statement.{statement}
 use Rattle.maprecords.proofs.alone.Tie as tie
-use Rattle.reading.specs.ScanLaws.{blank-to}
 
 enum-told : tie.Need-enum-told
 enum-told c = search needs

@@ -1,16 +1,11 @@
 use mathlib.Core.Path.{_≡_, sym, _∙_}
 use mir.Syntax.{w32}
 use mir.Val.{toZ, ofZ}
-use Rattle.reading.specs.ScanLaws.{blank-to}
+use Rattle.reading.specs.Fields.{blank-to}
 use Rattle.maprecords.proofs.RecordLaws.{date-wrong, date-odd, date-fine}
 use borrow.Author.Needs.{needs}
 use Rattle.maprecords.proofs.epoch_in.Statement.{statement}
 use Rattle.maprecords.proofs.epoch_in.Tie as tie
-use Rattle.maprecords.proofs.epoch_in.Reads as reads
-use Rattle.maprecords.proofs.epoch_in.Lts as lts
-use Rattle.fields.proofs.first_not_blank.Reads as first-not-blank-reads
-use Rattle.fields.proofs.six_numbers.Reads as six-numbers-reads
-use Rattle.maprecords.proofs.second_of.Reads as second-of-reads
 
 six-numbers-requires : tie.Need-six-numbers-requires
 six-numbers-requires c κs = search needs

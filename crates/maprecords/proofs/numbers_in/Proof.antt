@@ -1,16 +1,10 @@
 use mathlib.Core.Path.{_≡_, sym, _∙_}
 use mir.Syntax.{w32}
 use mir.Val.{toZ, ofZ}
-use Rattle.reading.specs.Fields.{number}
-use Rattle.reading.specs.ScanLaws.{blank-to}
+use Rattle.reading.specs.Fields.{number, blank-to}
 use borrow.Author.Needs.{needs}
 use Rattle.maprecords.proofs.numbers_in.Statement.{statement}
 use Rattle.maprecords.proofs.numbers_in.Tie as tie
-use Rattle.maprecords.proofs.numbers_in.Reads as reads
-use Rattle.maprecords.proofs.numbers_in.Lts as lts
-use Rattle.fields.proofs.first_not_blank.Reads as first-not-blank-reads
-use Rattle.fields.proofs.tenths_at.Reads as tenths-at-reads
-use Rattle.fields.proofs.three_numbers.Reads as three-numbers-reads
 
 three-numbers-requires : tie.Need-three-numbers-requires
 three-numbers-requires c κs = search needs

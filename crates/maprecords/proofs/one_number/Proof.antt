@@ -4,7 +4,7 @@ use Rattle.maprecords.proofs.RecordLaws.{one-is}
 use borrow.Author.Needs.{needs}
 use Rattle.maprecords.proofs.one_number.Statement.{statement}
 use Rattle.maprecords.proofs.one_number.Tie as tie
-use Rattle.reading.specs.ScanLaws.{blank-to}
+use Rattle.reading.specs.Fields.{blank-to}
 use Rattle.maprecords.specs.Records.{one-of}
 
 int-at-requires : tie.Need-int-at-requires

@@ -1,13 +1,9 @@
 use mathlib.Core.Path.{sym, _∙_}
-use Rattle.reading.specs.ScanLaws.{blank-to}
+use Rattle.reading.specs.Fields.{blank-to}
 use Rattle.maprecords.proofs.RecordLaws.{opening-wrong, opening-on}
 use borrow.Author.Needs.{needs}
 use Rattle.maprecords.proofs.opening_in.Statement.{statement}
 use Rattle.maprecords.proofs.opening_in.Tie as tie
-use Rattle.maprecords.proofs.opening_in.Reads as reads
-use Rattle.maprecords.proofs.opening_in.Lts as lts
-use Rattle.fields.proofs.first_not_blank.Reads as first-not-blank-reads
-use Rattle.maprecords.proofs.numbers_in.Reads as numbers-in-reads
 
 first-not-blank-requires : tie.Need-first-not-blank-requires
 first-not-blank-requires c κs = search needs

@@ -1,14 +1,11 @@
 use mathlib.Core.Path.{_≡_, sym, _∙_}
 use mir.Facts.{toZ-ofZ}
 use Rattle.calendar.specs.Calendar.{dated}
-use Rattle.calendar.specs.Once.{take-dated}
+use Rattle.calendar.proofs.Once.{take-dated}
 use Rattle.reading.specs.Maps.{on-date}
 use borrow.Author.Needs.{needs}
 use Rattle.maprecords.proofs.second_of.Statement.{statement}
 use Rattle.maprecords.proofs.second_of.Tie as tie
-use Rattle.maprecords.proofs.second_of.Reads as reads
-use Rattle.maprecords.proofs.second_of.Lts as lts
-use Rattle.calendar.proofs.take.Reads as take-reads
 
 taken : (c : tie.After-take) → c .take .result ≡ dated (c .before .args .year) (c .before .args .month) (c .before .args .day) (c .before .args .hour) (c .before .args .minute) (c .before .args .second)
 taken c =

@@ -8,8 +8,6 @@ use Rattle.maps.proofs.TurnLaws.{finish-ended, finish-between, finish-e
 use borrow.Author.Needs.{needs}
 use Rattle.maps.proofs.finish_at.Statement.{statement}
 use Rattle.maps.proofs.finish_at.Tie as tie
-use Rattle.maps.proofs.finish_at.Reads as reads
-use Rattle.maps.proofs.finish_at.Lts as lts
 
 enum-told : tie.Need-enum-told
 enum-told c = search needs

@@ -2,9 +2,6 @@ use mir.Facts.{toZ-ofZ}
 use borrow.Author.Needs.{needs}
 use Rattle.maps.proofs.judge_maps.Statement.{statement}
 use Rattle.maps.proofs.judge_maps.Tie as tie
-use Rattle.maps.proofs.judge_maps.Reads as reads
-use Rattle.maps.proofs.judge_maps.Lts as lts
-use Rattle.maps.proofs.judge_with.Reads as judge-with-reads
 
 slice-aggregate-judge-with : tie.Need-slice-aggregate-judge-with
 slice-aggregate-judge-with c = search needs

@@ -3,8 +3,6 @@ use Rattle.maps.proofs.TurnLaws.{keep-none, keep-new, keeps-as, fits-as
 use borrow.Author.Needs.{needs}
 use Rattle.maps.proofs.keep.Statement.{statement}
 use Rattle.maps.proofs.keep.Tie as tie
-use Rattle.maps.proofs.keep.Reads as reads
-use Rattle.maps.proofs.keep.Lts as lts
 
 enum-told : tie.Need-enum-told
 enum-told c = search needs

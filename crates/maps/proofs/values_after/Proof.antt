@@ -3,9 +3,6 @@ use Rattle.maps.proofs.TurnLaws.{judged}
 use borrow.Author.Needs.{needs}
 use Rattle.maps.proofs.values_after.Statement.{statement}
 use Rattle.maps.proofs.values_after.Tie as tie
-use Rattle.maps.proofs.values_after.Reads as reads
-use Rattle.maps.proofs.values_after.Lts as lts
-use Rattle.blocks.proofs.judge_block.Reads as judge-block-reads
 
 judge-block-requires : tie.Need-judge-block-requires
 judge-block-requires c κs = search needs

@@ -5,7 +5,7 @@ use native.Mathlib.Omega.{arith}
 use Prim.Native.Nat.{_-_}
 use borrow.Author.Tests.{eqb-true, eqb-false}
 use lib.Dec.{eqb}
-use Rattle.kit.specs.Truth.{holds, fails, tells}
+use Rattle.kit.proofs.TruthLaws.{holds, fails, tells}
 use Rattle.mapset.specs.Decisions.{follows?}
 use Rattle.mapset.proofs.follows.Statement.{statement}
 use Rattle.mapset.proofs.follows.Tie as tie

@@ -1,8 +1,8 @@
 -- `mapset::need` meets its contract.
 use borrow.Author.Needs.{needs}
 use mathlib.Core.Path.{sym, _∙_}
-use Rattle.kit.specs.Answer.{pick-yes, pick-no}
-use Rattle.kit.specs.Truth.{truth-true, truth-false}
+use Rattle.kit.proofs.AnswerLaws.{pick-yes, pick-no}
+use Rattle.kit.proofs.TruthLaws.{truth-true, truth-false}
 use Rattle.mapset.proofs.need.Statement.{statement}
 use Rattle.mapset.proofs.need.Tie as tie
 

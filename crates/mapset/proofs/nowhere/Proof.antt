@@ -5,7 +5,8 @@ use native.Mathlib.Omega.{arith}
 use Prim.Native.Nat.{_≤_, _-_}
 use lib.ListN.{length, drop}
 use Rattle.kit.specs.Answer.{¬-dec}
-use Rattle.kit.specs.Truth.{truth, truth-true, truth-false, all-next, all-stop, all-end}
+use Rattle.kit.specs.Truth.{truth}
+use Rattle.kit.proofs.TruthLaws.{truth-true, truth-false, all-next, all-stop, all-end}
 use Rattle.mapset.specs.Areas.{present?, nowhere?}
 use Rattle.mapset.proofs.nowhere.Statement.{statement}
 use Rattle.mapset.proofs.nowhere.Tie as tie

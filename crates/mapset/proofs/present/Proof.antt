@@ -1,7 +1,7 @@
 -- `mapset::present` meets its contract.
 use borrow.Author.Needs.{needs}
 use native.Mathlib.Decide.{ℕ-discrete}
-use Rattle.kit.specs.Truth.{holds, either, eq-tells}
+use Rattle.kit.proofs.TruthLaws.{holds, either, eq-tells}
 use Rattle.mapset.specs.Areas.{present?}
 use Rattle.mapset.specs.declared.Kind.the-variants.{Tec as tec}
 use Rattle.mapset.proofs.present.Statement.{statement}

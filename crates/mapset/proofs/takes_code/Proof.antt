@@ -1,7 +1,7 @@
 -- `mapset::takes_code` meets its contract.
 use native.Mathlib.Decide.{ℕ-discrete, decLt}
 use Rattle.kit.specs.Answer.{×-dec}
-use Rattle.kit.specs.Truth.{both, either, eq-tells, lt-tells}
+use Rattle.kit.proofs.TruthLaws.{both, either, eq-tells, lt-tells}
 use Rattle.mapset.proofs.takes_code.Statement.{statement}
 use Rattle.mapset.proofs.takes_code.Tie as tie
 

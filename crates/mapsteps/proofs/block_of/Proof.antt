@@ -15,12 +15,6 @@ use Rattle.mapsteps.proofs.InsideLaws.{opens, row-wrong, longitude-wron
 use borrow.Author.Needs.{needs}
 use Rattle.mapsteps.proofs.block_of.Statement.{statement}
 use Rattle.mapsteps.proofs.block_of.Tie as tie
-use Rattle.mapsteps.proofs.block_of.Reads as reads
-use Rattle.mapsteps.proofs.block_of.Lts as lts
-use Rattle.agreement.proofs.grid.differs.Reads as differs-reads
-use Rattle.agreement.proofs.grid.height_agrees.Reads as height-agrees-reads
-use Rattle.agreement.proofs.grid.row_agrees.Reads as row-agrees-reads
-use Rattle.mapset.proofs.axes.nodes.Reads as nodes-reads
 
 row-is : (c : tie.After-row-agrees) → c .row-agrees .result ≡ truth (int? (c .before .args .latitude) (node (c .before .args .header .grid .latitudes) ((per-map (c .before .args .header) - c .before .args .this .left) % rows (c .before .args .header .grid))))
 row-is c = rw (toZ-ofZ (c .before .fits .latitude)) at (c .row-agrees .ensures)

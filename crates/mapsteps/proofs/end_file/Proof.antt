@@ -1,7 +1,7 @@
 use mathlib.Core.Path.{sym, _∙_}
 use native.Mathlib.Omega.{arith}
 use Rattle.layout.specs.Text.{pad}
-use Rattle.reading.specs.ScanLaws.{blank-to}
+use Rattle.reading.specs.Fields.{blank-to}
 use Rattle.reading.specs.declared.Place.the-variants.{Ended}
 use Rattle.mapbounds.specs.Steps.{force-of}
 use Rattle.maprecords.proofs.RecordLaws.{nothing-wrong, nothing-fine}
@@ -10,10 +10,6 @@ use Rattle.mapsteps.proofs.InsideLaws.{file-bad, file-missing, file-fin
 use borrow.Author.Needs.{needs}
 use Rattle.mapsteps.proofs.end_file.Statement.{statement}
 use Rattle.mapsteps.proofs.end_file.Tie as tie
-use Rattle.mapsteps.proofs.end_file.Reads as reads
-use Rattle.mapsteps.proofs.end_file.Lts as lts
-use Rattle.fields.proofs.first_not_blank.Reads as first-not-blank-reads
-use Rattle.mapbounds.proofs.still.Reads as still-reads
 
 first-not-blank-requires : tie.Need-first-not-blank-requires
 first-not-blank-requires c κs = search needs

@@ -3,8 +3,6 @@ use lib.ListN.{List·getD-eq-default}
 use borrow.Author.Needs.{needs}
 use Rattle.mapsteps.proofs.epoch_at.Statement.{statement}
 use Rattle.mapsteps.proofs.epoch_at.Tie as tie
-use Rattle.mapsteps.proofs.epoch_at.Reads as reads
-use Rattle.mapsteps.proofs.epoch_at.Lts as lts
 
 mul-result : tie.Need-mul-result
 mul-result c = search needs

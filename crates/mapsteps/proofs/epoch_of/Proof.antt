@@ -5,9 +5,6 @@ use lib.ListN.{getD}
 use borrow.Author.Needs.{needs}
 use Rattle.mapsteps.proofs.epoch_of.Statement.{statement}
 use Rattle.mapsteps.proofs.epoch_of.Tie as tie
-use Rattle.mapsteps.proofs.epoch_of.Reads as reads
-use Rattle.mapsteps.proofs.epoch_of.Lts as lts
-use Rattle.mapsteps.proofs.epoch_at.Reads as epoch-at-reads
 
 epoch-at-requires : tie.Need-epoch-at-requires
 epoch-at-requires c κs = search needs

@@ -9,11 +9,6 @@ use Rattle.mapsteps.proofs.InsideLaws.{again-late, again-bad, again-not
 use borrow.Author.Needs.{needs}
 use Rattle.mapsteps.proofs.epoch_other.Statement.{statement}
 use Rattle.mapsteps.proofs.epoch_other.Tie as tie
-use Rattle.mapsteps.proofs.epoch_other.Reads as reads
-use Rattle.mapsteps.proofs.epoch_other.Lts as lts
-use Rattle.maprecords.proofs.epoch_in.Reads as epoch-in-reads
-use Rattle.mapsteps.proofs.epoch_of.Reads as epoch-of-reads
-use Rattle.mapbounds.proofs.still.Reads as still-reads
 
 returns : tie.Need-returns
 returns c =

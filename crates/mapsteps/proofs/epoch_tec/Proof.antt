@@ -9,10 +9,6 @@ use Rattle.mapsteps.proofs.InsideLaws.{remembers, epoch-bad, epoch-late
 use borrow.Author.Needs.{needs}
 use Rattle.mapsteps.proofs.epoch_tec.Statement.{statement}
 use Rattle.mapsteps.proofs.epoch_tec.Tie as tie
-use Rattle.mapsteps.proofs.epoch_tec.Reads as reads
-use Rattle.mapsteps.proofs.epoch_tec.Lts as lts
-use Rattle.maprecords.proofs.epoch_in.Reads as epoch-in-reads
-use Rattle.agreement.proofs.times.in_time.Reads as in-time-reads
 
 epoch-in-requires : tie.Need-epoch-in-requires
 epoch-in-requires c κs = search needs

@@ -6,9 +6,6 @@ use Rattle.mapbounds.specs.Steps.{force-of, moved}
 use borrow.Author.Needs.{needs}
 use Rattle.mapsteps.proofs.on_block.Statement.{statement}
 use Rattle.mapsteps.proofs.on_block.Tie as tie
-use Rattle.mapsteps.proofs.on_block.Reads as reads
-use Rattle.mapsteps.proofs.on_block.Lts as lts
-use Rattle.mapsteps.proofs.open_block.Reads as open-block-reads
 
 enum-told : tie.Need-enum-told
 enum-told c = search needs

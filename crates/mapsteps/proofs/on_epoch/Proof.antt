@@ -6,10 +6,6 @@ use Rattle.mapbounds.specs.Steps.{force-of, moved}
 use borrow.Author.Needs.{needs}
 use Rattle.mapsteps.proofs.on_epoch.Statement.{statement}
 use Rattle.mapsteps.proofs.on_epoch.Tie as tie
-use Rattle.mapsteps.proofs.on_epoch.Reads as reads
-use Rattle.mapsteps.proofs.on_epoch.Lts as lts
-use Rattle.mapsteps.proofs.epoch_other.Reads as epoch-other-reads
-use Rattle.mapsteps.proofs.epoch_tec.Reads as epoch-tec-reads
 
 enum-told : tie.Need-enum-told
 enum-told c = search needs

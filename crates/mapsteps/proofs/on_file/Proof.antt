@@ -6,9 +6,6 @@ use Rattle.mapbounds.specs.Steps.{force-of, moved}
 use borrow.Author.Needs.{needs}
 use Rattle.mapsteps.proofs.on_file.Statement.{statement}
 use Rattle.mapsteps.proofs.on_file.Tie as tie
-use Rattle.mapsteps.proofs.on_file.Reads as reads
-use Rattle.mapsteps.proofs.on_file.Lts as lts
-use Rattle.mapsteps.proofs.end_file.Reads as end-file-reads
 
 enum-told : tie.Need-enum-told
 enum-told c = search needs

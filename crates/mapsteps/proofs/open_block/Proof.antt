@@ -9,10 +9,6 @@ use Rattle.mapsteps.proofs.InsideLaws.{block-none, block-bad, block-on}
 use borrow.Author.Needs.{needs}
 use Rattle.mapsteps.proofs.open_block.Statement.{statement}
 use Rattle.mapsteps.proofs.open_block.Tie as tie
-use Rattle.mapsteps.proofs.open_block.Reads as reads
-use Rattle.mapsteps.proofs.open_block.Lts as lts
-use Rattle.maprecords.proofs.opening_in.Reads as opening-in-reads
-use Rattle.mapsteps.proofs.block_of.Reads as block-of-reads
 
 returns : tie.Need-returns
 returns c =

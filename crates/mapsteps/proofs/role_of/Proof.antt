@@ -3,9 +3,6 @@ use Rattle.mapsteps.proofs.RoleLaws.{role-unknown, role-at, role-other,
 use borrow.Author.Needs.{needs}
 use Rattle.mapsteps.proofs.role_of.Statement.{statement}
 use Rattle.mapsteps.proofs.role_of.Tie as tie
-use Rattle.mapsteps.proofs.role_of.Reads as reads
-use Rattle.mapsteps.proofs.role_of.Lts as lts
-use Rattle.labels.proofs.label_of.Reads as label-of-reads
 
 label-of-requires : tie.Need-label-of-requires
 label-of-requires c κs = search needs

@@ -6,16 +6,6 @@ use Rattle.mapsteps.proofs.RoleLaws.{step-is}
 use borrow.Author.Needs.{needs}
 use Rattle.mapsteps.proofs.step.Statement.{statement}
 use Rattle.mapsteps.proofs.step.Tie as tie
-use Rattle.mapsteps.proofs.step.Reads as reads
-use Rattle.mapsteps.proofs.step.Lts as lts
-use Rattle.mapsteps.proofs.on_block.Reads as on-block-reads
-use Rattle.mapbounds.proofs.on_comment.Reads as on-comment-reads
-use Rattle.mapbounds.proofs.on_end.Reads as on-end-reads
-use Rattle.mapsteps.proofs.on_epoch.Reads as on-epoch-reads
-use Rattle.mapbounds.proofs.on_exponent.Reads as on-exponent-reads
-use Rattle.mapsteps.proofs.on_file.Reads as on-file-reads
-use Rattle.mapbounds.proofs.on_start.Reads as on-start-reads
-use Rattle.mapsteps.proofs.role_of.Reads as role-of-reads
 
 role-of-requires : tie.Need-role-of-requires
 role-of-requires c κs = search needs

@@ -1,20 +1,8 @@
-use mathlib.Core.Path.{_≡_, subst}
-use mathlib.Core.List.{List}
-use Prim.Native.Nat.{ℕ}
-use Rattle.mapset.specs.declared.Texts.{Texts}
-use Rattle.judging.specs.Scanned.{Judges}
-use Rattle.judging.specs.declared.Judged.{Judged}
 use Rattle.judging.proofs.JudgeLaws.{one-to-ten}
 use Rattle.judging.proofs.NeedLaws.{limits, few-by, need-by, judged}
 use borrow.Author.Needs.{needs}
 use Rattle.measuring.proofs.measure.Statement.{statement}
 use Rattle.measuring.proofs.measure.Tie as tie
-use Rattle.measuring.proofs.measure.Reads as reads
-use Rattle.measuring.proofs.measure.Lts as lts
-use Rattle.judging.proofs.judge.Reads as judge-reads
-use Rattle.needs.proofs.needed.Reads as needed-reads
-use Rattle.needs.proofs.size_of.Reads as size-of-reads
-use Rattle.outcome.proofs.reason_of.Reads as reason-of-reads
 
 judge-requires : tie.Need-judge-requires
 judge-requires c κs = search needs

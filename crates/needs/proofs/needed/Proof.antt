@@ -2,9 +2,6 @@ use mathlib.Core.Path.{refl}
 use borrow.Author.Needs.{needs}
 use Rattle.needs.proofs.needed.Statement.{statement}
 use Rattle.needs.proofs.needed.Tie as tie
-use Rattle.needs.proofs.needed.Reads as reads
-use Rattle.needs.proofs.needed.Lts as lts
-use Rattle.needs.proofs.if_stands.Reads as if-stands-reads
 
 mul-blocks : tie.Need-mul-blocks
 mul-blocks c = search needs

@@ -1,12 +1,10 @@
 use mathlib.Core.Path.{sym, _∙_}
 use native.Mathlib.Omega.{arith}
 use native.Mathlib.Decide.{decLe}
-use Rattle.kit.specs.Answer.{pick-yes, pick-no}
+use Rattle.kit.proofs.AnswerLaws.{pick-yes, pick-no}
 use Rattle.needs.specs.Needs.{first-short}
 use Rattle.needs.proofs.room_for.Statement.{statement}
 use Rattle.needs.proofs.room_for.Tie as tie
-use Rattle.needs.proofs.room_for.Reads as reads
-use Rattle.needs.proofs.room_for.Lts as lts
 
 returns : tie.Need-returns
 unfolding first-short

@@ -5,9 +5,6 @@ use native.Mathlib.Nat.{mul-le-mul}
 use borrow.Author.Needs.{needs}
 use Rattle.needs.proofs.size_of.Statement.{statement}
 use Rattle.needs.proofs.size_of.Tie as tie
-use Rattle.needs.proofs.size_of.Reads as reads
-use Rattle.needs.proofs.size_of.Lts as lts
-use Rattle.mapset.proofs.axes.nodes.Reads as nodes-reads
 
 nodes-requires : tie.Need-nodes-requires
 nodes-requires c κs = search needs

@@ -1,9 +1,9 @@
 -- `nodes::is_present` meets its contract.
 use native.Mathlib.Decide.{ℕ-discrete}
-use Rattle.kit.specs.Truth.{holds, either, eq-tells}
+use Rattle.kit.proofs.TruthLaws.{holds, either, eq-tells}
 use Rattle.mapset.specs.Areas.{present?}
 use Rattle.mapset.specs.declared.Kind.the-variants.{Tec as tec}
-use Rattle.nodes.specs.NodeLaws.{other-kind}
+use Rattle.nodes.proofs.NodeLaws.{other-kind}
 use Rattle.nodes.proofs.is_present.Statement.{statement}
 use Rattle.nodes.proofs.is_present.Tie as tie
 

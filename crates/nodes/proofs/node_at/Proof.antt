@@ -8,11 +8,11 @@ use Prim.Native.Nat.{ℕ, _+_, _*_}
 use lib.IntN.{ℤ, pos}
 use lib.ListN.{getD}
 use denote.Ref.{now}
-use Rattle.kit.specs.Truth.{truth-true, truth-false}
+use Rattle.kit.proofs.TruthLaws.{truth-true, truth-false}
 use Rattle.mapset.specs.Areas.{Present}
 use Rattle.nodes.specs.Value.{kind-of, block, value}
 use Rattle.nodes.specs.Nodes.{in-node, plain}
-use Rattle.nodes.specs.NodeLaws.{worth-absent, worth-present}
+use Rattle.nodes.proofs.NodeLaws.{worth-absent, worth-present}
 use Rattle.nodes.proofs.node_at.Statement.{statement}
 use Rattle.nodes.proofs.node_at.Tie as tie
 

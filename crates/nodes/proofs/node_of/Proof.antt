@@ -7,10 +7,10 @@ use lib.IntN.{ℤ, pos, negsuc, _*ℤ_}
 use mir.Syntax.{w32}
 use mir.Val.{toZ, ofZ, SFits}
 use mir.Facts.{toZ-ofZ}
-use Rattle.kit.specs.Parts.{up, le-parts, parts-le, lt-true, lt-false, size-fits, from-bits}
-use Rattle.kit.specs.Integer.{Between}
+use Rattle.kit.specs.Integer.{up, Between}
+use Rattle.kit.proofs.Parts.{le-parts, parts-le, lt-true, lt-false, size-fits, from-bits}
 use Rattle.nodes.specs.Nodes.{power-of, plain}
-use Rattle.nodes.specs.NodeLaws.{plain-none, plain-no-power, plain-some, power-size, tecu-node, km-node}
+use Rattle.nodes.proofs.NodeLaws.{plain-none, plain-no-power, plain-some, power-size, tecu-node, km-node}
 use Rattle.nodes.proofs.node_of.Statement.{statement}
 use Rattle.nodes.proofs.node_of.Tie as tie
 

@@ -3,8 +3,8 @@ use mathlib.Core.Path.{refl, sym, ap}
 use lib.IntN.{pos}
 use mir.Syntax.{w32}
 use mir.Val.{ofZ}
-use Rattle.kit.specs.Parts.{from-bits}
-use Rattle.nodes.specs.NodeLaws.{power-none}
+use Rattle.kit.proofs.Parts.{from-bits}
+use Rattle.nodes.proofs.NodeLaws.{power-none}
 use Rattle.nodes.proofs.power.Statement.{statement}
 use Rattle.nodes.proofs.power.Tie as tie
 

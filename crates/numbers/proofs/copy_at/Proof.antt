@@ -6,8 +6,6 @@ use lib.Seq.{sets, take-length}
 use Rattle.numbers.proofs.SetLaws.{sets-next}
 use Rattle.numbers.proofs.copy_at.Statement.{statement}
 use Rattle.numbers.proofs.copy_at.Tie as tie
-use Rattle.numbers.proofs.copy_at.Reads as reads
-use Rattle.numbers.proofs.copy_at.Lts as lts
 
 abbrev Inv-loop : tie.InvT-loop
 Inv-loop from out₀ at i₀ out i = (i ≤ length from) × (length out ≡ length out₀) × (out ≡ sets out₀ at (take i from))

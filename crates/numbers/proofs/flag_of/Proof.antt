@@ -1,8 +1,6 @@
 use mathlib.Core.Path.{refl}
 use Rattle.numbers.proofs.flag_of.Statement.{statement}
 use Rattle.numbers.proofs.flag_of.Tie as tie
-use Rattle.numbers.proofs.flag_of.Reads as reads
-use Rattle.numbers.proofs.flag_of.Lts as lts
 
 returns : tie.Need-returns
 returns c = rw (c .if1 .taken) refl

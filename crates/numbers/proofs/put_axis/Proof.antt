@@ -7,10 +7,6 @@ use Rattle.numbers.proofs.SetLaws.{back}
 use borrow.Author.Needs.{needs}
 use Rattle.numbers.proofs.put_axis.Statement.{statement}
 use Rattle.numbers.proofs.put_axis.Tie as tie
-use Rattle.numbers.proofs.put_axis.Reads as reads
-use Rattle.numbers.proofs.put_axis.Lts as lts
-use Rattle.numbers.proofs.put_three.Reads as put-three-reads
-use Rattle.numbers.proofs.wide.Reads as wide-reads
 
 wide-requires : tie.Need-wide-requires
 wide-requires c κs = search needs

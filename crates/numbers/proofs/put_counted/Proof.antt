@@ -3,11 +3,6 @@ use mir.Facts.{toZ-ofZ}
 use borrow.Author.Needs.{needs}
 use Rattle.numbers.proofs.put_counted.Statement.{statement}
 use Rattle.numbers.proofs.put_counted.Tie as tie
-use Rattle.numbers.proofs.put_counted.Reads as reads
-use Rattle.numbers.proofs.put_counted.Lts as lts
-use Rattle.numbers.proofs.flag_of.Reads as flag-of-reads
-use Rattle.numbers.proofs.put_two.Reads as put-two-reads
-use Rattle.numbers.proofs.whole.Reads as whole-reads
 
 flag-of-requires : tie.Need-flag-of-requires
 flag-of-requires c κs = search needs

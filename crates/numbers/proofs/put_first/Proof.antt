@@ -8,12 +8,6 @@ use Rattle.numbers.proofs.SetLaws.{back}
 use borrow.Author.Needs.{needs}
 use Rattle.numbers.proofs.put_first.Statement.{statement}
 use Rattle.numbers.proofs.put_first.Tie as tie
-use Rattle.numbers.proofs.put_first.Reads as reads
-use Rattle.numbers.proofs.put_first.Lts as lts
-use Rattle.numbers.proofs.put_three.Reads as put-three-reads
-use Rattle.numbers.proofs.put_two.Reads as put-two-reads
-use Rattle.numbers.proofs.second.Reads as second-reads
-use Rattle.numbers.proofs.whole.Reads as whole-reads
 
 whole-requires : tie.Need-whole-requires
 whole-requires c κs = search needs

@@ -2,9 +2,6 @@ use mathlib.Core.Path.{refl}
 use borrow.Author.Needs.{needs}
 use Rattle.numbers.proofs.put_grid.Statement.{statement}
 use Rattle.numbers.proofs.put_grid.Tie as tie
-use Rattle.numbers.proofs.put_grid.Reads as reads
-use Rattle.numbers.proofs.put_grid.Lts as lts
-use Rattle.numbers.proofs.put_axis.Reads as put-axis-reads
 
 put-axis-requires : tie.Need-put-axis-requires
 put-axis-requires c κs = search needs

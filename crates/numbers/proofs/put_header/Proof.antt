@@ -5,11 +5,6 @@ use Rattle.numbers.proofs.SetLaws.{sets-front}
 use borrow.Author.Needs.{needs}
 use Rattle.numbers.proofs.put_header.Statement.{statement}
 use Rattle.numbers.proofs.put_header.Tie as tie
-use Rattle.numbers.proofs.put_header.Reads as reads
-use Rattle.numbers.proofs.put_header.Lts as lts
-use Rattle.numbers.proofs.put_first.Reads as put-first-reads
-use Rattle.numbers.proofs.put_grid.Reads as put-grid-reads
-use Rattle.numbers.proofs.put_starred.Reads as put-starred-reads
 
 put-first-requires : tie.Need-put-first-requires
 put-first-requires c κs = search needs

@@ -2,10 +2,6 @@ use mathlib.Core.Path.{refl}
 use borrow.Author.Needs.{needs}
 use Rattle.numbers.proofs.put_starred.Statement.{statement}
 use Rattle.numbers.proofs.put_starred.Tie as tie
-use Rattle.numbers.proofs.put_starred.Reads as reads
-use Rattle.numbers.proofs.put_starred.Lts as lts
-use Rattle.numbers.proofs.put_counted.Reads as put-counted-reads
-use Rattle.numbers.proofs.put_system.Reads as put-system-reads
 
 put-counted-requires : tie.Need-put-counted-requires
 put-counted-requires c κs = search needs

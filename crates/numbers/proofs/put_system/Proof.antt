@@ -3,11 +3,6 @@ use mir.Facts.{toZ-ofZ}
 use borrow.Author.Needs.{needs}
 use Rattle.numbers.proofs.put_system.Statement.{statement}
 use Rattle.numbers.proofs.put_system.Tie as tie
-use Rattle.numbers.proofs.put_system.Reads as reads
-use Rattle.numbers.proofs.put_system.Lts as lts
-use Rattle.numbers.proofs.flag_of.Reads as flag-of-reads
-use Rattle.numbers.proofs.put_three.Reads as put-three-reads
-use Rattle.numbers.proofs.whole.Reads as whole-reads
 
 flag-of-requires : tie.Need-flag-of-requires
 flag-of-requires c κs = search needs

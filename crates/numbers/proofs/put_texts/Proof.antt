@@ -7,9 +7,6 @@ use lib.ListN.{length}
 use borrow.Author.Needs.{needs}
 use Rattle.numbers.proofs.put_texts.Statement.{statement}
 use Rattle.numbers.proofs.put_texts.Tie as tie
-use Rattle.numbers.proofs.put_texts.Reads as reads
-use Rattle.numbers.proofs.put_texts.Lts as lts
-use Rattle.numbers.proofs.copy_at.Reads as copy-at-reads
 
 widths : (s : tie.Start) → (length (s .args .x .program) ≡ 20) × (length (s .args .x .agency) ≡ 20) × (length (s .args .x .date) ≡ 20) × (length (s .args .x .mapping) ≡ 4) × (length (s .args .x .observables) ≡ 60)
 widths s = (search needs, search needs, search needs, search needs, search needs)

@@ -6,8 +6,6 @@ use mir.Facts.{toZ-ofZ}
 use borrow.Author.Needs.{needs}
 use Rattle.numbers.proofs.put_two.Statement.{statement}
 use Rattle.numbers.proofs.put_two.Tie as tie
-use Rattle.numbers.proofs.put_two.Reads as reads
-use Rattle.numbers.proofs.put_two.Lts as lts
 
 mul-a : tie.Need-mul-a
 mul-a c = search needs

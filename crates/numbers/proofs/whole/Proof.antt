@@ -4,8 +4,6 @@ use mir.Facts.{toZ-pos}
 use borrow.Author.Needs.{needs}
 use Rattle.numbers.proofs.whole.Statement.{statement}
 use Rattle.numbers.proofs.whole.Tie as tie
-use Rattle.numbers.proofs.whole.Reads as reads
-use Rattle.numbers.proofs.whole.Lts as lts
 
 cast-result : tie.Need-cast-result
 cast-result c = search needs

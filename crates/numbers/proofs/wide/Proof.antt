@@ -1,8 +1,6 @@
 use mir.Facts.{toZ-ofZ, sfits-widen}
 use Rattle.numbers.proofs.wide.Statement.{statement}
 use Rattle.numbers.proofs.wide.Tie as tie
-use Rattle.numbers.proofs.wide.Reads as reads
-use Rattle.numbers.proofs.wide.Lts as lts
 
 cast-result : tie.Need-cast-result
 cast-result c = rw (toZ-ofZ (c .fits .x)) (sfits-widen tt (c .fits .x))

@@ -13,8 +13,8 @@ use mir.Facts.{toZ-ofZ}
 use Rattle.mapset.specs.Grid as G
 use Rattle.writer.specs.Canon.{block-rows}
 use Rattle.rows.specs.Put.{Put, Leads}
-use Rattle.rows.specs.PutLaws.{put-none, room-front, leads-self, leads-on}
-use Rattle.rowtext.specs.PlacedLaws.{placed}
+use Rattle.rows.proofs.PutLaws.{put-none, room-front, leads-self, leads-on}
+use Rattle.rowtext.proofs.PlacedLaws.{placed}
 use Rattle.onemap.specs.OneMap.{map-blocks}
 use Rattle.onemap.proofs.BlockLaws.{few-values, one-block, blocks-from, blocks-next, blocks-end, blocks-start, part-inside, part-next}
 use Rattle.onemap.proofs.put_blocks.Statement.{statement}

@@ -1,6 +1,6 @@
 -- `onemap::put_epoch` meets its contract.
 use borrow.Author.Needs.{needs}
-use Rattle.rows.specs.PutLaws.{put-none}
+use Rattle.rows.proofs.PutLaws.{put-none}
 use Rattle.onemap.proofs.put_epoch.Statement.{statement}
 use Rattle.onemap.proofs.put_epoch.Tie as tie
 

@@ -11,7 +11,7 @@ use mir.Facts.{toZ-ofZ}
 use Rattle.layout.specs.Labels.{start, end}
 use Rattle.writer.specs.Canon.{row-of, block-rows}
 use Rattle.rows.specs.Put.{Leads}
-use Rattle.rows.specs.PutLaws.{room-front, room-first, leads-self, leads-on, leads-next}
+use Rattle.rows.proofs.PutLaws.{room-front, room-first, leads-self, leads-on, leads-next}
 use Rattle.onemap.specs.OneMap.{map-blocks, epoch-rows, one-map}
 use Rattle.onemap.proofs.put_map.Statement.{statement}
 use Rattle.onemap.proofs.put_map.Tie as tie

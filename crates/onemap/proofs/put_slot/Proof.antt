@@ -12,12 +12,12 @@ use denote.Ref.{now}
 use mir.Syntax.{w32}
 use mir.Val.{toZ, ofZ}
 use mir.Facts.{toZ-ofZ}
-use Rattle.kit.specs.Truth.{truth-true, truth-false}
+use Rattle.kit.proofs.TruthLaws.{truth-true, truth-false}
 use Rattle.mapset.specs.Areas.{Present}
 use Rattle.mapset.specs.MapSet.{Block}
 use Rattle.mapset.specs.Grid as G
 use Rattle.layout.specs.Layout.{per-map}
-use Rattle.rows.specs.PutLaws.{put-none}
+use Rattle.rows.proofs.PutLaws.{put-none}
 use Rattle.onemap.specs.OneMap.{slot-blocks}
 use Rattle.onemap.proofs.BlockLaws.{few-blocks, some-blocks, last-in-force}
 use Rattle.onemap.proofs.SlotLaws.{map-there, map-absent, force-there, force-absent}

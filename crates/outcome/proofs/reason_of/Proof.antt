@@ -4,8 +4,6 @@ use native.Mathlib.Omega.{arith}
 use Rattle.outcome.specs.Outcome.{at-place}
 use Rattle.outcome.proofs.reason_of.Statement.{statement}
 use Rattle.outcome.proofs.reason_of.Tie as tie
-use Rattle.outcome.proofs.reason_of.Reads as reads
-use Rattle.outcome.proofs.reason_of.Lts as lts
 
 -- the number that is matched
 by : (s : tie.Start) (k : ℕ) → s .args .number ≡ k → at-place (s .args .number) (s .args .line) (s .args .column) ≡ at-place k (s .args .line) (s .args .column)

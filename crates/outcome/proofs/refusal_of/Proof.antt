@@ -2,9 +2,6 @@ use mathlib.Core.List.{[], _∷_}
 use borrow.Author.Needs.{needs}
 use Rattle.outcome.proofs.refusal_of.Statement.{statement}
 use Rattle.outcome.proofs.refusal_of.Tie as tie
-use Rattle.outcome.proofs.refusal_of.Reads as reads
-use Rattle.outcome.proofs.refusal_of.Lts as lts
-use Rattle.outcome.proofs.placed.Reads as placed-reads
 
 enum-known-reason : tie.Need-enum-known-reason
 enum-known-reason c = search needs

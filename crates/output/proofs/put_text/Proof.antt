@@ -5,13 +5,13 @@ use Prim.Native.Nat.{ℕ}
 use denote.Ref.{now}
 use Rattle.mapset.specs.Areas.{Areas, six}
 use Rattle.mapset.specs.Header.{says}
-use Rattle.mapset.specs.SoundLaws.{sound-groups}
+use Rattle.mapset.specs.SoundDecided.{sound-groups}
 use Rattle.layout.specs.Labels.{header-end}
-use Rattle.areas.proofs.ValidFormed.{nested}
+use Rattle.areas.specs.Nesting.{nested}
 use Rattle.valid.proofs.Whole.{sound-long}
 use Rattle.writer.specs.Canon.{row-of, version-row, order, head-rows, canon-rows}
 use Rattle.rows.specs.Put.{Leads}
-use Rattle.rows.specs.PutLaws.{room-front, leads-self, leads-on}
+use Rattle.rows.proofs.PutLaws.{room-front, leads-self, leads-on}
 use Rattle.allmaps.specs.KindRows.{all-rows}
 use Rattle.onemap.proofs.SlotLaws.{leads-same}
 use Rattle.output.proofs.RowsLaws.{canon-are}

@@ -7,16 +7,16 @@ use Prim.Native.Nat.{ℕ, _≤_}
 use borrow.Author.Tests.{not-true, not-false}
 use lib.ListN.{length, drop}
 use denote.Ref.{now}
-use Rattle.kit.specs.Truth.{truth-true, truth-false}
+use Rattle.kit.proofs.TruthLaws.{truth-true, truth-false}
 use Rattle.mapset.specs.Areas.{Areas, six}
 use Rattle.areas.specs.Valid.{Valid}
-use Rattle.areas.proofs.ValidFormed.{nested}
+use Rattle.areas.specs.Nesting.{nested}
 use Rattle.areas.proofs.CutLaws.{nothing}
 use Rattle.writer.specs.Canon.{canon, canon-rows}
-use Rattle.writer.specs.Exact.{canon-of}
+use Rattle.writer.specs.CanonOf.{canon-of}
 use Rattle.rows.specs.Put.{Put}
 use Rattle.output.specs.Write.{done, refused}
-use Rattle.output.specs.WriteLaws.{written-unsound, written-short, written-done}
+use Rattle.output.proofs.WriteLaws.{written-unsound, written-short, written-done}
 use Rattle.output.proofs.Short.{canon-short}
 use Rattle.output.proofs.write_text.Statement.{statement}
 use Rattle.output.proofs.write_text.Tie as tie

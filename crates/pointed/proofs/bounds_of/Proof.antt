@@ -2,8 +2,6 @@ use Rattle.pointed.proofs.AskLaws.{bounds-given}
 use borrow.Author.Needs.{needs}
 use Rattle.pointed.proofs.bounds_of.Statement.{statement}
 use Rattle.pointed.proofs.bounds_of.Tie as tie
-use Rattle.pointed.proofs.bounds_of.Reads as reads
-use Rattle.pointed.proofs.bounds_of.Lts as lts
 
 enum-known-reply : tie.Need-enum-known-reply
 enum-known-reply c = search needs

@@ -7,9 +7,6 @@ use mathlib.Core.Path.{ap}
 use borrow.Author.Needs.{needs}
 use Rattle.pointed.proofs.done_before.Statement.{statement}
 use Rattle.pointed.proofs.done_before.Tie as tie
-use Rattle.pointed.proofs.done_before.Reads as reads
-use Rattle.pointed.proofs.done_before.Lts as lts
-use Rattle.mapset.proofs.axes.nodes.Reads as nodes-reads
 
 few : (c : tie.After-nodes) → c .before .args .layer * c .nodes .result ≤ 23104
 few c =

@@ -1,15 +1,13 @@
-use mathlib.Core.Path.{_≡_, ap, _∙_}
-use Prim.Native.Nat.{_+_, _-_, _*_, _≤_}
+use mathlib.Core.Path.{_≡_, ap}
+use Prim.Native.Nat.{_-_, _*_, _≤_}
 use native.Mathlib.Omega.{arith}
 use Rattle.mapset.specs.Areas.{blocks}
-use Rattle.mapset.specs.SoundLaws.{few-blocks}
+use Rattle.mapset.proofs.SoundLaws.{few-blocks}
 use Rattle.layout.specs.Layout.{per-map}
 use Rattle.pointed.proofs.AskLaws.{entry-tec, entry-rms, entry-height}
 use borrow.Author.Needs.{needs}
 use Rattle.pointed.proofs.entry_of.Statement.{statement}
 use Rattle.pointed.proofs.entry_of.Tie as tie
-use Rattle.pointed.proofs.entry_of.Reads as reads
-use Rattle.pointed.proofs.entry_of.Lts as lts
 
 few : (c : tie.After-struct-known) → blocks (c .before .before .args .header) ≤ 2000000
 few c = let b = c .before .before in few-blocks (b .args .header .times .maps) (b .args .header .grid) (b .pre .0)

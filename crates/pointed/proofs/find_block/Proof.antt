@@ -2,10 +2,6 @@ use Rattle.pointed.specs.Told.{told}
 use borrow.Author.Needs.{needs}
 use Rattle.pointed.proofs.find_block.Statement.{statement}
 use Rattle.pointed.proofs.find_block.Tie as tie
-use Rattle.pointed.proofs.find_block.Reads as reads
-use Rattle.pointed.proofs.find_block.Lts as lts
-use Rattle.pointed.proofs.bounds_of.Reads as bounds-of-reads
-use Rattle.pointed.proofs.find_node.Reads as find-node-reads
 
 find-node-requires : tie.Need-find-node-requires
 find-node-requires c κs = search needs

@@ -6,10 +6,9 @@ use denote.Ref.{now}
 use mir.Facts.{toZ-ofZ}
 use lib.IntN.{pos}
 use lib.ListN.{getD}
-use Rattle.kit.specs.Truth.{truth-true, truth-false}
-use Rattle.kit.specs.TruthLaws.{says-true, says-false}
+use Rattle.kit.proofs.TruthLaws.{truth-true, truth-false, says-true, says-false}
 use Rattle.mapset.specs.Areas.{Present, blocks}
-use Rattle.mapset.specs.SoundLaws.{few-blocks}
+use Rattle.mapset.proofs.SoundLaws.{few-blocks}
 use Rattle.layout.specs.Layout.{per-map}
 use Rattle.areas.specs.Stores.{before, first-of}
 use Rattle.nodes.specs.Value.{kind-of}
@@ -20,14 +19,6 @@ use Rattle.pointed.proofs.AskLaws.{fit-limits, inside, not-inside, mark
 use borrow.Author.Needs.{needs}
 use Rattle.pointed.proofs.find_node.Statement.{statement}
 use Rattle.pointed.proofs.find_node.Tie as tie
-use Rattle.pointed.proofs.find_node.Reads as reads
-use Rattle.pointed.proofs.find_node.Lts as lts
-use Rattle.nodes.proofs.is_present.Reads as is-present-reads
-use Rattle.pointed.proofs.done_before.Reads as done-before-reads
-use Rattle.pointed.proofs.entry_of.Reads as entry-of-reads
-use Rattle.pointed.proofs.fits.Reads as fits-reads
-use Rattle.pointed.proofs.in_grid.Reads as in-grid-reads
-use Rattle.pointed.proofs.number_at.Reads as number-at-reads
 
 abbrev x : tie.Start → Index
 x s = index (s .args .header) (s .args .texts) (entries (now (s .args .positions)) (now (s .args .exponents)) (now (s .args .marks)))

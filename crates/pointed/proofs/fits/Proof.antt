@@ -3,18 +3,14 @@ use Prim.Native.Nat.{_*_, _≤_}
 use native.Mathlib.Omega.{arith}
 use borrow.Author.Tests.{not-true, not-false}
 use lib.Seq.{length-take-le}
-use Rattle.kit.specs.Truth.{truth-true, truth-false}
+use Rattle.kit.proofs.TruthLaws.{truth-true, truth-false}
 use Rattle.mapset.specs.Areas.{blocks}
 use Rattle.mapset.specs.Sound.{HeaderSays}
-use Rattle.mapset.specs.SoundLaws.{few-blocks}
+use Rattle.mapset.proofs.SoundLaws.{few-blocks}
 use Rattle.pointed.proofs.AskLaws.{no-header, marks-decide, limits}
 use borrow.Author.Needs.{needs}
 use Rattle.pointed.proofs.fits.Statement.{statement}
 use Rattle.pointed.proofs.fits.Tie as tie
-use Rattle.pointed.proofs.fits.Reads as reads
-use Rattle.pointed.proofs.fits.Lts as lts
-use Rattle.headsound.proofs.all_within.Reads as all-within-reads
-use Rattle.headsound.proofs.header_fits.Reads as header-fits-reads
 
 says : (c : tie.Else1) → HeaderSays (c .before .before .before .before .args .header) (c .before .before .before .before .args .texts)
 says c = truth-true _ (sym (c .before .header-fits .ensures) ∙ not-false _ (c .if1 .left))

@@ -4,9 +4,6 @@ use Rattle.pointed.proofs.AskLaws.{less-decides, column-decides}
 use borrow.Author.Needs.{needs}
 use Rattle.pointed.proofs.in_grid.Statement.{statement}
 use Rattle.pointed.proofs.in_grid.Tie as tie
-use Rattle.pointed.proofs.in_grid.Reads as reads
-use Rattle.pointed.proofs.in_grid.Lts as lts
-use Rattle.mapset.proofs.axes.nodes.Reads as nodes-reads
 
 returns : tie.Need-returns
 returns c = search needs

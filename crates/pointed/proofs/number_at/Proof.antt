@@ -1,11 +1,10 @@
 use mathlib.Core.Path.{_≡_, sym, ap, _∙_}
-use Prim.Native.Nat.{_+_}
-use native.Mathlib.Omega.{arith}
 use borrow.Author.Tests.{not-true, not-false}
 use lib.IntN.{pos, negsuc}
 use mir.Facts.{toZ-ofZ}
 use Rattle.kit.specs.Integer.{between?}
-use Rattle.kit.specs.Truth.{truth, truth-true, truth-false}
+use Rattle.kit.specs.Truth.{truth}
+use Rattle.kit.proofs.TruthLaws.{truth-true, truth-false}
 use Rattle.forms.specs.Read.{isNumber}
 use Rattle.layout.specs.Layout.{Exponent}
 use Rattle.indexed.specs.Hits.{At, block-from}
@@ -14,10 +13,6 @@ use Rattle.pointed.proofs.AskLaws.{five-long, no-exponent, no-block, a-
 use borrow.Author.Needs.{needs}
 use Rattle.pointed.proofs.number_at.Statement.{statement}
 use Rattle.pointed.proofs.number_at.Tie as tie
-use Rattle.pointed.proofs.number_at.Reads as reads
-use Rattle.pointed.proofs.number_at.Lts as lts
-use Rattle.fields.proofs.int_value.Reads as int-value-reads
-use Rattle.indexed.proofs.block_from.Reads as block-from-reads
 
 judged : (c : tie.After-between) → c .between .result ≡ truth (between? (negsuc 2) (pos 0) (c .before .before .args .e))
 judged c = rw (toZ-ofZ (c .before .before .fits .e)) at (c .between .ensures)

@@ -8,7 +8,8 @@ use lib.IntN.{ℤ, pos, natAbs, _+ℤ_, _*ℤ_}
 use mir.Syntax.{w32, w64}
 use mir.Val.{toZ, ofZ, SFits}
 use mir.Facts.{toZ-ofZ, toZ-pos, sfits-widen}
-use Rattle.kit.specs.Parts.{up, dn, add-parts, scale-up, scale-dn, abs-parts, fits-parts, one-zero}
+use Rattle.kit.specs.Integer.{up, dn}
+use Rattle.kit.proofs.Parts.{add-parts, scale-up, scale-dn, abs-parts, fits-parts, one-zero}
 use Rattle.rounding.proofs.mul_add.Statement.{statement}
 use Rattle.rounding.proofs.mul_add.Tie as tie
 

@@ -2,7 +2,7 @@
 use borrow.Author.Needs.{needs}
 use native.Mathlib.Omega.{arith}
 use native.Mathlib.Nat.{mod-lt, div-le-self}
-use Rattle.rounding.specs.RoundLaws.{round-down, round-up}
+use Rattle.rounding.proofs.RoundLaws.{round-down, round-up}
 use Rattle.rounding.proofs.round_abs.Statement.{statement}
 use Rattle.rounding.proofs.round_abs.Tie as tie
 

@@ -6,7 +6,7 @@ use lib.IntN.{natAbs}
 use mir.Syntax.{w64}
 use mir.Val.{toZ, ofZ}
 use mir.Facts.{toZ-ofZ}
-use Rattle.rounding.specs.RoundLaws.{round-by-sign, roundAbs-le}
+use Rattle.rounding.proofs.RoundLaws.{round-by-sign, roundAbs-le}
 use Rattle.rounding.proofs.round_half_away.Statement.{statement}
 use Rattle.rounding.proofs.round_half_away.Tie as tie
 

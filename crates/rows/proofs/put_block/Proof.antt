@@ -6,7 +6,7 @@ use borrow.Author.Needs.{needs}
 use Rattle.layout.specs.Labels.{block}
 use Rattle.writer.specs.Canon.{row-of, value-rows, exponent-rows}
 use Rattle.rowtext.specs.Rows.{opening-of}
-use Rattle.rows.specs.PutLaws.{room-front, room-behind, room-first, room-next, put-then, put-next}
+use Rattle.rows.proofs.PutLaws.{room-front, room-behind, room-first, room-next, put-then, put-next}
 use Rattle.rows.proofs.put_block.Statement.{statement}
 use Rattle.rows.proofs.put_block.Tie as tie
 

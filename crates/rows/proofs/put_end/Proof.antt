@@ -3,7 +3,7 @@ use native.Mathlib.Omega.{arith}
 use lib.IntN.{pos}
 use mir.Facts.{toZ-ofZ}
 use borrow.Author.Needs.{needs}
-use Rattle.rows.specs.Bounds.{end-row, start-within}
+use Rattle.rows.proofs.Bounds.{end-row, start-within}
 use Rattle.rows.proofs.put_end.Statement.{statement}
 use Rattle.rows.proofs.put_end.Tie as tie
 

@@ -3,7 +3,7 @@ use mathlib.Core.Path.{sym, _∙_}
 use native.Mathlib.Omega.{arith}
 use mir.Facts.{toZ-ofZ}
 use borrow.Author.Needs.{needs}
-use Rattle.rows.specs.PutLaws.{put-none}
+use Rattle.rows.proofs.PutLaws.{put-none}
 use Rattle.rows.proofs.BlockLaws.{exponent-none, exponent-one}
 use Rattle.rows.proofs.put_exponent.Statement.{statement}
 use Rattle.rows.proofs.put_exponent.Tie as tie

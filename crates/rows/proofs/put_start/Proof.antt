@@ -3,7 +3,7 @@ use native.Mathlib.Omega.{arith}
 use lib.IntN.{pos}
 use mir.Facts.{toZ-ofZ}
 use borrow.Author.Needs.{needs}
-use Rattle.rows.specs.Bounds.{start-row, start-within}
+use Rattle.rows.proofs.Bounds.{start-row, start-within}
 use Rattle.rows.proofs.put_start.Statement.{statement}
 use Rattle.rows.proofs.put_start.Tie as tie
 

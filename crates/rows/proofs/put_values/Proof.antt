@@ -6,7 +6,7 @@ use lib.ListN.{length}
 use borrow.Author.Needs.{needs}
 use Rattle.writer.specs.Canon.{value-row, value-rows}
 use Rattle.rows.specs.Put.{Leads}
-use Rattle.rows.specs.PutLaws.{room-first, leads-self, leads-next}
+use Rattle.rows.proofs.PutLaws.{room-first, leads-self, leads-next}
 use Rattle.rows.proofs.BlockLaws.{values-step, values-rest, values-from}
 use Rattle.rows.proofs.put_values.Statement.{statement}
 use Rattle.rows.proofs.put_values.Tie as tie

@@ -11,10 +11,10 @@ use lib.Seq.{length-take-le}
 use denote.Ref.{now}
 use Rattle.nodes.specs.Nodes.{plain}
 use Rattle.tally.specs.Figures.{Bounded, nodes-in, figures, joined, Ready}
-use Rattle.tally.specs.FigureLaws.{joined-none, bounded-joined, nodes-joined, bounded-numbers, nodes-numbers}
+use Rattle.tally.proofs.FigureLaws.{joined-none, bounded-joined, nodes-joined, bounded-numbers, nodes-numbers}
 use Rattle.tally.specs.declared.Tally.{Tally}
 use Rattle.setfigures.specs.Parts.{blocks-nodes}
-use Rattle.setfigures.specs.LoopLaws.{blocks-next, blocks-end}
+use Rattle.setfigures.proofs.LoopLaws.{blocks-next, blocks-end}
 use Rattle.setfigures.proofs.blocks_tally.Statement.{statement}
 use Rattle.setfigures.proofs.blocks_tally.Tie as tie
 

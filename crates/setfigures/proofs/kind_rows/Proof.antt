@@ -13,12 +13,12 @@ use denote.Ref.{now}
 use Rattle.areas.specs.Lists.{flat, tab}
 use Rattle.numbers.proofs.SetLaws.{sets-append}
 use Rattle.tally.specs.Figures.{Bounded, nodes-in, figures, joined, Ready}
-use Rattle.tally.specs.FigureLaws.{joined-none, bounded-joined, nodes-joined}
+use Rattle.tally.proofs.FigureLaws.{joined-none, bounded-joined, nodes-joined}
 use Rattle.tally.specs.Rows.{row}
 use Rattle.tally.specs.declared.Tally.{Tally}
 use Rattle.setfigures.specs.Parts.{part-nodes, parts-nodes, part-row, parts-rows, MapHolds}
-use Rattle.setfigures.specs.LoopLaws.{maps-next, maps-end, part-bounded, part-count, kind-map, parts-ready}
-use Rattle.setfigures.specs.RowLaws.{rows-next, rows-end, rows-length}
+use Rattle.setfigures.proofs.LoopLaws.{maps-next, maps-end, part-bounded, part-count, kind-map, parts-ready}
+use Rattle.setfigures.proofs.RowLaws.{rows-next, rows-end, rows-length}
 use Rattle.setfigures.proofs.kind_rows.Statement.{statement}
 use Rattle.setfigures.proofs.kind_rows.Tie as tie
 

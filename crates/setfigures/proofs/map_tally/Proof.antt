@@ -9,12 +9,12 @@ use lib.IntN.{ℤ}
 use lib.ListN.{length, take, drop, length-drop}
 use lib.Seq.{take-all, length-take-le}
 use denote.Ref.{now}
-use Rattle.kit.specs.Answer.{pick-yes, pick-no}
-use Rattle.kit.specs.Truth.{truth-true, truth-false}
+use Rattle.kit.proofs.AnswerLaws.{pick-yes, pick-no}
+use Rattle.kit.proofs.TruthLaws.{truth-true, truth-false}
 use Rattle.mapset.specs.Areas.{Present, present?}
 use Rattle.nodes.specs.Value.{kind-of}
 use Rattle.tally.specs.Figures.{figures}
-use Rattle.tally.specs.FigureLaws.{figures-empty}
+use Rattle.tally.proofs.FigureLaws.{figures-empty}
 use Rattle.setfigures.specs.Parts.{part-nodes, BlocksHold}
 use Rattle.setfigures.proofs.map_tally.Statement.{statement}
 use Rattle.setfigures.proofs.map_tally.Tie as tie

@@ -2,9 +2,9 @@
 use borrow.Author.Needs.{needs}
 use native.Mathlib.Omega.{arith}
 use denote.Ref.{now}
-use Rattle.kit.specs.Truth.{both, fails}
+use Rattle.kit.proofs.TruthLaws.{both, fails}
 use Rattle.mapset.specs.Sound.{starts?, runs?, epochs?}
-use Rattle.mapset.specs.SoundLaws.{first-epoch, some-epoch}
+use Rattle.mapset.proofs.SoundLaws.{first-epoch, some-epoch}
 use Rattle.soundness.proofs.epochs_fit.Statement.{statement}
 use Rattle.soundness.proofs.epochs_fit.Tie as tie
 

@@ -5,9 +5,10 @@ use native.Mathlib.Omega.{arith}
 use borrow.Author.Tests.{not-true, not-false}
 use Prim.Native.Nat.{_≤_, _-_, _+_}
 use lib.ListN.{length, drop}
-use Rattle.kit.specs.Truth.{truth, truth-true, truth-false}
+use Rattle.kit.specs.Truth.{truth}
+use Rattle.kit.proofs.TruthLaws.{truth-true, truth-false}
 use Rattle.mapset.specs.Sound.{runs?}
-use Rattle.mapset.specs.SoundLaws.{runs-next, runs-stop, runs-end}
+use Rattle.mapset.proofs.SoundLaws.{runs-next, runs-stop, runs-end}
 use Rattle.soundness.proofs.epochs_run.Statement.{statement}
 use Rattle.soundness.proofs.epochs_run.Tie as tie
 

@@ -6,11 +6,11 @@ use native.Mathlib.Decide.{decLe}
 use Prim.Native.Nat.{ℕ, _*_, _≤_}
 use denote.Ref.{now}
 use Rattle.kit.specs.Answer.{pick}
-use Rattle.kit.specs.Truth.{both, le-tells}
+use Rattle.kit.proofs.TruthLaws.{both, le-tells}
 use Rattle.mapset.specs.declared.Kind.the-variants as K
 use Rattle.mapset.specs.Areas.{blocks, values, value-need, nowhere?}
 use Rattle.mapset.specs.Sound.{lengths?}
-use Rattle.mapset.specs.SoundLaws.{few-values, few-blocks}
+use Rattle.mapset.proofs.SoundLaws.{few-values, few-blocks}
 use Rattle.soundness.proofs.lengths_fit.Statement.{statement}
 use Rattle.soundness.proofs.lengths_fit.Tie as tie
 

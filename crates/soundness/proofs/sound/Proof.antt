@@ -9,10 +9,11 @@ use lib.ListN.{length, take}
 use lib.Seq.{length-take-le}
 use denote.Ref.{now}
 use Rattle.kit.specs.Answer.{×-dec}
-use Rattle.kit.specs.Truth.{truth, truth-true, truth-false, fails, both, truth-same}
+use Rattle.kit.specs.Truth.{truth}
+use Rattle.kit.proofs.TruthLaws.{truth-true, truth-false, fails, both, truth-same}
 use Rattle.mapset.specs.Areas.{Areas, six}
 use Rattle.mapset.specs.Sound.{HeaderSays, lengths, epochs?, marks?, lengths?}
-use Rattle.mapset.specs.SoundLaws.{sound?, sound-groups, groups-sound}
+use Rattle.mapset.specs.SoundDecided.{sound?, sound-groups, groups-sound}
 use Rattle.soundness.proofs.sound.Statement.{statement}
 use Rattle.soundness.proofs.sound.Tie as tie
 

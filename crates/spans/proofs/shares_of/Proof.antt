@@ -7,7 +7,7 @@ use Prim.Native.Nat.{_+_, _<_}
 use lib.ListN.{length}
 use denote.Ref.{now}
 use Rattle.spans.specs.Time.{epoch, nearest, between}
-use Rattle.spans.specs.TimeLaws.{nearest-early, nearest-late, uses-last}
+use Rattle.spans.proofs.TimeLaws.{nearest-early, nearest-late, uses-last}
 use Rattle.spans.proofs.shares_of.Statement.{statement}
 use Rattle.spans.proofs.shares_of.Tie as tie
 

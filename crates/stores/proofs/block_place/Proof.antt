@@ -4,9 +4,6 @@ use native.Mathlib.Omega.{arith}
 use borrow.Author.Needs.{needs}
 use Rattle.stores.proofs.block_place.Statement.{statement}
 use Rattle.stores.proofs.block_place.Tie as tie
-use Rattle.stores.proofs.block_place.Reads as reads
-use Rattle.stores.proofs.block_place.Lts as lts
-use Rattle.stores.proofs.less_one.Reads as less-one-reads
 
 less-one-requires : tie.Need-less-one-requires
 less-one-requires c κs = search needs

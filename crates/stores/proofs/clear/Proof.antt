@@ -9,8 +9,6 @@ use mir.Facts.{toZ-ofZ}
 use Rattle.stores.proofs.ClearLaws.{Cleared, cleared-none, cleared-more, cleared-done}
 use Rattle.stores.proofs.clear.Statement.{statement}
 use Rattle.stores.proofs.clear.Tie as tie
-use Rattle.stores.proofs.clear.Reads as reads
-use Rattle.stores.proofs.clear.Lts as lts
 
 abbrev Inv-loop : tie.InvT-loop
 Inv-loop area₀ v j₀ area j = Cleared (toZ w32 v) area₀ area j

@@ -6,9 +6,6 @@ use lib.Seq.{length-take-le}
 use borrow.Author.Needs.{needs}
 use Rattle.stores.proofs.clear_front.Statement.{statement}
 use Rattle.stores.proofs.clear_front.Tie as tie
-use Rattle.stores.proofs.clear_front.Reads as reads
-use Rattle.stores.proofs.clear_front.Lts as lts
-use Rattle.stores.proofs.clear.Reads as clear-reads
 
 slice-relend-prefix-clear : tie.Need-slice-relend-prefix-clear
 slice-relend-prefix-clear c = search needs

@@ -5,8 +5,6 @@ use mathlib.Core.Path.{refl}
 use Rattle.stores.proofs.ClearLaws.{Cleared, cleared-none, cleared-more, cleared-done}
 use Rattle.stores.proofs.clear_marks.Statement.{statement}
 use Rattle.stores.proofs.clear_marks.Tie as tie
-use Rattle.stores.proofs.clear_marks.Reads as reads
-use Rattle.stores.proofs.clear_marks.Lts as lts
 
 abbrev Inv-loop : tie.InvT-loop
 Inv-loop marks₀ j₀ marks j = Cleared 0 marks₀ marks j

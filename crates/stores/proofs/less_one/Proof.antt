@@ -1,8 +1,6 @@
 use native.Mathlib.Omega.{arith}
 use Rattle.stores.proofs.less_one.Statement.{statement}
 use Rattle.stores.proofs.less_one.Tie as tie
-use Rattle.stores.proofs.less_one.Reads as reads
-use Rattle.stores.proofs.less_one.Lts as lts
 
 returns : tie.Need-returns
 returns c = omega arith

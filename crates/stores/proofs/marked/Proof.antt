@@ -3,8 +3,6 @@ use Rattle.stores.proofs.StoreLaws.{rms-two, rms-three, rms-else, heigh
 use borrow.Author.Needs.{needs}
 use Rattle.stores.proofs.marked.Statement.{statement}
 use Rattle.stores.proofs.marked.Tie as tie
-use Rattle.stores.proofs.marked.Reads as reads
-use Rattle.stores.proofs.marked.Lts as lts
 
 enum-told : tie.Need-enum-told
 enum-told c = search needs

@@ -6,10 +6,6 @@ use lib.Seq.{length-take-le}
 use borrow.Author.Needs.{needs}
 use Rattle.stores.proofs.prefill.Statement.{statement}
 use Rattle.stores.proofs.prefill.Tie as tie
-use Rattle.stores.proofs.prefill.Reads as reads
-use Rattle.stores.proofs.prefill.Lts as lts
-use Rattle.stores.proofs.clear_front.Reads as clear-front-reads
-use Rattle.stores.proofs.clear_marks.Reads as clear-marks-reads
 
 mul-all : tie.Need-mul-all
 mul-all c = search needs

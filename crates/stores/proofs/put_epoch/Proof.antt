@@ -3,9 +3,6 @@ use lib.ListN.{set}
 use borrow.Author.Needs.{needs}
 use Rattle.stores.proofs.put_epoch.Statement.{statement}
 use Rattle.stores.proofs.put_epoch.Tie as tie
-use Rattle.stores.proofs.put_epoch.Reads as reads
-use Rattle.stores.proofs.put_epoch.Lts as lts
-use Rattle.stores.proofs.less_one.Reads as less-one-reads
 
 less-one-requires : tie.Need-less-one-requires
 less-one-requires c κs = search needs

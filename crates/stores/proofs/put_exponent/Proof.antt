@@ -7,9 +7,6 @@ use Rattle.stores.proofs.StoreLaws.{set-both}
 use borrow.Author.Needs.{needs}
 use Rattle.stores.proofs.put_exponent.Statement.{statement}
 use Rattle.stores.proofs.put_exponent.Tie as tie
-use Rattle.stores.proofs.put_exponent.Reads as reads
-use Rattle.stores.proofs.put_exponent.Lts as lts
-use Rattle.stores.proofs.block_place.Reads as block-place-reads
 
 mul-s : tie.Need-mul-s
 mul-s c = search needs

@@ -5,10 +5,6 @@ use Rattle.stores.proofs.StoreLaws.{set-both}
 use borrow.Author.Needs.{needs}
 use Rattle.stores.proofs.put_mark.Statement.{statement}
 use Rattle.stores.proofs.put_mark.Tie as tie
-use Rattle.stores.proofs.put_mark.Reads as reads
-use Rattle.stores.proofs.put_mark.Lts as lts
-use Rattle.stores.proofs.less_one.Reads as less-one-reads
-use Rattle.stores.proofs.marked.Reads as marked-reads
 
 less-one-requires : tie.Need-less-one-requires
 less-one-requires c κs = search needs

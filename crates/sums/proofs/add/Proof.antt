@@ -7,7 +7,7 @@ use mir.Syntax.{w32, w64}
 use mir.Val.{toZ, ofZ}
 use Rattle.sums.specs.Sums.{Room}
 use Rattle.sums.specs.declared.Sum.the-variants as S
-use Rattle.sums.specs.SumLaws.{add-lacks, add-none, add-some}
+use Rattle.sums.proofs.SumLaws.{add-lacks, add-none, add-some}
 use Rattle.sums.proofs.add.Statement.{statement}
 use Rattle.sums.proofs.add.Tie as tie
 use Rattle.nodes.specs.Nodes.{bare}

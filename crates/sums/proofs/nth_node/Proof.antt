@@ -2,7 +2,7 @@
 use borrow.Author.Needs.{needs}
 use mathlib.Core.Path.{sym, _∙_}
 use native.Mathlib.Omega.{arith}
-use Rattle.sums.specs.SumLaws.{early-node, late-node}
+use Rattle.sums.proofs.SumLaws.{early-node, late-node}
 use Rattle.sums.proofs.nth_node.Statement.{statement}
 use Rattle.sums.proofs.nth_node.Tie as tie
 

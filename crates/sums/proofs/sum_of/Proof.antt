@@ -5,11 +5,11 @@ use Prim.Native.Nat.{_-_, _≤_, _<_}
 use lib.IntN.{pos}
 use lib.ListN.{length, drop, getD, drop-of-length-le}
 use denote.Ref.{now}
-use Rattle.kit.specs.ListLaws.{all-in}
+use Rattle.kit.proofs.ListLaws.{all-in}
 use Rattle.nodes.specs.Value.{value}
 use Rattle.sums.specs.Mean.{spread, terms, weight}
 use Rattle.sums.specs.Sums.{Reaches, Room, add-value, add-all}
-use Rattle.sums.specs.SumLaws.{this-room, next-room, next-sum, eight-nodes}
+use Rattle.sums.proofs.SumLaws.{this-room, next-room, next-sum, eight-nodes}
 use Rattle.sums.specs.declared.Sum.the-variants as S
 use Rattle.nodes.specs.declared.Weighed.{Weighed}
 use Rattle.nodes.specs.Nodes.{corner}

@@ -5,9 +5,9 @@ use denote.Ref.{now}
 use Rattle.nodes.specs.Value.{kind-of, value}
 use native.Mathlib.Omega.{arith}
 use Rattle.sums.specs.Sums.{add-value}
-use Rattle.nodes.specs.NodeLaws.{small-value, bare-node}
+use Rattle.nodes.proofs.NodeLaws.{small-value, bare-node}
 use Rattle.nodes.specs.Nodes.{bare}
-use Rattle.sums.specs.SumLaws.{small-node, add-weightless}
+use Rattle.sums.proofs.SumLaws.{small-node, add-weightless}
 use Rattle.sums.proofs.term.Statement.{statement}
 use Rattle.sums.proofs.term.Tie as tie
 

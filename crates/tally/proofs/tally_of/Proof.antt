@@ -13,9 +13,9 @@ use mir.Val.{toZ, ofZ}
 use mir.Facts.{toZ-ofZ}
 use Rattle.nodes.specs.Nodes.{plain, in-node, bare}
 use Rattle.nodes.specs.Value.{kind-of}
-use Rattle.nodes.specs.NodeLaws.{small-plain, bare-node}
+use Rattle.nodes.proofs.NodeLaws.{small-plain, bare-node}
 use Rattle.tally.specs.Figures.{Bounded, nodes-in, figures, joined, single, Ready}
-use Rattle.tally.specs.FigureLaws.{joined-none, bounded-joined, nodes-joined, nodes-single, small-single, figures-next, figures-end}
+use Rattle.tally.proofs.FigureLaws.{joined-none, bounded-joined, nodes-joined, nodes-single, small-single, figures-next, figures-end}
 use Rattle.tally.proofs.tally_of.Statement.{statement}
 use Rattle.tally.proofs.tally_of.Tie as tie
 

@@ -12,7 +12,8 @@ use mir.Val.{toZ, ofZ}
 use mir.Facts.{toZ-ofZ}
 use Rattle.kit.specs.Answer.{all-dec}
 use Rattle.kit.specs.Integer.{between?}
-use Rattle.kit.specs.Truth.{truth, truth-true, truth-false, all-next, all-stop, all-end}
+use Rattle.kit.specs.Truth.{truth}
+use Rattle.kit.proofs.TruthLaws.{truth-true, truth-false, all-next, all-stop, all-end}
 use Rattle.valid.proofs.all_between.Statement.{statement}
 use Rattle.valid.proofs.all_between.Tie as tie
 

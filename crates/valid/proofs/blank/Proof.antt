@@ -12,7 +12,8 @@ use mir.Val.{toZ, ofZ}
 use mir.Facts.{toZ-ofZ}
 use Rattle.kit.specs.Answer.{⊎-dec, all-dec}
 use Rattle.kit.specs.Integer.{int?}
-use Rattle.kit.specs.Truth.{truth, truth-true, truth-false}
+use Rattle.kit.specs.Truth.{truth}
+use Rattle.kit.proofs.TruthLaws.{truth-true, truth-false}
 use Rattle.mapset.specs.Areas.{present?}
 use Rattle.areas.specs.ValidDecided.{blank?}
 use Rattle.valid.specs.Groups.{least}

@@ -10,7 +10,8 @@ use lib.ListN.{length, take, drop}
 use lib.Seq.{length-take-le}
 use denote.Ref.{now}
 use Rattle.kit.specs.Answer.{×-dec, all-dec}
-use Rattle.kit.specs.Truth.{truth, both}
+use Rattle.kit.specs.Truth.{truth}
+use Rattle.kit.proofs.TruthLaws.{both}
 use Rattle.areas.specs.ValidDecided.{value?, blank?}
 use Rattle.valid.specs.Groups.{kind?, kind-need}
 use Rattle.valid.proofs.kind_fits.Statement.{statement}

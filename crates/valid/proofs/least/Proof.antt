@@ -1,7 +1,7 @@
 -- `valid::least` meets its contract.
 use mathlib.Core.Path.{sym}
 use native.Mathlib.Omega.{arith}
-use Rattle.kit.specs.Answer.{pick-yes, pick-no}
+use Rattle.kit.proofs.AnswerLaws.{pick-yes, pick-no}
 use Rattle.valid.specs.Groups.{least}
 use Rattle.valid.proofs.least.Statement.{statement}
 use Rattle.valid.proofs.least.Tie as tie

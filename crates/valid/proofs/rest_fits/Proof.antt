@@ -10,12 +10,12 @@ use lib.ListN.{length, take, drop}
 use lib.Seq.{length-take-le}
 use denote.Ref.{now}
 use Rattle.kit.specs.Answer.{×-dec, all-dec}
-use Rattle.kit.specs.Truth.{truth, both}
+use Rattle.kit.specs.Truth.{truth}
+use Rattle.kit.proofs.TruthLaws.{both}
 use Rattle.mapset.specs.declared.Kind.{Kind}
 use Rattle.mapset.specs.declared.Kind.the-variants as K
 use Rattle.mapset.specs.Areas.{Areas, blocks, six}
-use Rattle.layout.specs.Layout.{per-map}
-use Rattle.reading.specs.Maps.{exponent?}
+use Rattle.layout.specs.Layout.{per-map, exponent?}
 use Rattle.areas.specs.Valid.{needed, values-in}
 use Rattle.areas.specs.Stores.{first-of}
 use Rattle.valid.specs.Groups.{kind?, kind-need, Holds, of-kind?, rest?}

@@ -9,7 +9,8 @@ use mir.Val.{toZ, ofZ}
 use mir.Facts.{toZ-ofZ}
 use Rattle.kit.specs.Answer.{⊎-dec, all-dec}
 use Rattle.kit.specs.Integer.{int?}
-use Rattle.kit.specs.Truth.{truth, truth-true, truth-false, truth-same, holds}
+use Rattle.kit.specs.Truth.{truth}
+use Rattle.kit.proofs.TruthLaws.{truth-true, truth-false, truth-same, holds}
 use Rattle.mapset.specs.Areas.{present?}
 use Rattle.valid.proofs.there_or.Statement.{statement}
 use Rattle.valid.proofs.there_or.Tie as tie

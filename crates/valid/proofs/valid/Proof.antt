@@ -3,7 +3,8 @@ use borrow.Author.Needs.{needs}
 use mathlib.Core.Path.{_≡_, sym, _∙_}
 use borrow.Author.Tests.{not-true, not-false}
 use denote.Ref.{now}
-use Rattle.kit.specs.Truth.{truth, truth-true, truth-false}
+use Rattle.kit.specs.Truth.{truth}
+use Rattle.kit.proofs.TruthLaws.{truth-true, truth-false}
 use Rattle.mapset.specs.Areas.{Areas, Sound, six}
 use Rattle.areas.specs.Valid.{needed}
 use Rattle.valid.specs.Groups.{rest?}

@@ -4,10 +4,6 @@ use Rattle.values.proofs.ValueLaws.{judged}
 use borrow.Author.Needs.{needs}
 use Rattle.values.proofs.cells_in.Statement.{statement}
 use Rattle.values.proofs.cells_in.Tie as tie
-use Rattle.values.proofs.cells_in.Reads as reads
-use Rattle.values.proofs.cells_in.Lts as lts
-use Rattle.values.proofs.rest_in.Reads as rest-in-reads
-use Rattle.values.proofs.values_in.Reads as values-in-reads
 
 values-in-requires : tie.Need-values-in-requires
 values-in-requires c κs = search needs

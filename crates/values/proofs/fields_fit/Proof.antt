@@ -6,9 +6,6 @@ use borrow.Author.Needs.{needs}
 use Rattle.values.proofs.QuickRows.{Fit, fit-none, stand-on, fit-end, fit-last}
 use Rattle.values.proofs.fields_fit.Statement.{statement}
 use Rattle.values.proofs.fields_fit.Tie as tie
-use Rattle.values.proofs.fields_fit.Reads as reads
-use Rattle.values.proofs.fields_fit.Lts as lts
-use Rattle.values.proofs.sixteen_stand.Reads as sixteen-stand-reads
 
 abbrev Inv-loop : tie.InvT-loop
 Inv-loop text ends m n a₀ a = (a ≤ n) × Fit text a

@@ -9,9 +9,6 @@ use Rattle.forms.specs.declared.Field.the-variants.{Number}
 use Rattle.values.proofs.ValueLaws.{Put, put-none, put-more, put-all, okay-at, okay-room, five, field-whole}
 use Rattle.values.proofs.fill_row.Statement.{statement}
 use Rattle.values.proofs.fill_row.Tie as tie
-use Rattle.values.proofs.fill_row.Reads as reads
-use Rattle.values.proofs.fill_row.Lts as lts
-use Rattle.fields.proofs.int_value.Reads as int-value-reads
 
 abbrev Inv-loop : tie.InvT-loop
 Inv-loop line out₀ m k₀ out k = (k ≤ m) × Put line m k out

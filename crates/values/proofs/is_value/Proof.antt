@@ -5,8 +5,6 @@ use Rattle.values.proofs.ValueLaws.{field-short, field-whole}
 use borrow.Author.Needs.{needs}
 use Rattle.values.proofs.is_value.Statement.{statement}
 use Rattle.values.proofs.is_value.Tie as tie
-use Rattle.values.proofs.is_value.Reads as reads
-use Rattle.values.proofs.is_value.Lts as lts
 
 mul-a : tie.Need-mul-a
 mul-a c = search needs

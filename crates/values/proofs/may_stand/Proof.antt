@@ -3,10 +3,6 @@ use Rattle.values.proofs.QuickRows.{one-fits}
 use borrow.Author.Needs.{needs}
 use Rattle.values.proofs.may_stand.Statement.{statement}
 use Rattle.values.proofs.may_stand.Tie as tie
-use Rattle.values.proofs.may_stand.Reads as reads
-use Rattle.values.proofs.may_stand.Lts as lts
-use Rattle.fields.proofs.is_digit.Reads as is-digit-reads
-use Rattle.fields.proofs.may_precede.Reads as may-precede-reads
 
 may-precede-requires : tie.Need-may-precede-requires
 may-precede-requires c κs = search needs

@@ -1,15 +1,12 @@
 use native.Mathlib.Omega.{arith}
 use mathlib.Core.Path.{ap, _∙_}
 use Prim.Native.Nat.{_*_}
-use Rattle.kit.specs.ListLaws.{rest-of}
+use Rattle.kit.proofs.ListLaws.{rest-of}
 use Rattle.lines.specs.Lines.{passing, blank?}
 use Rattle.values.proofs.ValueLaws.{rest-none, rest-fine, rest-wrong, rest-le}
 use borrow.Author.Needs.{needs}
 use Rattle.values.proofs.rest_in.Statement.{statement}
 use Rattle.values.proofs.rest_in.Tie as tie
-use Rattle.values.proofs.rest_in.Reads as reads
-use Rattle.values.proofs.rest_in.Lts as lts
-use Rattle.lines.proofs.blanks_in.Reads as blanks-in-reads
 
 mul-a : tie.Need-mul-a
 mul-a c = search needs

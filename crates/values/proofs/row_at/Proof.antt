@@ -6,11 +6,6 @@ use Rattle.values.proofs.QuickRows.{fit-row}
 use borrow.Author.Needs.{needs}
 use Rattle.values.proofs.row_at.Statement.{statement}
 use Rattle.values.proofs.row_at.Tie as tie
-use Rattle.values.proofs.row_at.Reads as reads
-use Rattle.values.proofs.row_at.Lts as lts
-use Rattle.values.proofs.cells_in.Reads as cells-in-reads
-use Rattle.values.proofs.fields_fit.Reads as fields-fit-reads
-use Rattle.values.proofs.rest_in.Reads as rest-in-reads
 
 add-e : tie.Need-add-e
 add-e c = search needs

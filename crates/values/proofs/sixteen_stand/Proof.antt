@@ -3,9 +3,6 @@ use native.Mathlib.Omega.{arith}
 use Rattle.values.proofs.QuickRows.{Stood, stood-none, stood-next, stood-end}
 use Rattle.values.proofs.sixteen_stand.Statement.{statement}
 use Rattle.values.proofs.sixteen_stand.Tie as tie
-use Rattle.values.proofs.sixteen_stand.Reads as reads
-use Rattle.values.proofs.sixteen_stand.Lts as lts
-use Rattle.values.proofs.may_stand.Reads as may-stand-reads
 
 abbrev Inv-loop : tie.InvT-loop
 Inv-loop b ends a ok₀ j₀ ok j = (j ≤ 16) × Stood ok b ends a j

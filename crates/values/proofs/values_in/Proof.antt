@@ -6,9 +6,6 @@ use Rattle.values.specs.Values.{Passed}
 use Rattle.values.proofs.ValueLaws.{passed-none, passed-more, passed-wrong, passed-all}
 use Rattle.values.proofs.values_in.Statement.{statement}
 use Rattle.values.proofs.values_in.Tie as tie
-use Rattle.values.proofs.values_in.Reads as reads
-use Rattle.values.proofs.values_in.Lts as lts
-use Rattle.values.proofs.is_value.Reads as is-value-reads
 
 abbrev Inv-loop : tie.InvT-loop
 Inv-loop line m k₀ k = (k ≤ m) × Passed line m k

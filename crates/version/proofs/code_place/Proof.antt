@@ -9,9 +9,6 @@ use Rattle.layout.specs.Names.{place-of}
 use Rattle.labels.proofs.Laws.{place-of-next, place-of-here}
 use Rattle.version.proofs.code_place.Statement.{statement}
 use Rattle.version.proofs.code_place.Tie as tie
-use Rattle.version.proofs.code_place.Reads as reads
-use Rattle.version.proofs.code_place.Lts as lts
-use Rattle.version.proofs.has_code.Reads as has-code-reads
 
 abbrev Inv-loop : tie.InvT-loop
 Inv-loop line k₀ k = (k ≤ 11) × (k + place-of line 40 (drop k codes) ≡ place-of line 40 codes)

@@ -1,18 +1,11 @@
-use mathlib.Core.Path.{_≡_}
-use native.Mathlib.Omega.{arith}
-use Prim.Native.Nat.{ℕ, _<_}
-use lib.Dec.{eqb, eqb→eq}
-use lib.ListN.{length, getD}
-use mathlib.Core.List.{List, []}
+use lib.ListN.{getD}
+use mathlib.Core.List.{[]}
 use Rattle.layout.specs.Labels.{codes}
 use Rattle.layout.proofs.Laws.{code-length}
-use Rattle.version.specs.VersionLaws.{three-hold}
+use Rattle.version.proofs.VersionLaws.{three-hold}
 use borrow.Author.Needs.{needs}
 use Rattle.version.proofs.has_code.Statement.{statement}
 use Rattle.version.proofs.has_code.Tie as tie
-use Rattle.version.proofs.has_code.Reads as reads
-use Rattle.version.proofs.has_code.Lts as lts
-use Rattle.fields.proofs.byte_at.Reads as byte-at-reads
 
 byte-at-requires : tie.Need-byte-at-requires
 byte-at-requires c κs = search needs

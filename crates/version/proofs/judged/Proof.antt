@@ -5,12 +5,14 @@ use lib.IntN.{natAbs}
 use mir.Facts.{toZ-ofZ}
 use borrow.Author.Tests.{not-true, not-false}
 use borrow.Author.Needs.{needs}
-use Rattle.kit.specs.Answer.{need-yes, need-no, get, same}
+use Rattle.kit.proofs.AnswerLaws.{need-yes, need-no}
+use Rattle.kit.specs.Answer.{get, same}
 use Rattle.kit.specs.Range.{natural?}
-use Rattle.kit.specs.Truth.{truth, truth-true, truth-false}
+use Rattle.kit.specs.Truth.{truth}
+use Rattle.kit.proofs.TruthLaws.{truth-true, truth-false}
 use Rattle.mapset.specs.Decisions.{takes-code?}
 use Rattle.reading.specs.Read.{versioned}
-use Rattle.version.specs.VersionLaws.{type-yes, type-no, code-known, code-unknown}
+use Rattle.version.proofs.VersionLaws.{type-yes, type-no, code-known, code-unknown}
 use Rattle.version.proofs.judged.Statement.{statement}
 use Rattle.version.proofs.judged.Tie as tie
 

@@ -3,15 +3,10 @@ use Rattle.kit.specs.Answer.{bind}
 use mir.Syntax.{w32}
 use mir.Val.{SFits}
 use mir.Facts.{toZ-ofZ}
-use Rattle.version.specs.VersionLaws.{not-version, is-version}
+use Rattle.version.proofs.VersionLaws.{not-version, is-version}
 use borrow.Author.Needs.{needs}
 use Rattle.version.proofs.version_of.Statement.{statement}
 use Rattle.version.proofs.version_of.Tie as tie
-use Rattle.version.proofs.version_of.Reads as reads
-use Rattle.version.proofs.version_of.Lts as lts
-use Rattle.records.proofs.content.version_record.Reads as version-record-reads
-use Rattle.version.proofs.judged.Reads as judged-reads
-use Rattle.labels.proofs.label_of.Reads as label-of-reads
 
 label-of-requires : tie.Need-label-of-requires
 label-of-requires c κs = search needs

@@ -8,13 +8,13 @@ use Prim.Native.Nat.{ℕ}
 use lib.IntN.{ℤ}
 use denote.Ref.{now}
 use Rattle.kit.specs.Lists.{front}
-use Rattle.kit.specs.Truth.{truth-true, truth-false}
+use Rattle.kit.proofs.TruthLaws.{truth-true, truth-false}
 use Rattle.mapset.specs.Areas.{six}
 use Rattle.valid.proofs.Whole.{sound-long}
 use Rattle.setfigures.specs.SetFigures.{kind-nodes, map-nodes, kind-rows, set-rows, rows-need}
 use Rattle.week.specs.Week.{Given, given-as, ValidSet, Room, grown}
 use Rattle.week.specs.Sane.{Sane, comes}
-use Rattle.week.specs.SaneLaws.{answer-full, answer-insane, answer-invalid, answer-short, answer-into}
+use Rattle.week.proofs.SaneLaws.{answer-full, answer-insane, answer-invalid, answer-short, answer-into}
 use Rattle.week.specs.declared.Week.{Week}
 use Rattle.week.specs.declared.Added.the-variants as A
 use Rattle.week.specs.declared.Why.the-variants as Y

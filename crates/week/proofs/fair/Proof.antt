@@ -8,7 +8,7 @@ use lib.IntN.{natAbs}
 use mir.Syntax.{w64}
 use mir.Val.{toZ, ofZ}
 use Rattle.kit.specs.Answer.{×-dec}
-use Rattle.kit.specs.Truth.{fails, both, truth-same}
+use Rattle.kit.proofs.TruthLaws.{fails, both, truth-same}
 use Rattle.week.specs.Sane.{fit?, fair?}
 use Rattle.week.proofs.fair.Statement.{statement}
 use Rattle.week.proofs.fair.Tie as tie

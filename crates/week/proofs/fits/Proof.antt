@@ -3,7 +3,7 @@ use borrow.Author.Needs.{needs}
 use mathlib.Core.Path.{_≡_}
 use mir.Syntax.{w32}
 use mir.Val.{toZ, ofZ}
-use Rattle.week.specs.SaneLaws.{fit-nothing, fit-from}
+use Rattle.week.proofs.SaneLaws.{fit-nothing, fit-from}
 use Rattle.week.proofs.fits.Statement.{statement}
 use Rattle.week.proofs.fits.Tie as tie
 

@@ -16,9 +16,9 @@ use Rattle.tally.specs.Figures.{figures, joined}
 use Rattle.tally.specs.declared.Tally.{Tally}
 use Rattle.numbers.proofs.SetLaws.{sets-append, sets-front}
 use Rattle.setfigures.specs.SetFigures.{kind-figures, kind-rows, set-rows, rows-need}
-use Rattle.setfigures.specs.RowLaws.{kind-rows-length, set-rows-length}
+use Rattle.setfigures.proofs.RowLaws.{kind-rows-length, set-rows-length}
 use Rattle.week.specs.Week.{grown}
-use Rattle.week.specs.WeekLaws.{same}
+use Rattle.week.proofs.WeekLaws.{same}
 use Rattle.week.specs.Sane.{Fair}
 use Rattle.week.specs.Takes.{Takes, taken, stored}
 use Rattle.week.proofs.Grown.{kind-ready, kind-parts, kind-parts-rows}

@@ -15,7 +15,7 @@ use Rattle.layout.specs.Layout.{per-map}
 use Rattle.tally.specs.Figures.{figures, joined}
 use Rattle.tally.specs.declared.Tally.{Tally}
 use Rattle.setfigures.specs.Parts.{parts-nodes, parts-rows, KindHolds}
-use Rattle.setfigures.specs.LoopLaws.{parts-ready}
+use Rattle.setfigures.proofs.LoopLaws.{parts-ready}
 use Rattle.week.specs.Takes.{taken, stored}
 use Rattle.week.proofs.kind_into.Statement.{statement}
 use Rattle.week.proofs.kind_into.Tie as tie

@@ -1,7 +1,7 @@
 -- `week::sane` meets its contract.
 use borrow.Author.Needs.{needs}
 use Rattle.kit.specs.Answer.{×-dec}
-use Rattle.kit.specs.Truth.{both}
+use Rattle.kit.proofs.TruthLaws.{both}
 use Rattle.week.specs.Sane.{fair?, sane?}
 use Rattle.week.proofs.sane.Statement.{statement}
 use Rattle.week.proofs.sane.Tie as tie

@@ -6,10 +6,10 @@ use lib.IntN.{pos, _-ℤ_}
 use mir.Syntax.{w64}
 use mir.Val.{toZ, ofZ, SFits}
 use mir.Facts.{toZ-ofZ, toZ-pos}
-use Rattle.kit.specs.Order.{less-size}
-use Rattle.kit.specs.Parts.{size-fits}
-use Rattle.kit.specs.Truth.{holds, fails}
-use Rattle.week.specs.SaneLaws.{below, above, inside}
+use Rattle.kit.proofs.Order.{less-size}
+use Rattle.kit.proofs.Parts.{size-fits}
+use Rattle.kit.proofs.TruthLaws.{holds, fails}
+use Rattle.week.proofs.SaneLaws.{below, above, inside}
 use Rattle.week.proofs.within.Statement.{statement}
 use Rattle.week.proofs.within.Tie as tie
 

@@ -5,7 +5,8 @@ use mathlib.Core.Bool.{_&&_}
 use lib.IntN.{pos}
 use mir.Facts.{toZ-ofZ}
 use Rattle.kit.specs.Integer.{between?}
-use Rattle.kit.specs.Truth.{truth, truth-true, truth-false, both}
+use Rattle.kit.specs.Truth.{truth}
+use Rattle.kit.proofs.TruthLaws.{truth-true, truth-false, both}
 use Rattle.weekcrossing.proofs.RangeLaws.{still?, range-none, range-unfit}
 use Rattle.weekcrossing.proofs.no_range.Statement.{statement}
 use Rattle.weekcrossing.proofs.no_range.Tie as tie

@@ -9,7 +9,8 @@ use mir.Syntax.{w32, w64}
 use mir.Val.{toZ, ofZ}
 use mir.Facts.{toZ-ofZ}
 use Rattle.kit.specs.Integer.{between?}
-use Rattle.kit.specs.Truth.{truth, truth-true, truth-false, both}
+use Rattle.kit.specs.Truth.{truth}
+use Rattle.kit.proofs.TruthLaws.{truth-true, truth-false, both}
 use Rattle.tally.specs.declared.Range.the-variants as R
 use Rattle.weekcrossing.specs.WeekNumbers.{range-of}
 use Rattle.weekcrossing.proofs.RangeLaws.{Narrow, narrow?, narrow-fits, range-from, range-wide}

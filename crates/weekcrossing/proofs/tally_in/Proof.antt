@@ -6,7 +6,7 @@ use lib.IntN.{pos}
 use lib.ListN.{getD}
 use mir.Syntax.{w64}
 use mir.Val.{toZ, ofZ}
-use Rattle.tally.specs.FigureLaws.{same}
+use Rattle.tally.proofs.FigureLaws.{same}
 use Rattle.weekcrossing.specs.WeekNumbers.{count-of, range-of}
 use Rattle.weekcrossing.proofs.tally_in.Statement.{statement}
 use Rattle.weekcrossing.proofs.tally_in.Tie as tie

@@ -7,7 +7,7 @@ use lib.Signed.{ltZ}
 use mir.Syntax.{w64}
 use mir.Val.{toZ, ofZ}
 use denote.Ref.{now}
-use Rattle.week.specs.WeekLaws.{same}
+use Rattle.week.proofs.WeekLaws.{same}
 use Rattle.weekcrossing.specs.WeekNumbers.{count-of}
 use Rattle.weekcrossing.proofs.WeekLaws.{week-broken, week-plain}
 use Rattle.weekcrossing.proofs.week_in.Statement.{statement}

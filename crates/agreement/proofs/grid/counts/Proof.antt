@@ -1,8 +1,6 @@
 use borrow.Author.Needs.{needs}
 use Rattle.agreement.proofs.grid.counts.Statement.{statement}
 use Rattle.agreement.proofs.grid.counts.Tie as tie
-use Rattle.agreement.proofs.grid.counts.Reads as reads
-use Rattle.agreement.proofs.grid.counts.Lts as lts
 use mathlib.Core.Path.{_≡_, sym, ap, _∙_}
 use Prim.Native.Nat.{ℕ}
 use lib.Dec.{eqb}

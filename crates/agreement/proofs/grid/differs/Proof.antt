@@ -9,8 +9,6 @@ use Rattle.agreement.proofs.GridLaws.{first-differs, last-differs, step
 use borrow.Author.Needs.{needs}
 use Rattle.agreement.proofs.grid.differs.Statement.{statement}
 use Rattle.agreement.proofs.grid.differs.Tie as tie
-use Rattle.agreement.proofs.grid.differs.Reads as reads
-use Rattle.agreement.proofs.grid.differs.Lts as lts
 
 at-first : (c : tie.After-same) → c .same .result ≡ truth (int? (c .before .before .args .first) (c .before .before .args .a .first))
 at-first c =

@@ -12,11 +12,6 @@ use Rattle.agreement.proofs.GridLaws.{any-height, this-height}
 use borrow.Author.Needs.{needs}
 use Rattle.agreement.proofs.grid.height_agrees.Statement.{statement}
 use Rattle.agreement.proofs.grid.height_agrees.Tie as tie
-use Rattle.agreement.proofs.grid.height_agrees.Reads as reads
-use Rattle.agreement.proofs.grid.height_agrees.Lts as lts
-use Rattle.agreement.proofs.grid.is_node.Reads as is-node-reads
-use Rattle.agreement.proofs.grid.passed.Reads as passed-reads
-use Rattle.mapset.proofs.axes.nodes.Reads as nodes-reads
 
 few : (c : tie.After-passed) → c .passed .result ≤ 64 * 361
 few c =

@@ -4,12 +4,10 @@ use mir.Syntax.{w64}
 use mir.Facts.{toZ-ofZ, sfits-widen}
 use Rattle.kit.specs.Integer.{int?}
 use Rattle.kit.specs.Truth.{truth}
-use Rattle.kit.specs.IntegerLaws.{same-bits}
+use Rattle.kit.proofs.IntegerLaws.{same-bits}
 use borrow.Author.Needs.{needs}
 use Rattle.agreement.proofs.grid.is_node.Statement.{statement}
 use Rattle.agreement.proofs.grid.is_node.Tie as tie
-use Rattle.agreement.proofs.grid.is_node.Reads as reads
-use Rattle.agreement.proofs.grid.is_node.Lts as lts
 
 cast-result : tie.Need-cast-result
 cast-result c = rw (toZ-ofZ (c .fits .x)) (sfits-widen tt (c .fits .x))

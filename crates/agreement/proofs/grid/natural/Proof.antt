@@ -1,8 +1,6 @@
 use borrow.Author.Needs.{needs}
 use Rattle.agreement.proofs.grid.natural.Statement.{statement}
 use Rattle.agreement.proofs.grid.natural.Tie as tie
-use Rattle.agreement.proofs.grid.natural.Reads as reads
-use Rattle.agreement.proofs.grid.natural.Lts as lts
 use mathlib.Core.Path.{_≡_, sym, ap, _∙_}
 use lib.IntN.{ℤ, pos, natAbs}
 use lib.Signed.{ltZ}

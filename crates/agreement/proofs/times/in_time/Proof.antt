@@ -5,9 +5,6 @@ use Rattle.agreement.proofs.TimeLaws.{time-not, time-last, time-fine}
 use borrow.Author.Needs.{needs}
 use Rattle.agreement.proofs.times.in_time.Statement.{statement}
 use Rattle.agreement.proofs.times.in_time.Tie as tie
-use Rattle.agreement.proofs.times.in_time.Reads as reads
-use Rattle.agreement.proofs.times.in_time.Lts as lts
-use Rattle.agreement.proofs.times.is_after.Reads as is-after-reads
 
 is-after-requires : tie.Need-is-after-requires
 is-after-requires c κs = search needs

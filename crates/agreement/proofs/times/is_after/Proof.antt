@@ -3,8 +3,6 @@ use Rattle.agreement.proofs.TimeLaws.{after-first, after-next}
 use borrow.Author.Needs.{needs}
 use Rattle.agreement.proofs.times.is_after.Statement.{statement}
 use Rattle.agreement.proofs.times.is_after.Tie as tie
-use Rattle.agreement.proofs.times.is_after.Reads as reads
-use Rattle.agreement.proofs.times.is_after.Lts as lts
 
 returns : tie.Need-returns
 returns c =

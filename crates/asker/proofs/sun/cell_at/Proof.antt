@@ -5,9 +5,9 @@ use lib.IntN.{ℤ}
 use mir.Syntax.{w32, w64}
 use mir.Val.{toZ, ofZ}
 use mir.Facts.{toZ-ofZ}
-use Rattle.kit.specs.Parts.{size-of-fits}
+use Rattle.kit.proofs.Parts.{size-of-fits}
 use Rattle.asker.specs.Sun.{lon-at}
-use Rattle.asker.specs.AskLaws.{unit-small, lon-size}
+use Rattle.asker.proofs.AskLaws.{unit-small, lon-size}
 use Rattle.asker.proofs.sun.cell_at.Statement.{statement}
 use Rattle.asker.proofs.sun.cell_at.Tie as tie
 

@@ -10,7 +10,7 @@ use mir.Facts.{toZ-ofZ}
 use Rattle.cells.specs.Found.{CellFound}
 use Rattle.spans.specs.Time.{epoch}
 use Rattle.asker.specs.Sun.{unit-of, lon-at, CellAt}
-use Rattle.asker.specs.Strip.{plain-cells}
+use Rattle.asker.proofs.Strip.{plain-cells}
 use Rattle.asker.proofs.sun.cells_at.Statement.{statement}
 use Rattle.asker.proofs.sun.cells_at.Tie as tie
 

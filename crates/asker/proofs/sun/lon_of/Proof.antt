@@ -6,7 +6,7 @@ use mir.Syntax.{w32, w64}
 use mir.Val.{toZ, ofZ}
 use mir.Facts.{toZ-ofZ, sfits-widen}
 use Rattle.asker.specs.Sun.{moved}
-use Rattle.asker.specs.AskLaws.{plain-lon, sun-lon}
+use Rattle.asker.proofs.AskLaws.{plain-lon, sun-lon}
 use Rattle.asker.proofs.sun.lon_of.Statement.{statement}
 use Rattle.asker.proofs.sun.lon_of.Tie as tie
 

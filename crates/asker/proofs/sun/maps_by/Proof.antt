@@ -1,7 +1,7 @@
 -- `asker::sun::maps_by` meets its contract.
 use borrow.Author.Needs.{needs}
 use native.Mathlib.Omega.{arith}
-use Rattle.asker.specs.AskLaws.{other-maps}
+use Rattle.asker.proofs.AskLaws.{other-maps}
 use Rattle.asker.proofs.sun.maps_by.Statement.{statement}
 use Rattle.asker.proofs.sun.maps_by.Tie as tie
 

@@ -7,10 +7,10 @@ use lib.IntN.{ℤ, pos, natAbs, _-ℤ_, _*ℤ_}
 use mir.Syntax.{w32, w64}
 use mir.Val.{toZ, ofZ, SFits}
 use mir.Facts.{toZ-ofZ, toZ-pos, sfits-widen}
-use Rattle.kit.specs.Order.{less-size}
-use Rattle.kit.specs.Parts.{abs-scale, size-fits, size-of-fits}
+use Rattle.kit.proofs.Order.{less-size}
+use Rattle.kit.proofs.Parts.{abs-scale, size-fits, size-of-fits}
 use Rattle.asker.specs.Sun.{moved}
-use Rattle.asker.specs.AskLaws.{moved-size}
+use Rattle.asker.proofs.AskLaws.{moved-size}
 use Rattle.asker.proofs.sun.moved_to.Statement.{statement}
 use Rattle.asker.proofs.sun.moved_to.Tie as tie
 

@@ -11,7 +11,8 @@ use lib.IntN.{natAbs}
 use denote.Ref.{now}
 use mir.Syntax.{w32}
 use mir.Val.{toZ, ofZ}
-use Rattle.kit.specs.Truth.{truth-true, truth-false, Says}
+use Rattle.kit.proofs.TruthLaws.{truth-true, truth-false}
+use Rattle.kit.specs.Truth.{Says}
 use Rattle.mapset.specs.declared.Axis.{Axis}
 use Rattle.cells.specs.Place.{GoesRound}
 use Rattle.cells.specs.Found.{goes-round?}

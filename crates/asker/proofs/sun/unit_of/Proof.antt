@@ -1,6 +1,6 @@
 -- `asker::sun::unit_of` meets its contract.
 use mathlib.Core.Path.{sym}
-use Rattle.asker.specs.AskLaws.{plain-unit, sun-unit}
+use Rattle.asker.proofs.AskLaws.{plain-unit, sun-unit}
 use Rattle.asker.proofs.sun.unit_of.Statement.{statement}
 use Rattle.asker.proofs.sun.unit_of.Tie as tie
 

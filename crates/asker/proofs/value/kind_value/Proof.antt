@@ -2,7 +2,7 @@
 use mathlib.Core.Path.{_≡_, ap}
 use Rattle.mapset.specs.declared.Kind.the-variants.{Tec as tec, Rms as rms}
 use Rattle.nodes.specs.Value.{kind-of}
-use Rattle.nodes.specs.NodeLaws.{other-kind}
+use Rattle.nodes.proofs.NodeLaws.{other-kind}
 use Rattle.asker.proofs.value.kind_value.Statement.{statement}
 use Rattle.asker.proofs.value.kind_value.Tie as tie
 

@@ -7,11 +7,11 @@ use lib.IntN.{ℤ}
 use mir.Syntax.{w32, w64}
 use mir.Val.{toZ, ofZ, SFits}
 use mir.Facts.{toZ-ofZ}
-use Rattle.kit.specs.Parts.{size-fits}
+use Rattle.kit.proofs.Parts.{size-fits}
 use Rattle.rounding.specs.Round.{rounded}
-use Rattle.rounding.specs.RoundLaws.{round-size}
+use Rattle.rounding.proofs.RoundLaws.{round-size}
 use Rattle.sums.specs.Sums.{Ready}
-use Rattle.asker.specs.MeanLaws.{tecu-unit, km-unit}
+use Rattle.asker.proofs.MeanLaws.{tecu-unit, km-unit}
 use Rattle.sums.specs.declared.Sum.the-variants as S
 use Rattle.asker.proofs.value.mean_of.Statement.{statement}
 use Rattle.asker.proofs.value.mean_of.Tie as tie

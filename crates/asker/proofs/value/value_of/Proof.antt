@@ -6,7 +6,7 @@ use Rattle.nodes.specs.Value.{kind-of}
 use Rattle.sums.specs.Mean.{spread, terms}
 use Rattle.asker.specs.Ask.{in-told}
 use Rattle.sums.specs.Sums.{summed}
-use Rattle.sums.specs.SumLaws.{ready-terms, summed-mean}
+use Rattle.sums.proofs.SumLaws.{ready-terms, summed-mean}
 use Rattle.asker.proofs.value.value_of.Statement.{statement}
 use Rattle.asker.proofs.value.value_of.Tie as tie
 

@@ -1,7 +1,7 @@
 -- `calendar::Epoch::at_second` meets its contract.
 use native.Mathlib.Omega.{arith}
 use mathlib.Core.Path.{refl}
-use Rattle.calendar.specs.DateLaws.{dated-below}
+use Rattle.calendar.proofs.DateLaws.{dated-below}
 use borrow.Author.Needs.{needs}
 use Rattle.calendar.proofs.Epoch.at_second.Statement.{statement}
 use Rattle.calendar.proofs.Epoch.at_second.Tie as tie

@@ -6,12 +6,13 @@ use mathlib.Core.Path.{_≡_, sym, _∙_}
 use Prim.Native.Nat.{ℕ, _-_}
 use lib.IntN.{pos}
 use lib.ListN.{drop}
-use Rattle.kit.specs.Answer.{ok, pick-yes, pick-no}
+use Rattle.kit.specs.Answer.{ok}
+use Rattle.kit.proofs.AnswerLaws.{pick-yes, pick-no}
 use Rattle.kit.specs.Range.{Natural}
 use Rattle.kit.specs.Truth.{Says}
 use Rattle.days.specs.Years.{row, monthDays}
 use Rattle.calendar.specs.Calendar.{first, numbersOf, wrong, checked}
-use Rattle.days.specs.YearLaws.{row-two}
+use Rattle.days.proofs.YearLaws.{row-two}
 use Rattle.calendar.specs.declared.Epoch.{Epoch}
 use Rattle.calendar.proofs.Epoch.first_wrong.Statement.{statement}
 use Rattle.calendar.proofs.Epoch.first_wrong.Tie as tie

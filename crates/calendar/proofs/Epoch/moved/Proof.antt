@@ -7,7 +7,7 @@ use lib.IntN.{pos, _+ℤ_}
 use mir.Facts.{toZ-ofZ}
 use Rattle.calendar.specs.Calendar.{DateAt, toldWhen, The}
 use Rattle.calendar.specs.Inner.{Moment}
-use Rattle.calendar.specs.DateLaws.{dated-below}
+use Rattle.calendar.proofs.DateLaws.{dated-below}
 use Rattle.calendar.proofs.Epoch.moved.Statement.{statement}
 use Rattle.calendar.proofs.Epoch.moved.Tie as tie
 

@@ -2,7 +2,7 @@
 use native.Mathlib.Omega.{arith}
 use mathlib.Core.Path.{_≡_, refl, sym, _∙_}
 use Prim.Native.Nat.{ℕ}
-use Rattle.calendar.specs.FieldLaws.{dated-ok, dated-of}
+use Rattle.calendar.proofs.FieldLaws.{dated-ok, dated-of}
 use borrow.Author.Needs.{needs}
 use Rattle.calendar.proofs.Epoch.seconds.Statement.{statement}
 use Rattle.calendar.proofs.Epoch.seconds.Tie as tie

@@ -5,10 +5,6 @@ use Rattle.gathered.specs.Got.{texts-of}
 use borrow.Author.Needs.{needs}
 use Rattle.head.proofs.opening.handed.Statement.{statement}
 use Rattle.head.proofs.opening.handed.Tie as tie
-use Rattle.head.proofs.opening.handed.Reads as reads
-use Rattle.head.proofs.opening.handed.Lts as lts
-use Rattle.head.proofs.opening.blanks.Reads as blanks-reads
-use Rattle.head.proofs.opening.texts_of.Reads as texts-of-reads
 
 enum-told : tie.Need-enum-told
 enum-told c = search needs

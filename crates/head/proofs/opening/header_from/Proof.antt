@@ -6,20 +6,14 @@ use lib.ListN.{length, drop}
 use lib.IntN.{negsuc}
 use Rattle.layout.specs.Layout.{plain}
 use Rattle.reading.specs.Feed.{split, feed}
-use Rattle.reading.specs.Head.{heading}
-use Rattle.reading.specs.HeadLaws.{Got}
+use Rattle.reading.specs.Head.{heading, Got}
 use Rattle.reading.specs.Read.{nothing-yet}
 use Rattle.gathered.specs.Got.{slots-of, texts-of}
 use Rattle.head.specs.Opened.{from-state, Goes, Stops, Passes}
-use Rattle.head.specs.OpenedLaws.{begins, hands}
+use Rattle.head.proofs.OpenedLaws.{begins, hands}
 use Rattle.head.specs.declared.Onward.{Onward}
 use Rattle.head.proofs.opening.header_from.Statement.{statement}
 use Rattle.head.proofs.opening.header_from.Tie as tie
-use Rattle.head.proofs.opening.header_from.Reads as reads
-use Rattle.head.proofs.opening.header_from.Lts as lts
-use Rattle.head.proofs.opening.handed.Reads as handed-reads
-use Rattle.head.proofs.opening.pass.Reads as pass-reads
-use Rattle.gathered.proofs.nothing.Reads as nothing-reads
 
 -- the answer from the start is the answer from here
 abbrev Inv-loop : tie.InvT-loop

@@ -3,8 +3,6 @@ use mir.Facts.{toZ-ofZ}
 use borrow.Author.Needs.{needs}
 use Rattle.head.proofs.opening.led_to.Statement.{statement}
 use Rattle.head.proofs.opening.led_to.Tie as tie
-use Rattle.head.proofs.opening.led_to.Reads as reads
-use Rattle.head.proofs.opening.led_to.Lts as lts
 
 enum-told : tie.Need-enum-told
 enum-told c = search needs

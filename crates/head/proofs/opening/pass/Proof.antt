@@ -4,7 +4,7 @@ use mathlib.Core.Path.{_≡_, subst}
 use native.Mathlib.Omega.{arith}
 use lib.ListN.{length-take, length-drop}
 use Rattle.lines.specs.Leads.{Leads, LeadsRow}
-use Rattle.head.specs.OpenedLaws.{stops-over, stops-bad, leads-on}
+use Rattle.head.proofs.OpenedLaws.{stops-over, stops-bad, leads-on}
 use borrow.Author.Needs.{needs}
 use Rattle.head.proofs.opening.pass.Statement.{statement}
 use Rattle.head.proofs.opening.pass.Tie as tie

@@ -5,9 +5,9 @@ use mathlib.Core.Path.{subst}
 use lib.ListN.{length-take, length-drop}
 use Rattle.version.specs.Told.{toldVersioned}
 use Rattle.lines.specs.Leads.{Leads, LeadsRow}
-use Rattle.head.specs.Opened.{blank-texts}
+use Rattle.mapset.specs.Said.{blank-texts}
 use Rattle.head.specs.declared.Headed.the-variants.{Refused}
-use Rattle.head.specs.OpenedLaws.{hands, first-over, first-bad, first-no, first-versioned, continues}
+use Rattle.head.proofs.OpenedLaws.{hands, first-over, first-bad, first-no, first-versioned, continues}
 use borrow.Author.Needs.{needs}
 use Rattle.head.proofs.opening.read_header.Statement.{statement}
 use Rattle.head.proofs.opening.read_header.Tie as tie

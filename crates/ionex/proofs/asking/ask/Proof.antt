@@ -2,9 +2,6 @@ use mir.Facts.{toZ-ofZ}
 use borrow.Author.Needs.{needs}
 use Rattle.ionex.proofs.asking.ask.Statement.{statement}
 use Rattle.ionex.proofs.asking.ask.Tie as tie
-use Rattle.ionex.proofs.asking.ask.Reads as reads
-use Rattle.ionex.proofs.asking.ask.Lts as lts
-use Rattle.asker.proofs.ask.Reads as ask-reads
 
 ask-requires : tie.Need-ask-requires
 ask-requires c κs = search needs

@@ -6,13 +6,6 @@ use Rattle.crossing.specs.AskExported.{short, answered}
 use borrow.Author.Needs.{needs}
 use Rattle.ionex.proofs.asking.ionex_ask.Statement.{statement}
 use Rattle.ionex.proofs.asking.ionex_ask.Tie as tie
-use Rattle.ionex.proofs.asking.ionex_ask.Reads as reads
-use Rattle.ionex.proofs.asking.ionex_ask.Lts as lts
-use Rattle.crossing.proofs.put_answer.Reads as put-answer-reads
-use Rattle.crossing.proofs.too_short.Reads as too-short-reads
-use Rattle.ionex.proofs.asking.ask.Reads as ask-reads
-use Rattle.given.proofs.header_in.Reads as header-in-reads
-use Rattle.given.proofs.texts_in.Reads as texts-in-reads
 
 too-short-requires : tie.Need-too-short-requires
 too-short-requires c κs = search needs

@@ -1,9 +1,8 @@
 -- `ionex::biases::ionex_biases` meets its contract.
-use mathlib.Core.Path.{_∙_, sym, ap}
 use native.Mathlib.Omega.{arith}
 use Rattle.biasfill.specs.Flat.{lent}
 use Rattle.biasread.specs.Biased.{comes}
-use Rattle.biascrossing.specs.BiasesExported.{cross-short, cross-answer}
+use Rattle.biascrossing.proofs.Once.{cross-short, cross-answer}
 use borrow.Author.Needs.{needs}
 use Rattle.ionex.proofs.biases.ionex_biases.Statement.{statement}
 use Rattle.ionex.proofs.biases.ionex_biases.Tie as tie

@@ -2,9 +2,6 @@ use mir.Facts.{toZ-ofZ}
 use borrow.Author.Needs.{needs}
 use Rattle.ionex.proofs.delays.ask_delay.Statement.{statement}
 use Rattle.ionex.proofs.delays.ask_delay.Tie as tie
-use Rattle.ionex.proofs.delays.ask_delay.Reads as reads
-use Rattle.ionex.proofs.delays.ask_delay.Lts as lts
-use Rattle.askdelay.proofs.ask_delay.Reads as ask-delay-reads
 
 ask-delay-requires : tie.Need-ask-delay-requires
 ask-delay-requires c κs = search needs

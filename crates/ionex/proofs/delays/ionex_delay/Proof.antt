@@ -6,13 +6,6 @@ use Rattle.crossing.specs.DelayExported.{short, asked}
 use borrow.Author.Needs.{needs}
 use Rattle.ionex.proofs.delays.ionex_delay.Statement.{statement}
 use Rattle.ionex.proofs.delays.ionex_delay.Tie as tie
-use Rattle.ionex.proofs.delays.ionex_delay.Reads as reads
-use Rattle.ionex.proofs.delays.ionex_delay.Lts as lts
-use Rattle.crossing.proofs.put_asked_delay.Reads as put-asked-delay-reads
-use Rattle.crossing.proofs.too_short.Reads as too-short-reads
-use Rattle.ionex.proofs.delays.ask_delay.Reads as ask-delay-reads
-use Rattle.given.proofs.header_in.Reads as header-in-reads
-use Rattle.given.proofs.texts_in.Reads as texts-in-reads
 
 too-short-requires : tie.Need-too-short-requires
 too-short-requires c κs = search needs

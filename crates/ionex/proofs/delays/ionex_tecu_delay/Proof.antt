@@ -5,10 +5,6 @@ use Rattle.crossing.specs.DelayExported.{area-short, answered}
 use borrow.Author.Needs.{needs}
 use Rattle.ionex.proofs.delays.ionex_tecu_delay.Statement.{statement}
 use Rattle.ionex.proofs.delays.ionex_tecu_delay.Tie as tie
-use Rattle.ionex.proofs.delays.ionex_tecu_delay.Reads as reads
-use Rattle.ionex.proofs.delays.ionex_tecu_delay.Lts as lts
-use Rattle.crossing.proofs.put_delay.Reads as put-delay-reads
-use Rattle.ionex.proofs.delays.tecu_delay.Reads as tecu-delay-reads
 
 returns : tie.Need-returns
 returns c = area-short (omega (arith, c .if1 .taken))

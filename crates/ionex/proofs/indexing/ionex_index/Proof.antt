@@ -6,11 +6,6 @@ use Rattle.indexcrossing.proofs.CrossLaws.{small-epochs, cross-short, cross-ans
 use borrow.Author.Needs.{needs}
 use Rattle.ionex.proofs.indexing.ionex_index.Statement.{statement}
 use Rattle.ionex.proofs.indexing.ionex_index.Tie as tie
-use Rattle.ionex.proofs.indexing.ionex_index.Reads as reads
-use Rattle.ionex.proofs.indexing.ionex_index.Lts as lts
-use Rattle.crossing.proofs.put_reading.Reads as put-reading-reads
-use Rattle.crossing.proofs.too_short.Reads as too-short-reads
-use Rattle.ionex.proofs.indexing.make_index.Reads as make-index-reads
 
 too-short-requires : tie.Need-too-short-requires
 too-short-requires c κs = search needs

@@ -8,13 +8,6 @@ use Rattle.crossing.proofs.OwnLaws.{none, fit}
 use borrow.Author.Needs.{needs}
 use Rattle.ionex.proofs.indexing.ionex_indexed_node.Statement.{statement}
 use Rattle.ionex.proofs.indexing.ionex_indexed_node.Tie as tie
-use Rattle.ionex.proofs.indexing.ionex_indexed_node.Reads as reads
-use Rattle.ionex.proofs.indexing.ionex_indexed_node.Lts as lts
-use Rattle.crossing.proofs.too_short.Reads as too-short-reads
-use Rattle.given.proofs.header_in.Reads as header-in-reads
-use Rattle.given.proofs.texts_in.Reads as texts-in-reads
-use Rattle.indexcrossing.proofs.put_node.Reads as put-node-reads
-use Rattle.ionex.proofs.indexing.indexed_node.Reads as indexed-node-reads
 
 too-short-requires : tie.Need-too-short-requires
 too-short-requires c κs = search needs

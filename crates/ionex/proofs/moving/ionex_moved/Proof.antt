@@ -5,10 +5,6 @@ use Rattle.crossing.specs.MoveExported.{Moves, area-short, answered}
 use borrow.Author.Needs.{needs}
 use Rattle.ionex.proofs.moving.ionex_moved.Statement.{statement}
 use Rattle.ionex.proofs.moving.ionex_moved.Tie as tie
-use Rattle.ionex.proofs.moving.ionex_moved.Reads as reads
-use Rattle.ionex.proofs.moving.ionex_moved.Lts as lts
-use Rattle.crossing.proofs.put_moved.Reads as put-moved-reads
-use Rattle.ionex.proofs.moving.moved_second.Reads as moved-second-reads
 
 returns : tie.Need-returns
 returns c = area-short (omega (arith, c .if1 .taken))

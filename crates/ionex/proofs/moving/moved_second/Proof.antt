@@ -4,17 +4,12 @@ use lib.IntN.{ℤ}
 use mir.Facts.{toZ-ofZ}
 use Rattle.kit.specs.Answer.{Answer, ok, refused}
 use Rattle.calendar.specs.Calendar.{DateAt, Later, Refusal, toldFound, toldWhen, The}
-use Rattle.calendar.specs.DateLaws.{date-once}
+use Rattle.calendar.proofs.DateLaws.{date-once}
 use Rattle.calendar.specs.declared.Epoch.{Epoch}
 use Rattle.crossing.specs.MoveExported.{Moves}
 use borrow.Author.Needs.{needs}
 use Rattle.ionex.proofs.moving.moved_second.Statement.{statement}
 use Rattle.ionex.proofs.moving.moved_second.Tie as tie
-use Rattle.ionex.proofs.moving.moved_second.Reads as reads
-use Rattle.ionex.proofs.moving.moved_second.Lts as lts
-use Rattle.calendar.proofs.Epoch.at_second.Reads as at-second-reads
-use Rattle.calendar.proofs.Epoch.moved.Reads as moved-reads
-use Rattle.calendar.proofs.Epoch.seconds.Reads as seconds-reads
 
 -- the second of the date that comes later
 ended : {s : ℕ} {by : ℤ} {e f : Epoch} → DateAt e s → Later e by f → (a : Answer Refusal ℕ) → The (DateAt f) a → The (Moves s by) a

@@ -4,10 +4,6 @@ use Rattle.crossing.specs.NeedsExported.{area-short, answered}
 use borrow.Author.Needs.{needs}
 use Rattle.ionex.proofs.reader.ionex_needs.Statement.{statement}
 use Rattle.ionex.proofs.reader.ionex_needs.Tie as tie
-use Rattle.ionex.proofs.reader.ionex_needs.Reads as reads
-use Rattle.ionex.proofs.reader.ionex_needs.Lts as lts
-use Rattle.crossing.proofs.put_needs.Reads as put-needs-reads
-use Rattle.measuring.proofs.measure.Reads as measure-reads
 
 returns : tie.Need-returns
 returns c = area-short (inl (omega (arith, c .if1 .taken)))

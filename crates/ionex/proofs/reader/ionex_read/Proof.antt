@@ -6,11 +6,6 @@ use Rattle.crossing.proofs.ReadLaws.{small-epochs, cross-short, cross-answer}
 use borrow.Author.Needs.{needs}
 use Rattle.ionex.proofs.reader.ionex_read.Statement.{statement}
 use Rattle.ionex.proofs.reader.ionex_read.Tie as tie
-use Rattle.ionex.proofs.reader.ionex_read.Reads as reads
-use Rattle.ionex.proofs.reader.ionex_read.Lts as lts
-use Rattle.crossing.proofs.put_reading.Reads as put-reading-reads
-use Rattle.crossing.proofs.too_short.Reads as too-short-reads
-use Rattle.ionex.proofs.reader.read.Reads as read-reads
 
 too-short-requires : tie.Need-too-short-requires
 too-short-requires c κs = search needs

@@ -6,13 +6,6 @@ use Rattle.crossing.proofs.WriteLaws.{write-short, write-answer}
 use borrow.Author.Needs.{needs}
 use Rattle.ionex.proofs.writing.ionex_write.Statement.{statement}
 use Rattle.ionex.proofs.writing.ionex_write.Tie as tie
-use Rattle.ionex.proofs.writing.ionex_write.Reads as reads
-use Rattle.ionex.proofs.writing.ionex_write.Lts as lts
-use Rattle.crossing.proofs.put_written.Reads as put-written-reads
-use Rattle.crossing.proofs.too_short.Reads as too-short-reads
-use Rattle.ionex.proofs.writing.write.Reads as write-reads
-use Rattle.given.proofs.header_in.Reads as header-in-reads
-use Rattle.given.proofs.texts_in.Reads as texts-in-reads
 
 too-short-requires : tie.Need-too-short-requires
 too-short-requires c κs = search needs

@@ -3,11 +3,9 @@ use mathlib.Core.Path.{_≡_, sym, ap, _∙_}
 use lib.IntN.{natAbs}
 use mir.Syntax.{w32}
 use mir.Val.{toZ, ofZ}
-use Rattle.mapset.specs.JudgedLaws.{flat, solid}
+use Rattle.mapset.proofs.JudgedLaws.{flat, solid}
 use Rattle.mapset.proofs.axes.dimension_agrees.Statement.{statement}
 use Rattle.mapset.proofs.axes.dimension_agrees.Tie as tie
-use Rattle.mapset.proofs.axes.dimension_agrees.Reads as reads
-use Rattle.mapset.proofs.axes.dimension_agrees.Lts as lts
 
 step-size : (c : tie.After-size) → c .size .result ≡ natAbs (c .before .before .args .a .step)
 step-size c =

@@ -5,13 +5,10 @@ use lib.IntN.{natAbs, _-ℤ_}
 use mir.Syntax.{w32, w64}
 use mir.Val.{toZ, ofZ}
 use mir.Facts.{toZ-ofZ, sfits-widen}
-use Rattle.kit.specs.Parts.{size-of-fits, size-fits}
-use Rattle.kit.specs.Order.{less-size}
+use Rattle.kit.proofs.Parts.{size-of-fits, size-fits}
+use Rattle.kit.proofs.Order.{less-size}
 use Rattle.mapset.proofs.axes.distance.Statement.{statement}
 use Rattle.mapset.proofs.axes.distance.Tie as tie
-use Rattle.mapset.proofs.axes.distance.Reads as reads
-use Rattle.mapset.proofs.axes.distance.Lts as lts
-use Rattle.kit.proofs.magnitude.Reads as magnitude-reads
 
 module _ (s : tie.Start) where
   x-is : toZ w64 (ofZ w64 (toZ w32 (ofZ w32 (s .args .x)))) ≡ s .args .x

@@ -3,12 +3,10 @@ use borrow.Author.Tests.{eqb-true, eqb-false}
 use native.Mathlib.Decide.{ℕ-discrete}
 use lib.Dec.{eqb}
 use Prim.Native.Nat.{_%_}
-use Rattle.kit.specs.Truth.{tells}
-use Rattle.mapset.specs.JudgedLaws.{zero-divides}
+use Rattle.kit.proofs.TruthLaws.{tells}
+use Rattle.mapset.proofs.JudgedLaws.{zero-divides}
 use Rattle.mapset.proofs.axes.divides.Statement.{statement}
 use Rattle.mapset.proofs.axes.divides.Tie as tie
-use Rattle.mapset.proofs.axes.divides.Reads as reads
-use Rattle.mapset.proofs.axes.divides.Lts as lts
 
 returns : tie.Need-returns
 returns c = zero-divides _ _ (c .if1 .taken)

@@ -4,8 +4,6 @@ use mir.Facts.{toZ-ofZ}
 use Rattle.mapset.specs.Decisions.{end?}
 use Rattle.mapset.proofs.axes.end_fits.Statement.{statement}
 use Rattle.mapset.proofs.axes.end_fits.Tie as tie
-use Rattle.mapset.proofs.axes.end_fits.Reads as reads
-use Rattle.mapset.proofs.axes.end_fits.Lts as lts
 
 enum-told : tie.Need-enum-told
 enum-told c = search needs

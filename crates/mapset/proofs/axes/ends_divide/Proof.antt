@@ -5,14 +5,12 @@ use lib.IntN.{natAbs}
 use native.Mathlib.Decide.{ℕ-discrete}
 use mir.Syntax.{w32}
 use mir.Val.{toZ, ofZ}
-use Rattle.kit.specs.Truth.{truth, truth-true, truth-false, fails}
+use Rattle.kit.specs.Truth.{truth}
+use Rattle.kit.proofs.TruthLaws.{truth-true, truth-false, fails}
 use Rattle.mapset.specs.Judged.{ends?}
-use Rattle.mapset.specs.JudgedLaws.{last-divides}
+use Rattle.mapset.proofs.JudgedLaws.{last-divides}
 use Rattle.mapset.proofs.axes.ends_divide.Statement.{statement}
 use Rattle.mapset.proofs.axes.ends_divide.Tie as tie
-use Rattle.mapset.proofs.axes.ends_divide.Reads as reads
-use Rattle.mapset.proofs.axes.ends_divide.Lts as lts
-use Rattle.mapset.proofs.axes.divides.Reads as divides-reads
 
 step-size : (c : tie.After-size) → c .size .result ≡ natAbs (c .before .before .args .a .step)
 step-size c =

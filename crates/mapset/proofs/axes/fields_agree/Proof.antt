@@ -2,11 +2,6 @@ use borrow.Author.Needs.{needs}
 use mathlib.Core.Path.{refl}
 use Rattle.mapset.proofs.axes.fields_agree.Statement.{statement}
 use Rattle.mapset.proofs.axes.fields_agree.Tie as tie
-use Rattle.mapset.proofs.axes.fields_agree.Reads as reads
-use Rattle.mapset.proofs.axes.fields_agree.Lts as lts
-use Rattle.mapset.proofs.axes.heights_agree.Reads as heights-agree-reads
-use Rattle.mapset.proofs.axes.latitudes_agree.Reads as latitudes-agree-reads
-use Rattle.mapset.proofs.axes.longitudes_agree.Reads as longitudes-agree-reads
 
 enum-told : tie.Need-enum-told
 enum-told c = search needs

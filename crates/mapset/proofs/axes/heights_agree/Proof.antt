@@ -4,13 +4,9 @@ use lib.IntN.{ℤ, natAbs, _-ℤ_}
 use lib.Signed.{ltZ}
 use mir.Syntax.{w32}
 use mir.Val.{toZ, ofZ}
-use Rattle.mapset.specs.JudgedLaws.{one-height, many-heights, no-heights}
+use Rattle.mapset.proofs.JudgedLaws.{one-height, many-heights, no-heights}
 use Rattle.mapset.proofs.axes.heights_agree.Statement.{statement}
 use Rattle.mapset.proofs.axes.heights_agree.Tie as tie
-use Rattle.mapset.proofs.axes.heights_agree.Reads as reads
-use Rattle.mapset.proofs.axes.heights_agree.Lts as lts
-use Rattle.mapset.proofs.axes.distance.Reads as distance-reads
-use Rattle.mapset.proofs.axes.divides.Reads as divides-reads
 
 step-size : (c : tie.After-size) → c .size .result ≡ natAbs (c .before .before .args .a .step)
 step-size c =

@@ -4,17 +4,13 @@ use borrow.Author.Tests.{not-true, not-false}
 use lib.IntN.{ℤ}
 use mir.Syntax.{w32}
 use mir.Val.{toZ, ofZ}
-use Rattle.kit.specs.Truth.{truth, truth-true, truth-false}
-use Rattle.kit.specs.Answer.{pick-yes, pick-no}
+use Rattle.kit.specs.Truth.{truth}
+use Rattle.kit.proofs.TruthLaws.{truth-true, truth-false}
+use Rattle.kit.proofs.AnswerLaws.{pick-yes, pick-no}
 use Rattle.mapset.specs.Decisions.{end?, step?, together?}
 use Rattle.mapset.specs.Judged.{line, judged}
 use Rattle.mapset.proofs.axes.judge.Statement.{statement}
 use Rattle.mapset.proofs.axes.judge.Tie as tie
-use Rattle.mapset.proofs.axes.judge.Reads as reads
-use Rattle.mapset.proofs.axes.judge.Lts as lts
-use Rattle.mapset.proofs.axes.end_fits.Reads as end-fits-reads
-use Rattle.mapset.proofs.axes.fields_agree.Reads as fields-agree-reads
-use Rattle.mapset.proofs.axes.step_fits.Reads as step-fits-reads
 
 first : (c : tie.After-end-fits) → c .end-fits .result ≡ truth (end? (line (c .before .before .args .which)) (c .before .before .args .a .first))
 first c =

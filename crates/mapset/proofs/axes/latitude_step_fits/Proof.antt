@@ -2,11 +2,9 @@ use borrow.Author.Needs.{needs}
 use mathlib.Core.Path.{_≡_, sym, ap, _∙_}
 use lib.IntN.{natAbs}
 use mir.Facts.{toZ-ofZ}
-use Rattle.mapset.specs.JudgedLaws.{still, stepped}
+use Rattle.mapset.proofs.JudgedLaws.{still, stepped}
 use Rattle.mapset.proofs.axes.latitude_step_fits.Statement.{statement}
 use Rattle.mapset.proofs.axes.latitude_step_fits.Tie as tie
-use Rattle.mapset.proofs.axes.latitude_step_fits.Reads as reads
-use Rattle.mapset.proofs.axes.latitude_step_fits.Lts as lts
 
 sized : (c : tie.After-size) → c .size .result ≡ natAbs (c .before .args .d)
 sized c = c .size .ensures ∙ ap natAbs (toZ-ofZ (c .before .fits .d))

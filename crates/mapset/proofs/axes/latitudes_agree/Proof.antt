@@ -1,13 +1,9 @@
 use borrow.Author.Needs.{needs}
 use mathlib.Core.Path.{sym, _∙_}
-use Rattle.kit.specs.Truth.{truth-true, truth-false}
-use Rattle.mapset.specs.JudgedLaws.{latitudes-toward, latitudes-loose}
+use Rattle.kit.proofs.TruthLaws.{truth-true, truth-false}
+use Rattle.mapset.proofs.JudgedLaws.{latitudes-toward, latitudes-loose}
 use Rattle.mapset.proofs.axes.latitudes_agree.Statement.{statement}
 use Rattle.mapset.proofs.axes.latitudes_agree.Tie as tie
-use Rattle.mapset.proofs.axes.latitudes_agree.Reads as reads
-use Rattle.mapset.proofs.axes.latitudes_agree.Lts as lts
-use Rattle.mapset.proofs.axes.ends_divide.Reads as ends-divide-reads
-use Rattle.mapset.proofs.axes.toward.Reads as toward-reads
 
 ends-divide-requires : tie.Need-ends-divide-requires
 ends-divide-requires c κs = search needs

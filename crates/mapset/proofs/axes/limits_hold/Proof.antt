@@ -2,12 +2,9 @@ use borrow.Author.Needs.{needs}
 use native.Mathlib.Omega.{arith}
 use native.Mathlib.Nat.{mul-le-mul}
 use Prim.Native.Nat.{_≤_}
-use Rattle.mapset.specs.JudgedLaws.{too-many-rows, too-many-columns, too-many-layers, within-limits}
+use Rattle.mapset.proofs.JudgedLaws.{too-many-rows, too-many-columns, too-many-layers, within-limits}
 use Rattle.mapset.proofs.axes.limits_hold.Statement.{statement}
 use Rattle.mapset.proofs.axes.limits_hold.Tie as tie
-use Rattle.mapset.proofs.axes.limits_hold.Reads as reads
-use Rattle.mapset.proofs.axes.limits_hold.Lts as lts
-use Rattle.mapset.proofs.axes.nodes.Reads as nodes-reads
 
 module _ (c : tie.Else3) where
   layer-bound : c .before .before .before .before .before .nodes .result ≤ 64

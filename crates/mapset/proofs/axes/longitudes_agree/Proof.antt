@@ -4,13 +4,9 @@ use lib.IntN.{ℤ, natAbs, _-ℤ_}
 use lib.Signed.{ltZ}
 use mir.Syntax.{w32}
 use mir.Val.{toZ, ofZ}
-use Rattle.mapset.specs.JudgedLaws.{backward, too-far, round-earth}
+use Rattle.mapset.proofs.JudgedLaws.{backward, too-far, round-earth}
 use Rattle.mapset.proofs.axes.longitudes_agree.Statement.{statement}
 use Rattle.mapset.proofs.axes.longitudes_agree.Tie as tie
-use Rattle.mapset.proofs.axes.longitudes_agree.Reads as reads
-use Rattle.mapset.proofs.axes.longitudes_agree.Lts as lts
-use Rattle.mapset.proofs.axes.distance.Reads as distance-reads
-use Rattle.mapset.proofs.axes.ends_divide.Reads as ends-divide-reads
 
 falls : (c : tie.After-less) → c .less .result ≡ ltZ (c .before .before .before .args .a .last) (c .before .before .before .args .a .first)
 falls c =

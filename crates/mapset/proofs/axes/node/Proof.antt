@@ -9,7 +9,7 @@ use lib.IntN.{pos, natAbs, _+ℤ_, _*ℤ_}
 use mir.Syntax.{w32, w64}
 use mir.Val.{toZ, ofZ, SFits}
 use mir.Facts.{toZ-ofZ, toZ-pos, sfits-widen}
-use Rattle.kit.specs.Parts.{size-of-fits, size-fits, abs-scale, abs-add-scaled}
+use Rattle.kit.proofs.Parts.{size-of-fits, size-fits, abs-scale, abs-add-scaled}
 
 module _ (s : tie.Start) where
   first-fits : SFits w32 (s .args .a .first)

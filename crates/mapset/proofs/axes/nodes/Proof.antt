@@ -6,14 +6,11 @@ use Prim.Native.Nat.{_≤_}
 use lib.IntN.{ℤ, natAbs, _-ℤ_}
 use mir.Syntax.{w32}
 use mir.Val.{toZ, ofZ, SFits}
-use Rattle.kit.specs.Parts.{size-of-fits}
-use Rattle.kit.specs.Order.{less-size}
-use Rattle.mapset.specs.JudgedLaws.{one-node}
+use Rattle.kit.proofs.Parts.{size-of-fits}
+use Rattle.kit.proofs.Order.{less-size}
+use Rattle.mapset.proofs.JudgedLaws.{one-node}
 use Rattle.mapset.proofs.axes.nodes.Statement.{statement}
 use Rattle.mapset.proofs.axes.nodes.Tie as tie
-use Rattle.mapset.proofs.axes.nodes.Reads as reads
-use Rattle.mapset.proofs.axes.nodes.Lts as lts
-use Rattle.mapset.proofs.axes.distance.Reads as distance-reads
 
 step-size : (c : tie.After-size) → c .size .result ≡ natAbs (c .before .before .args .a .step)
 step-size c =

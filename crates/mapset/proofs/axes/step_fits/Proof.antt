@@ -4,9 +4,6 @@ use mir.Facts.{toZ-ofZ}
 use Rattle.mapset.specs.Decisions.{step?}
 use Rattle.mapset.proofs.axes.step_fits.Statement.{statement}
 use Rattle.mapset.proofs.axes.step_fits.Tie as tie
-use Rattle.mapset.proofs.axes.step_fits.Reads as reads
-use Rattle.mapset.proofs.axes.step_fits.Lts as lts
-use Rattle.mapset.proofs.axes.latitude_step_fits.Reads as latitude-step-fits-reads
 
 enum-told : tie.Need-enum-told
 enum-told c = search needs

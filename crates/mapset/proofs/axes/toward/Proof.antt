@@ -5,11 +5,9 @@ use lib.IntN.{ℤ, pos}
 use lib.Signed.{ltZ}
 use mir.Syntax.{w32}
 use mir.Val.{toZ, ofZ}
-use Rattle.mapset.specs.JudgedLaws.{rising, falling, unmoved}
+use Rattle.mapset.proofs.JudgedLaws.{rising, falling, unmoved}
 use Rattle.mapset.proofs.axes.toward.Statement.{statement}
 use Rattle.mapset.proofs.axes.toward.Tie as tie
-use Rattle.mapset.proofs.axes.toward.Reads as reads
-use Rattle.mapset.proofs.axes.toward.Lts as lts
 
 up : (c : tie.After-less) → c .less .result ≡ ltZ (pos 0) (c .before .before .args .a .step)
 up c =

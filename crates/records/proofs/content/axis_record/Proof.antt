@@ -1,13 +1,9 @@
 use mathlib.Core.Path.{refl, sym, _∙_}
-use Rattle.records.specs.RecordLaws.{axis-is}
+use Rattle.records.proofs.RecordLaws.{axis-is}
 use borrow.Author.Needs.{needs}
 use Rattle.records.proofs.content.axis_record.Statement.{statement}
 use Rattle.records.proofs.content.axis_record.Tie as tie
-use Rattle.records.proofs.content.axis_record.Reads as reads
-use Rattle.records.proofs.content.axis_record.Lts as lts
-use Rattle.fields.proofs.first_not_blank.Reads as first-not-blank-reads
-use Rattle.fields.proofs.three_numbers.Reads as three-numbers-reads
-use Rattle.reading.specs.ScanLaws.{blank-to}
+use Rattle.reading.specs.Fields.{blank-to}
 
 first-not-blank-requires : tie.Need-first-not-blank-requires
 first-not-blank-requires c κs = search needs

@@ -1,13 +1,8 @@
 use mathlib.Core.Path.{refl, sym, _∙_}
-use Rattle.reading.specs.Fields.{number}
+use Rattle.reading.specs.Fields.{number, blank-to}
 use borrow.Author.Needs.{needs}
 use Rattle.records.proofs.content.counts_after.Statement.{statement}
 use Rattle.records.proofs.content.counts_after.Tie as tie
-use Rattle.records.proofs.content.counts_after.Reads as reads
-use Rattle.records.proofs.content.counts_after.Lts as lts
-use Rattle.fields.proofs.first_not_blank.Reads as first-not-blank-reads
-use Rattle.fields.proofs.int_at.Reads as int-at-reads
-use Rattle.reading.specs.ScanLaws.{blank-to}
 
 int-at-requires : tie.Need-int-at-requires
 int-at-requires c κs = search needs

@@ -6,16 +6,10 @@ use Rattle.mapset.specs.Header.{Content}
 use Rattle.layout.specs.Text.{pad}
 use Rattle.records.specs.Records.{toldHeard, entry}
 use Rattle.records.specs.Tables.{kind-of}
-use Rattle.records.specs.TableLaws.{plain-contents, table-at, content-is}
+use Rattle.records.proofs.TableLaws.{plain-contents, table-at, content-is}
 use borrow.Author.Needs.{needs}
 use Rattle.records.proofs.content.hear.Statement.{statement}
 use Rattle.records.proofs.content.hear.Tie as tie
-use Rattle.records.proofs.content.hear.Reads as reads
-use Rattle.records.proofs.content.hear.Lts as lts
-use Rattle.records.proofs.content.hear_axis.Reads as hear-axis-reads
-use Rattle.records.proofs.content.hear_count.Reads as hear-count-reads
-use Rattle.records.proofs.content.hear_epoch.Reads as hear-epoch-reads
-use Rattle.records.proofs.content.hear_tenths.Reads as hear-tenths-reads
 
 last : (c : tie.At-match-rest) → getD (map kind-of plain-contents) (c .before .before .args .i) 0 ≡ 5
 last c =

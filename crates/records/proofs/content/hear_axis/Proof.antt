@@ -3,14 +3,10 @@ use mir.Val.{SFits}
 use mir.Facts.{toZ-ofZ}
 use mathlib.Core.Path.{refl, sym}
 use Rattle.kit.specs.Answer.{bind}
-use Rattle.records.specs.RecordLaws.{axis-says}
+use Rattle.records.proofs.RecordLaws.{axis-says}
 use borrow.Author.Needs.{needs}
 use Rattle.records.proofs.content.hear_axis.Statement.{statement}
 use Rattle.records.proofs.content.hear_axis.Tie as tie
-use Rattle.records.proofs.content.hear_axis.Reads as reads
-use Rattle.records.proofs.content.hear_axis.Lts as lts
-use Rattle.records.proofs.content.axis_record.Reads as axis-record-reads
-use Rattle.records.proofs.content.judged.Reads as judged-reads
 
 axis-record-requires : tie.Need-axis-record-requires
 axis-record-requires c κs = search needs

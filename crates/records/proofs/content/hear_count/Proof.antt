@@ -2,7 +2,7 @@ use mathlib.Core.Path.{ap, _∙_}
 use Rattle.kit.specs.Answer.{Answer}
 use lib.IntN.{ℤ}
 use Rattle.reading.specs.Feed.{Fault}
-use Rattle.records.specs.RecordLaws.{count-says}
+use Rattle.records.proofs.RecordLaws.{count-says}
 use borrow.Author.Needs.{needs}
 use Rattle.records.proofs.content.hear_count.Statement.{statement}
 use Rattle.records.proofs.content.hear_count.Tie as tie

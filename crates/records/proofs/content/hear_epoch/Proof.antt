@@ -1,7 +1,7 @@
 use mathlib.Core.Path.{sym, ap, _∙_}
 use Rattle.kit.specs.Answer.{amap}
 use Rattle.maprecords.specs.Records.{told-dated}
-use Rattle.records.specs.RecordLaws.{epoch-says}
+use Rattle.records.proofs.RecordLaws.{epoch-says}
 use borrow.Author.Needs.{needs}
 use Rattle.records.proofs.content.hear_epoch.Statement.{statement}
 use Rattle.records.proofs.content.hear_epoch.Tie as tie

@@ -1,13 +1,15 @@
 use mathlib.Core.Path.{_≡_, refl, sym, ap, _∙_}
-use Rattle.kit.specs.Truth.{truth, truth-true, truth-false}
-use Rattle.kit.specs.Answer.{ok, bind, need-yes, need-no}
+use Rattle.kit.specs.Truth.{truth}
+use Rattle.kit.proofs.TruthLaws.{truth-true, truth-false}
+use Rattle.kit.specs.Answer.{ok, bind}
+use Rattle.kit.proofs.AnswerLaws.{need-yes, need-no}
 use Rattle.kit.specs.Range.{natural?}
 use mir.Syntax.{w32}
 use mir.Val.{toZ, ofZ, SFits}
 use mir.Facts.{toZ-ofZ}
 use lib.IntN.{natAbs}
 use borrow.Author.Tests.{not-true, not-false}
-use Rattle.records.specs.RecordLaws.{system-says, counted-in}
+use Rattle.records.proofs.RecordLaws.{system-says, counted-in}
 use Rattle.mapset.specs.Header.{counts}
 use Rattle.records.specs.declared.Value.{Value}
 use Prim.Native.Nat.{ℕ}
@@ -15,12 +17,6 @@ use mathlib.Core.Path.{ap₂}
 use borrow.Author.Needs.{needs}
 use Rattle.records.proofs.content.hear_system.Statement.{statement}
 use Rattle.records.proofs.content.hear_system.Tie as tie
-use Rattle.records.proofs.content.hear_system.Reads as reads
-use Rattle.records.proofs.content.hear_system.Lts as lts
-use Rattle.records.proofs.content.natural.Reads as natural-reads
-use Rattle.records.proofs.content.of_numbers.Reads as of-numbers-reads
-use Rattle.records.proofs.content.system_record.Reads as system-record-reads
-use Rattle.records.proofs.content.unsigned.Reads as unsigned-reads
 
 x-is : (c : tie.After-known-told2) → toZ w32 (ofZ w32 (c .before .x .given .0 .0)) ≡ c .before .x .given .0 .0
 x-is c = let f : SFits w32 (c .before .x .given .0 .0) = search needs in toZ-ofZ f

@@ -2,14 +2,10 @@ use mathlib.Core.Path.{ap, _∙_}
 use Rattle.kit.specs.Answer.{Answer}
 use lib.IntN.{ℤ}
 use Rattle.reading.specs.Feed.{Fault}
-use Rattle.records.specs.RecordLaws.{tenths-says, told-alike}
+use Rattle.records.proofs.RecordLaws.{tenths-says, told-alike}
 use borrow.Author.Needs.{needs}
 use Rattle.records.proofs.content.hear_tenths.Statement.{statement}
 use Rattle.records.proofs.content.hear_tenths.Tie as tie
-use Rattle.records.proofs.content.hear_tenths.Reads as reads
-use Rattle.records.proofs.content.hear_tenths.Lts as lts
-use Rattle.records.proofs.content.ranged.Reads as ranged-reads
-use Rattle.records.proofs.content.tenths_record.Reads as tenths-record-reads
 use Rattle.records.specs.Records.{ranged-in}
 
 tenths-record-requires : tie.Need-tenths-record-requires

@@ -2,9 +2,6 @@ use mathlib.Core.Path.{refl, sym, _∙_}
 use borrow.Author.Needs.{needs}
 use Rattle.records.proofs.content.judged.Statement.{statement}
 use Rattle.records.proofs.content.judged.Tie as tie
-use Rattle.records.proofs.content.judged.Reads as reads
-use Rattle.records.proofs.content.judged.Lts as lts
-use Rattle.mapset.proofs.axes.judge.Reads as judge-reads
 
 judge-requires : tie.Need-judge-requires
 judge-requires c κs = search needs

@@ -2,12 +2,10 @@ use mathlib.Core.Path.{_≡_, sym, _∙_}
 use mir.Facts.{toZ-ofZ}
 use lib.IntN.{pos, natAbs}
 use lib.Signed.{ltZ}
-use Rattle.records.specs.RecordLaws.{under-zero, below-low, up-to}
+use Rattle.records.proofs.RecordLaws.{under-zero, below-low, up-to}
 use borrow.Author.Needs.{needs}
 use Rattle.records.proofs.content.natural.Statement.{statement}
 use Rattle.records.proofs.content.natural.Tie as tie
-use Rattle.records.proofs.content.natural.Reads as reads
-use Rattle.records.proofs.content.natural.Lts as lts
 
 negative : (c : tie.After-less) → c .less .result ≡ ltZ (c .before .args .z) (pos 0)
 negative c = rw (toZ-ofZ (c .before .fits .z)) at (c .less .ensures)

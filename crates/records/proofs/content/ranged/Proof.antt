@@ -1,6 +1,8 @@
 use mathlib.Core.Path.{_≡_, refl, sym, ap, _∙_}
-use Rattle.kit.specs.Truth.{truth, truth-true, truth-false}
-use Rattle.kit.specs.Answer.{ok, bind, need-yes, need-no}
+use Rattle.kit.specs.Truth.{truth}
+use Rattle.kit.proofs.TruthLaws.{truth-true, truth-false}
+use Rattle.kit.specs.Answer.{ok, bind}
+use Rattle.kit.proofs.AnswerLaws.{need-yes, need-no}
 use Rattle.kit.specs.Range.{natural?}
 use mir.Syntax.{w32}
 use mir.Val.{toZ, ofZ, SFits}
@@ -12,11 +14,6 @@ use Prim.Native.Nat.{ℕ}
 use borrow.Author.Needs.{needs}
 use Rattle.records.proofs.content.ranged.Statement.{statement}
 use Rattle.records.proofs.content.ranged.Tie as tie
-use Rattle.records.proofs.content.ranged.Reads as reads
-use Rattle.records.proofs.content.ranged.Lts as lts
-use Rattle.records.proofs.content.natural.Reads as natural-reads
-use Rattle.records.proofs.content.of_numbers.Reads as of-numbers-reads
-use Rattle.records.proofs.content.unsigned.Reads as unsigned-reads
 use Rattle.records.specs.Records.{ranged-in}
 
 z-is : (c : tie.After-known-told2) → toZ w32 (ofZ w32 (c .before .x2 .given .0 .0)) ≡ c .before .x2 .given .0 .0

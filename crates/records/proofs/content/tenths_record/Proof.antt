@@ -1,10 +1,10 @@
 use mathlib.Core.Path.{sym, ap, _∙_}
 use Rattle.forms.specs.declared.Field.{Field}
-use Rattle.records.specs.RecordLaws.{tenths-is}
+use Rattle.records.proofs.RecordLaws.{tenths-is}
 use borrow.Author.Needs.{needs}
 use Rattle.records.proofs.content.tenths_record.Statement.{statement}
 use Rattle.records.proofs.content.tenths_record.Tie as tie
-use Rattle.reading.specs.ScanLaws.{blank-to}
+use Rattle.reading.specs.Fields.{blank-to}
 use Rattle.maprecords.specs.Records.{one-of}
 
 tenths-at-requires : tie.Need-tenths-at-requires

@@ -3,12 +3,10 @@ use mir.Syntax.{w32}
 use mir.Facts.{toZ-ofZ}
 use lib.IntN.{natAbs}
 use native.Mathlib.Omega.{arith}
-use Rattle.kit.specs.Parts.{size-of-fits}
+use Rattle.kit.proofs.Parts.{size-of-fits}
 use borrow.Author.Needs.{needs}
 use Rattle.records.proofs.content.unsigned.Statement.{statement}
 use Rattle.records.proofs.content.unsigned.Tie as tie
-use Rattle.records.proofs.content.unsigned.Reads as reads
-use Rattle.records.proofs.content.unsigned.Lts as lts
 
 sized : (c : tie.After-size) → c .size .result ≡ natAbs (c .before .args .z)
 sized c = rw (toZ-ofZ (c .before .fits .z)) at (c .size .ensures)

@@ -1,0 +1,2 @@
+pub mod AskDelayLaws
+pub mod Once

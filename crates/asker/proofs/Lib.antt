@@ -1,0 +1,12 @@
+pub mod AskLaws
+pub mod AtEpoch
+pub mod Between
+pub mod MeanLaws
+pub mod Once
+pub mod ReachLaws
+pub mod Reckoned
+pub mod Reckonings
+pub mod Sample
+pub mod Strip
+pub mod SunSample
+pub mod WholeTurn

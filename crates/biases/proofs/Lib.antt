@@ -1,0 +1,5 @@
+pub mod Exact
+pub mod Fine
+pub mod Laws
+pub mod Refusals
+pub mod Vectors

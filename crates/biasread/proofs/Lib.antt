@@ -1,0 +1,3 @@
+pub mod BiasedLaws
+pub mod Numbers
+pub mod Once

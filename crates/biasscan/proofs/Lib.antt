@@ -1,0 +1,5 @@
+pub mod JudgedLaws
+pub mod LookLaws
+pub mod MarkLaws
+pub mod TurnLaws
+pub mod WalkLaws

@@ -1,0 +1,2 @@
+pub mod EarthLaws
+pub mod PlaceLaws

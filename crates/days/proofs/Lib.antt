@@ -1,0 +1,3 @@
+pub mod FormulaLaws
+pub mod SumLaws
+pub mod YearLaws

@@ -1,0 +1,4 @@
+pub mod DelayLaws
+pub mod Finite
+pub mod Literals
+pub mod Vectors

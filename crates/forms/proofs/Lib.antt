@@ -1,0 +1,3 @@
+pub mod ColumnLaws
+pub mod FieldLaws
+pub mod ShowLaws

@@ -1,0 +1,48 @@
+-- The index of a small text, its positions counted by hand: how many bytes stand before each block's opening line.
+use mathlib.Core.Path.{_≡_, refl}
+use mathlib.Core.List.{[], _∷_}
+use Prim.Native.Nat.{ℕ, _*_, _-_}
+use native.Mathlib.Decide.{ℕ-discrete, decLe}
+use lib.IntN.{pos, negsuc}
+use Rattle.kit.specs.Answer.{need, amap, pick, ×-dec, all-dec, same, sames}
+use Rattle.kit.specs.Range.{within?, natural?}
+use Rattle.forms.specs.Read.{readField, numberOf, formed?}
+use Rattle.mapset.specs.declared.Axis.{Axis}
+use Rattle.mapset.specs.declared.Header.{Header}
+use Rattle.layout.specs.Text.{pad}
+use Rattle.layout.specs.Labels.{name}
+use Rattle.reading.specs.Feed.{opens?}
+use Rattle.reading.specs.Fields.{lookup, label, number, blank, scan, fields, cells}
+use Rattle.reading.proofs.Vectors.{lines, small-text, small-set}
+use Rattle.areas.specs.Flat.{areas-of}
+use Rattle.areas.specs.Scan.{or-else, second-of, brought, body, events}
+use Rattle.lines.specs.Cuts.{cuts}
+use Rattle.index.specs.Found.{clean?, blank?}
+use Rattle.index.specs.Index.{node, entry, entries}
+use Rattle.index.specs.Made.{placed, opened, maps-of, positions-of, entries-of}
+
+-- two TEC and two RMS blocks; the height map is absent
+pub small-index : entries-of small-set (lines small-text)
+    ≡ entries (1385 ∷ 1552 ∷ 1801 ∷ 1898 ∷ 0 ∷ 0 ∷ []) (negsuc 0 ∷ negsuc 1 ∷ negsuc 1 ∷ negsuc 1 ∷ negsuc 0 ∷ negsuc 0 ∷ []) (1 ∷ [])
+unfolding small-text small-set placed cuts opens? clean? blank? opened maps-of positions-of or-else second-of brought body events areas-of label lookup name fields scan number blank cells readField numberOf formed? pad pick need amap ×-dec all-dec same sames within? natural? ℕ-discrete decLe
+small-index = refl
+
+-- a header of n maps, of so many layers and rows
+abbrev nodes-of : ℕ → Axis
+nodes-of k = record { first = pos 0; last = pos (10 * (k - 1)); step = pos 10 }
+
+abbrev sized : (n l r : ℕ) → Header → Header
+sized n l r h =
+    record {
+      version = h .version;
+      times = record { first = h .times .first; last = h .times .last; interval = h .times .interval; maps = n };
+      model = h .model;
+      grid = record { heights = nodes-of l; latitudes = nodes-of r; longitudes = h .grid .longitudes };
+      stations = h .stations;
+      satellites = h .satellites;
+      systems = h .systems;
+    }
+
+-- layer 1, row 2 of map 3, in 4 maps of 2 layers of 5 rows: the TEC entry stands after 2·10 + 5 + 2 others, the RMS maps 40 behind, the height maps 80
+pub entries-apart : (h : Header) → (entry (sized 4 2 5 h) (node 0 3 1 2 0) ≡ 27) × (entry (sized 4 2 5 h) (node 1 3 1 2 0) ≡ 67) × (entry (sized 4 2 5 h) (node 2 3 1 2 0) ≡ 107)
+entries-apart h = (refl, refl, refl)

@@ -1,0 +1,10 @@
+pub mod EitherWay
+pub mod Exactly
+pub mod Grouping
+pub mod IntoExactly
+pub mod IntoLaws
+pub mod JoinedAreas
+pub mod JoinedFormed
+pub mod Same
+pub mod Sample
+pub mod Vectors

@@ -1,0 +1,82 @@
+-- Three sets that are refused in both groupings, by different numbers; and two that are joined.
+use mathlib.Core.Path.{_≡_, refl}
+use mathlib.Core.Bool.{false}
+use mathlib.Core.List.{List, [], _∷_}
+use Prim.Native.Nat.{ℕ}
+use native.Mathlib.Decide.{ℕ-discrete, decLe, decLt}
+use lib.IntN.{pos, negsuc}
+use lib.ListN.{replicate}
+use Rattle.kit.specs.Answer.{ok, refused, need, bind, pick, ×-dec, ⊎-dec, ¬-dec, all-dec}
+use Rattle.kit.specs.Integer.{int?, le?, lt?, between?}
+use Rattle.kit.specs.Range.{within?}
+use Rattle.kit.specs.Truth.{dec-by}
+use Rattle.mapset.specs.declared.System.{System}
+use Rattle.mapset.specs.Decisions.{×₃-dec, ×₄-dec, end?, step?, multiple?, together?, limits?, dimension?, follows?}
+use Rattle.mapset.specs.Sound.{version?, printable?, written?, texts?, times?, model?, axis?, grid?, count?, system?, systems?, header?, run?}
+use Rattle.mapset.specs.MapSet.{Block, TecMap, OtherMap, MapSet}
+use Rattle.layout.specs.Layout.{exponent?}
+use Rattle.areas.specs.ValidDecided.{value?}
+use Rattle.join.specs.FormedDecided.{block-rules?, map-rules?, rising?, maps-rules?, epoch-rules?, formed?}
+use Rattle.join.specs.Join.{alike?, meet?, in-limits?, join}
+use Rattle.join.specs.Join as J
+
+abbrev none : System
+none = record { stands = false; stations = 0; satellites = 0 }
+
+abbrev spaces : ℕ → List ℕ
+spaces n = replicate n 32
+
+-- one node, maps at the seconds given, and RMS maps
+abbrev pub a-set : (radius interval first last n : ℕ) → List TecMap → List OtherMap → MapSet
+a-set radius interval first last n tec rms =
+    record {
+      header = record {
+        version = record { tenths = 11; kind = 73; code = 6 };
+        times = record { first = first; last = last; interval = interval; maps = n };
+        model = record { cutoff = 0; radius = radius; dimension = 2 };
+        grid = record {
+          heights = record { first = pos 4500; last = pos 4500; step = pos 0 };
+          latitudes = record { first = pos 50; last = pos 50; step = pos 50 };
+          longitudes = record { first = pos 0; last = pos 0; step = pos 50 };
+        };
+        stations = record { stands = false; count = 0 };
+        satellites = record { stands = false; count = 0 };
+        systems = record { g = none; r = none; e = none; c = none; j = none; i = none; s = none };
+      };
+      texts = record { program = spaces 20; agency = spaces 20; date = spaces 20; mapping = spaces 4; observables = spaces 60 };
+      maps = record { tec = tec; rms = rms; height = [] };
+    }
+
+abbrev node : ℕ → List Block
+node v = record { exponent = negsuc 0; values = pos v ∷ [] } ∷ []
+
+abbrev tec-at : ℕ → ℕ → TecMap
+tec-at e v = record { epoch = e; blocks = node v }
+
+abbrev rms-of : ℕ → ℕ → OtherMap
+rms-of i v = record { of = i; blocks = node v }
+
+-- the shared map is the later set's, with its RMS map; the earlier one's is gone; 3600 and 900 make 0
+abbrev monday : MapSet
+monday = a-set 63710 3600 0 3600 2 (tec-at 0 1 ∷ tec-at 3600 2 ∷ []) (rms-of 1 11 ∷ rms-of 2 12 ∷ [])
+
+abbrev tuesday : MapSet
+tuesday = a-set 63710 900 3600 4500 2 (tec-at 3600 3 ∷ tec-at 4500 4 ∷ []) (rms-of 2 14 ∷ [])
+
+pub two-days : join monday tuesday ≡ ok (a-set 63710 0 0 4500 3 (tec-at 0 1 ∷ tec-at 3600 3 ∷ tec-at 4500 4 ∷ []) (rms-of 1 11 ∷ rms-of 3 14 ∷ []))
+unfolding join need pick ×-dec ⊎-dec ¬-dec all-dec ℕ-discrete decLe decLt int? le? lt? between? within? dec-by ×₃-dec ×₄-dec end? step? multiple? together? limits? dimension? follows? version? printable? written? texts? times? model? axis? grid? count? system? systems? header? run? exponent? value? block-rules? map-rules? rising? maps-rules? epoch-rules? formed? alike? meet? in-limits? J.axis? J.grid?
+two-days = refl
+
+abbrev other-radius : MapSet
+other-radius = a-set 63711 3600 0 3600 2 (tec-at 0 1 ∷ tec-at 3600 2 ∷ []) []
+
+abbrev late : MapSet
+late = a-set 63710 900 9000 9000 1 (tec-at 9000 5 ∷ []) []
+
+pub leftwards-40 : bind (join other-radius tuesday) (λ ab. join ab late) ≡ refused 40
+unfolding bind join need pick ×-dec ⊎-dec ¬-dec all-dec ℕ-discrete decLe decLt int? le? lt? between? within? dec-by ×₃-dec ×₄-dec end? step? multiple? together? limits? dimension? follows? version? printable? written? texts? times? model? axis? grid? count? system? systems? header? run? exponent? value? block-rules? map-rules? rising? maps-rules? epoch-rules? formed? alike? meet? in-limits? J.axis? J.grid?
+leftwards-40 = refl
+
+pub rightwards-41 : bind (join tuesday late) (λ bc. join other-radius bc) ≡ refused 41
+unfolding bind join need pick ×-dec ⊎-dec ¬-dec all-dec ℕ-discrete decLe decLt int? le? lt? between? within? dec-by ×₃-dec ×₄-dec end? step? multiple? together? limits? dimension? follows? version? printable? written? texts? times? model? axis? grid? count? system? systems? header? run? exponent? value? block-rules? map-rules? rising? maps-rules? epoch-rules? formed? alike? meet? in-limits? J.axis? J.grid?
+rightwards-41 = refl

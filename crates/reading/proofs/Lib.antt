@@ -1,0 +1,14 @@
+pub mod FaultLaws
+pub mod Blame
+pub mod Exact
+pub mod HeadLaws
+pub mod LabelLaws
+pub mod LineLaws
+pub mod Machine
+pub mod MapLaws
+pub mod Readings
+pub mod RecordLaws
+pub mod RefusalLaws
+pub mod ScanLaws
+pub mod SlotLaws
+pub mod Vectors

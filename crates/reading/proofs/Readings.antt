@@ -1,0 +1,149 @@
+-- Short readings, written by hand from 01: small texts with a line or two changed, and the refusal that each gets; and the limits of the grid.
+use mathlib.Core.Path.{_≡_, refl}
+use mathlib.Core.List.{List, [], _∷_, _++_}
+use mathlib.Core.Bool.{Bool, true, false}
+use Prim.Native.Nat.{ℕ, _*_, _-_}
+use Prim.Native.String.{String}
+use lib.IntN.{pos}
+use lib.ListN.{take, drop}
+use native.Mathlib.Decide.{ℕ-discrete, decLe, decLt}
+use Rattle.kit.specs.Answer.{refused, ok, All, need, bind, amap, get, pick, ×-dec, ⊎-dec, ¬-dec, all-dec, same, sames}
+use Rattle.kit.specs.Integer.{int?, le?, lt?, between?}
+use Rattle.kit.specs.Range.{within?, natural?}
+use Rattle.kit.specs.Truth.{truth}
+use Rattle.days.specs.Years.{isLeap, monthDays, yearDays}
+use Rattle.calendar.specs.Calendar.{dated, second}
+use Rattle.days.specs.Sums.{sum}
+use Rattle.forms.specs.Read.{readField, numberOf, formed?}
+use Rattle.mapset.specs.Decisions.{×₃-dec, ×₄-dec, end?, step?, multiple?, together?, limits?, dimension?, follows?}
+use Rattle.mapset.specs.declared.Axis.{Axis}
+use Rattle.mapset.specs.MapSet.{MapSet}
+use Rattle.layout.specs.Text.{pad}
+use Rattle.layout.specs.Labels.{name}
+use Rattle.reading.specs.Feed.{why, on-line, front, opens?, split, feed, bad-column}
+use Rattle.reading.specs.Fields.{lookup, label, number, blanks, blank, scan, fields, cells}
+use Rattle.reading.specs.Maps.{on-date, kind?, true?, after?, implies?, in-time?, height?, loose, on-comment, on-exponent, start-tec, start-other, start-map, on-start, end-map, on-end as on-map-end, epoch-tec, epoch-other, on-epoch, open-block, on-block, on-file, taken, step, finish, run, short}
+use Rattle.layout.specs.Layout.{exponent?}
+use Rattle.reading.specs.Head.{meant, place, none?, complete?, made, made-texts, once, on-system, on-end, at-head, head-step, heading}
+use Rattle.reading.specs.Read.{versioned, version-of, begin, read}
+use Rattle.reading.proofs.Vectors.{lines, small-text, two-text}
+
+-- a text with another line n; with one more line in front of line n
+abbrev put : ℕ → String → List String → List String
+put n s ls = take (n - 1) ls ++ (s ∷ drop n ls)
+
+abbrev add : ℕ → String → List String → List String
+add n s ls = take (n - 1) ls ++ (s ∷ drop (n - 1) ls)
+
+-- a text, and the number, line and column of its refusal
+pub record Reading : Type 0 where
+  pub text : List String
+  pub number : ℕ
+  pub line : ℕ
+  pub column : ℕ
+
+abbrev of : List String → ℕ → ℕ → ℕ → Reading
+of t k n c = record { text = t; number = k; line = n; column = c }
+
+abbrev pub Refuses : Reading → Type 0
+Refuses r = read (lines (r .text)) ≡ refused (why (r .number) (r .line) (r .column))
+
+pub readings : List Reading
+readings =
+    -- 1 and 2: 81 bytes, a byte above 126
+    of (put 9 "carrier phase                                               OBSERVABLES USED     " small-text) 1 9 81
+    ∷ of (put 9 "carrieréphase                                               OBSERVABLES USED" small-text) 2 9 8
+    -- 3: the label, the version, the type, the code; 6 for columns 1 to 20 before any of these
+    ∷ of (put 1 "     1.1            IONOSPHERE MAPS     MIX                 IONEX VERSION" small-text) 3 1 61
+    ∷ of (put 1 "     1.2            OBSERVATIONS        XYZ                 IONEX VERSION / TYPE" small-text) 3 1 1
+    ∷ of (put 1 "     1.1            OBSERVATIONS        XYZ                 IONEX VERSION / TYPE" small-text) 3 1 21
+    ∷ of (put 1 "     1.1            IONOSPHERE MAPS     XYZ                 IONEX VERSION / TYPE" small-text) 3 1 41
+    ∷ of (put 1 "     1.2 x          OBSERVATIONS        XYZ                 IONEX VERSION / TYPE" small-text) 6 1 10
+    -- 4; 5 before 6: a record repeated, with an ill-formed field; a block too many, which is not looked at
+    ∷ of (put 9 "carrier phase                                               OBSERVABLES" small-text) 4 9 61
+    ∷ of (add 6 "  x600                                                      INTERVAL" small-text) 5 6 61
+    ∷ of (add 25 "     x.0                                                    LAT/LON1/LON2/DLON/H" small-text) 5 25 61
+    -- 6 before 9: END OF HEADER with a bad column and without INTERVAL, END OF FILE with a bad column and without a map; then 9
+    ∷ of (put 5 "" (put 16 "    x                                                       END OF HEADER" small-text)) 6 16 5
+    ∷ of (put 5 "" small-text) 9 16 0
+    ∷ of (put 6 "     2                                                      # OF MAPS IN FILE" (put 32 "    x                                                       END OF FILE" small-text)) 6 32 5
+    ∷ of (put 6 "     2                                                      # OF MAPS IN FILE" small-text) 9 32 0
+    -- 9 before 8: END OF HEADER without INTERVAL and with dimension 3, END with a wrong number and without a block; then 8
+    ∷ of (put 5 "" (put 11 "     3                                                      MAP DIMENSION" small-text)) 9 16 0
+    ∷ of (put 11 "     3                                                      MAP DIMENSION" small-text) 8 16 0
+    ∷ of (put 22 "     2                                                      END OF TEC MAP" small-text) 9 22 0
+    ∷ of (put 25 "     2                                                      END OF TEC MAP" small-text) 8 25 1
+    -- 6, at the first column of the field, or at the column that is not blank
+    ∷ of (put 14 "     0.0  1x.0   5.0                                        LON1 / LON2 / DLON" small-text) 6 14 9
+    ∷ of (put 14 "     0.0  10.0   5.0  x                                     LON1 / LON2 / DLON" small-text) 6 14 23
+    ∷ of (put 20 "  100 9x99   -5" small-text) 6 20 6
+    ∷ of (put 20 "  100 9999   -5    1" small-text) 6 20 20
+    -- 7: each end and the step before the rule over all three; an exponent of 1; a SYS letter, its counts
+    ∷ of (put 13 "    90.1   0.0  -5.0                                        LAT1 / LAT2 / DLAT" small-text) 7 13 3
+    ∷ of (put 14 "     0.0 360.1   5.0                                        LON1 / LON2 / DLON" small-text) 7 14 9
+    ∷ of (put 14 "     0.0  10.0  15.1                                        LON1 / LON2 / DLON" small-text) 7 14 15
+    ∷ of (put 14 "     0.0  11.0   5.0                                        LON1 / LON2 / DLON" small-text) 7 14 0
+    ∷ of (put 22 "     1                                                      EXPONENT" small-text) 7 22 1
+    ∷ of (put 15 "     X     1     1                                          SYS / #STA / #SAT" small-text) 7 15 6
+    ∷ of (put 15 "     G    -1     1                                          SYS / #STA / #SAT" small-text) 7 15 7
+    ∷ of (put 15 "     G     1    -1                                          SYS / #STA / #SAT" small-text) 7 15 13
+    ∷ of (put 5 " 21601                                                      INTERVAL" small-text) 7 5 1
+    -- 7 in an epoch: the year, the month, a day that the month lacks, the hour, the minute, the second
+    ∷ of (put 3 "  1899    10    15     0     0     0                        EPOCH OF FIRST MAP" small-text) 7 3 1
+    ∷ of (put 3 "  1995    13    15     0     0     0                        EPOCH OF FIRST MAP" small-text) 7 3 7
+    ∷ of (put 18 "  1995     2    29     0     0     0                        EPOCH OF CURRENT MAP" small-text) 7 18 13
+    ∷ of (put 18 "  1995    10    15    24     0     0                        EPOCH OF CURRENT MAP" small-text) 7 18 19
+    ∷ of (put 18 "  1995    10    15     0    60     0                        EPOCH OF CURRENT MAP" small-text) 7 18 25
+    ∷ of (put 18 "  1995    10    15     0     0    60                        EPOCH OF CURRENT MAP" small-text) 7 18 31
+    -- 8: an RMS map too early; a block's latitude, LON1, LON2, DLON, and in dimension 3 its H
+    ∷ of (put 17 "     1                                                      START OF RMS MAP" small-text) 8 17 1
+    ∷ of (put 19 "     0.0   0.0  10.0   5.0 450.0                            LAT/LON1/LON2/DLON/H" small-text) 8 19 3
+    ∷ of (put 19 "     5.0   5.0  10.0   5.0 450.0                            LAT/LON1/LON2/DLON/H" small-text) 8 19 9
+    ∷ of (put 19 "     5.0   0.0  15.0   5.0 450.0                            LAT/LON1/LON2/DLON/H" small-text) 8 19 15
+    ∷ of (put 19 "     5.0   0.0  10.0  10.0 450.0                            LAT/LON1/LON2/DLON/H" small-text) 8 19 21
+    ∷ of (put 11 "     3                                                      MAP DIMENSION" (put 12 "   450.0 500.0  50.0                                        HGT1 / HGT2 / DHGT" (put 19 "     5.0   0.0  10.0   5.0 451.0                            LAT/LON1/LON2/DLON/H" small-text))) 8 19 27
+    -- 8: epochs 21,601 s apart; 10 at the line after the last
+    ∷ of (put 4 "  1995    10    15     6     0     1                        EPOCH OF LAST MAP" (put 5 "     0                                                      INTERVAL" (put 22 "  1995    10    15     6     0     1                        EPOCH OF CURRENT MAP" two-text))) 8 22 1
+    ∷ of (take 31 small-text) 10 32 0
+    ∷ []
+
+pub refused-readings : All Refuses readings
+unfolding readings small-text two-text read begin feed split front opens? bad-column pad pick ×-dec ⊎-dec ¬-dec all-dec same sames need bind amap get ℕ-discrete decLe decLt int? le? lt? between? within? natural? dated second isLeap monthDays yearDays sum readField numberOf formed? ×₃-dec ×₄-dec end? step? multiple? together? limits? dimension? follows? name on-line lookup label number blanks blank scan fields cells on-date exponent? kind? true? after? implies? in-time? height? loose on-comment on-exponent start-tec start-other start-map on-start end-map on-map-end epoch-tec epoch-other on-epoch open-block on-block on-file taken step finish run short meant place none? complete? made made-texts once on-system on-end at-head head-step heading versioned version-of
+refused-readings = (refl, (refl, (refl, (refl, (refl, (refl, (refl, (refl, (refl, (refl, (refl, (refl, (refl, (refl, (refl, (refl, (refl, (refl, (refl, (refl, (refl, (refl, (refl, (refl, (refl, (refl, (refl, (refl, (refl, (refl, (refl, (refl, (refl, (refl, (refl, (refl, (refl, (refl, (refl, (refl, (refl, (refl, (refl, (refl, (refl, tt)))))))))))))))))))))))))))))))))))))))))))))
+
+-- ---- accepted: 80 bytes, an exponent of 0, and epochs 21,600 s apart
+pub accepted-texts : List (List String)
+accepted-texts =
+    put 9 "carrier phase                                               OBSERVABLES USED    " small-text
+    ∷ put 22 "     0                                                      EXPONENT" small-text
+    ∷ put 4 "  1995    10    15     6     0     0                        EPOCH OF LAST MAP" (put 5 " 21600                                                      INTERVAL" (put 22 "  1995    10    15     6     0     0                        EPOCH OF CURRENT MAP" two-text))
+    ∷ []
+
+pub accepted-readings : All (λ t. (s : MapSet) × (read (lines t) ≡ ok s)) accepted-texts
+unfolding accepted-texts small-text two-text read begin feed split front opens? bad-column pad pick ×-dec ⊎-dec ¬-dec all-dec same sames need bind amap get ℕ-discrete decLe decLt int? le? lt? between? within? natural? dated second isLeap monthDays yearDays sum readField numberOf formed? ×₃-dec ×₄-dec end? step? multiple? together? limits? dimension? follows? name on-line lookup label number blanks blank scan fields cells on-date exponent? kind? true? after? implies? in-time? height? loose on-comment on-exponent start-tec start-other start-map on-start end-map on-map-end epoch-tec epoch-other on-epoch open-block on-block on-file taken step finish run short meant place none? complete? made made-texts once on-system on-end at-head head-step heading versioned version-of
+accepted-readings = ((_, refl), ((_, refl), ((_, refl), tt)))
+
+-- ---- 361 rows, 721 columns, 64 layers, 2,000,000 nodes, and one more of each
+abbrev nodes-of : ℕ → Axis
+nodes-of k = record { first = pos 0; last = pos (10 * (k - 1)); step = pos 10 }
+
+-- n maps of L layers, R rows and C columns
+pub record Size : Type 0 where
+  pub n : ℕ
+  pub L : ℕ
+  pub R : ℕ
+  pub C : ℕ
+
+abbrev sized : ℕ → ℕ → ℕ → ℕ → Size
+sized n l r c = record { n = n; L = l; R = r; C = c }
+
+abbrev pub fits : Size → Bool
+fits s = truth (limits? (s .n) (record { heights = nodes-of (s .L); latitudes = nodes-of (s .R); longitudes = nodes-of (s .C) }))
+
+pub size-fits : All (λ s. fits s ≡ true) (sized 1 1 361 1 ∷ sized 1 1 1 721 ∷ sized 1 64 1 1 ∷ sized 8 10 250 100 ∷ sized 2000000 1 1 1 ∷ [])
+unfolding truth limits? ×₄-dec ×₃-dec ×-dec decLe
+size-fits = (refl, (refl, (refl, (refl, (refl, tt)))))
+
+pub size-too-big : All (λ s. fits s ≡ false) (sized 1 1 362 1 ∷ sized 1 1 1 722 ∷ sized 1 65 1 1 ∷ sized 8 10 250 101 ∷ sized 2000001 1 1 1 ∷ [])
+unfolding truth limits? ×₄-dec ×₃-dec ×-dec decLe
+size-too-big = (refl, (refl, (refl, (refl, (refl, tt)))))

@@ -1,0 +1,268 @@
+-- Texts that tell: an order of refusals that no rule of the layout shows, two small texts that are accepted, and numbers without a digit before the point.
+use mathlib.Core.Path.{_≡_, refl}
+use mathlib.Core.List.{List, [], _∷_, _++_}
+use mathlib.Core.Bool.{true, false}
+use Prim.Native.Nat.{ℕ}
+use lib.IntN.{ℤ, pos, negsuc}
+use Prim.Native.String.{String}
+use native.Mathlib.Decide.{ℕ-discrete, decLe, decLt}
+use Rattle.kit.specs.Answer.{ok, refused, need, bind, amap, get, pick, ×-dec, ⊎-dec, ¬-dec, all-dec, same, sames}
+use Rattle.kit.specs.Integer.{int?, le?, lt?, between?}
+use Rattle.kit.specs.Range.{within?, natural?}
+use Rattle.days.specs.Years.{isLeap, monthDays, yearDays}
+use Rattle.calendar.specs.Calendar.{dated, second}
+use Rattle.days.specs.Sums.{sum}
+use Rattle.forms.specs.Read.{readField, numberOf, formed?}
+use Rattle.mapset.specs.Decisions.{×₃-dec, ×₄-dec, end?, step?, multiple?, together?, limits?, dimension?, follows?}
+use Rattle.mapset.specs.declared.System.{System}
+use Rattle.mapset.specs.MapSet.{Block, MapSet}
+use Rattle.layout.specs.Text.{pad}
+use Rattle.layout.specs.Labels.{version, bytes, name}
+use Rattle.layout.specs.Layout.{Makes, exponent?}
+use Rattle.reading.specs.Feed.{fault, why, on-line, front, opens?, split, feed}
+use Rattle.reading.specs.Fields.{lookup, label, number, blank, scan, fields, cells}
+use Rattle.reading.specs.Maps.{on-date, kind?, true?, after?, implies?, in-time?, height?, loose, on-comment, on-exponent, start-tec, start-other, start-map, on-start, end-map, on-end as on-map-end, epoch-tec, epoch-other, on-epoch, open-block, on-block, on-file, taken, step, finish, run, short}
+use Rattle.reading.specs.Head.{meant, place, none?, complete?, made, made-texts, once, on-end, at-head, head-step, heading}
+use Rattle.reading.specs.Read.{versioned, version-of, begin, read}
+use Rattle.reading.proofs.Exact.{made-read}
+
+abbrev pub lines : List String → List ℕ
+lines [] = []
+lines (s ∷ ss) = bytes s ++ (10 ∷ lines ss)
+
+abbrev no-system : System
+no-system = record { stands = false; stations = 0; satellites = 0 }
+
+-- dimension 3 with DHGT 0 (8) and 451 rows (7): 8 comes first
+pub two-faults : List String
+two-faults =
+    "     1.1            IONOSPHERE MAPS     MIX                 IONEX VERSION / TYPE"
+    ∷ "maker               agency              15-nov-26 06:00     PGM / RUN BY / DATE"
+    ∷ "  1995    10    15     0     0     0                        EPOCH OF FIRST MAP"
+    ∷ "  1995    10    15     0     0     0                        EPOCH OF LAST MAP"
+    ∷ "     0                                                      INTERVAL"
+    ∷ "     1                                                      # OF MAPS IN FILE"
+    ∷ "  COSZ                                                      MAPPING FUNCTION"
+    ∷ "     0.0                                                    ELEVATION CUTOFF"
+    ∷ "double-difference carrier phase                             OBSERVABLES USED"
+    ∷ "  6371.0                                                    BASE RADIUS"
+    ∷ "     3                                                      MAP DIMENSION"
+    ∷ "   450.0 450.0   0.0                                        HGT1 / HGT2 / DHGT"
+    ∷ "    90.0 -90.0  -0.4                                        LAT1 / LAT2 / DLAT"
+    ∷ "     0.0   0.0   5.0                                        LON1 / LON2 / DLON"
+    ∷ "                                                            END OF HEADER"
+    ∷ []
+
+pub eight-before-seven : read (lines two-faults) ≡ refused (why 8 15 0)
+unfolding two-faults read begin feed split front opens? pad pick ×-dec ⊎-dec ¬-dec all-dec same sames need bind amap get ℕ-discrete decLe decLt int? le? lt? between? within? natural? dated second isLeap monthDays yearDays sum readField numberOf formed? ×₃-dec ×₄-dec end? step? multiple? together? limits? dimension? name on-line lookup label number blank scan fields on-date short meant place none? complete? made once on-end at-head head-step heading versioned version-of
+eight-before-seven = refl
+
+-- a small text: one TEC map and its RMS map, of two rows and three columns
+unfoldable pub small-text : List String
+small-text =
+    "     1.1            IONOSPHERE MAPS     MIX                 IONEX VERSION / TYPE"
+    ∷ "maker               agency              15-nov-26 06:00     PGM / RUN BY / DATE"
+    ∷ "  1995    10    15     0     0     0                        EPOCH OF FIRST MAP"
+    ∷ "  1995    10    15     0     0     0                        EPOCH OF LAST MAP"
+    ∷ "     0                                                      INTERVAL"
+    ∷ "     1                                                      # OF MAPS IN FILE"
+    ∷ "  COSZ                                                      MAPPING FUNCTION"
+    ∷ "     0.0                                                    ELEVATION CUTOFF"
+    ∷ "carrier phase                                               OBSERVABLES USED"
+    ∷ "  6371.0                                                    BASE RADIUS"
+    ∷ "     2                                                      MAP DIMENSION"
+    ∷ "   450.0 450.0   0.0                                        HGT1 / HGT2 / DHGT"
+    ∷ "     5.0   0.0  -5.0                                        LAT1 / LAT2 / DLAT"
+    ∷ "     0.0  10.0   5.0                                        LON1 / LON2 / DLON"
+    ∷ "    80                                                      # OF STATIONS"
+    ∷ "                                                            END OF HEADER"
+    ∷ "     1                                                      START OF TEC MAP"
+    ∷ "  1995    10    15     0     0     0                        EPOCH OF CURRENT MAP"
+    ∷ "     5.0   0.0  10.0   5.0 450.0                            LAT/LON1/LON2/DLON/H"
+    ∷ "  100 9999   -5"
+    ∷ ""
+    ∷ "    -2                                                      EXPONENT"
+    ∷ "     0.0   0.0  10.0   5.0 450.0                            LAT/LON1/LON2/DLON/H"
+    ∷ "    1    2    3"
+    ∷ "     1                                                      END OF TEC MAP"
+    ∷ "     1                                                      START OF RMS MAP"
+    ∷ "     5.0   0.0  10.0   5.0 450.0                            LAT/LON1/LON2/DLON/H"
+    ∷ "    4    5    6"
+    ∷ "     0.0   0.0  10.0   5.0 450.0                            LAT/LON1/LON2/DLON/H"
+    ∷ "    7    8    9"
+    ∷ "     1                                                      END OF RMS MAP"
+    ∷ "                                                            END OF FILE"
+    ∷ []
+
+abbrev row-of : ℤ → ℤ → ℤ → ℤ → Block
+row-of e a b c = record { exponent = e; values = a ∷ b ∷ c ∷ [] }
+
+-- the map set that makes it: the second row and the RMS map stand under the exponent -2
+unfoldable pub small-set : MapSet
+small-set =
+    record {
+      header = record {
+        version = record { tenths = 11; kind = 73; code = 6 };
+        times = record { first = 3022704000; last = 3022704000; interval = 0; maps = 1 };
+        model = record { cutoff = 0; radius = 63710; dimension = 2 };
+        grid = record {
+          heights = record { first = pos 4500; last = pos 4500; step = pos 0 };
+          latitudes = record { first = pos 50; last = pos 0; step = negsuc 49 };
+          longitudes = record { first = pos 0; last = pos 100; step = pos 50 };
+        };
+        stations = record { stands = true; count = 80 };
+        satellites = record { stands = false; count = 0 };
+        systems = record { g = no-system; r = no-system; e = no-system; c = no-system; j = no-system; i = no-system; s = no-system };
+      };
+      texts = record {
+        program = bytes "maker               ";
+        agency = bytes "agency              ";
+        date = bytes "15-nov-26 06:00     ";
+        mapping = bytes "COSZ";
+        observables = bytes "carrier phase                                               ";
+      };
+      maps = record {
+        tec = record { epoch = 3022704000; blocks = row-of (negsuc 0) (pos 100) (pos 9999) (negsuc 4) ∷ row-of (negsuc 1) (pos 1) (pos 2) (pos 3) ∷ [] } ∷ [];
+        rms = record { of = 1; blocks = row-of (negsuc 1) (pos 4) (pos 5) (pos 6) ∷ row-of (negsuc 1) (pos 7) (pos 8) (pos 9) ∷ [] } ∷ [];
+        height = [];
+      };
+    }
+
+pub small-read : read (lines small-text) ≡ ok small-set
+unfolding small-text small-set read begin feed split front opens? pad pick ×-dec ⊎-dec ¬-dec all-dec same sames need bind amap get ℕ-discrete decLe decLt int? le? lt? between? within? natural? dated second isLeap monthDays yearDays sum readField numberOf formed? ×₃-dec ×₄-dec end? step? multiple? together? limits? dimension? follows? name on-line lookup label number blank scan fields cells on-date exponent? kind? true? after? implies? in-time? height? loose on-comment on-exponent start-tec start-other start-map on-start end-map on-map-end epoch-tec epoch-other on-epoch open-block on-block on-file taken step finish run short meant place none? complete? made made-texts once on-end at-head head-step heading versioned version-of
+small-read = refl
+
+pub small-made : Makes small-set (lines small-text)
+small-made = made-read (lines small-text) small-read
+
+-- a text with two TEC maps of one row and two columns
+unfoldable pub two-text : List String
+two-text =
+    "     1.1            IONOSPHERE MAPS     MIX                 IONEX VERSION / TYPE"
+    ∷ "maker               agency              15-nov-26 06:00     PGM / RUN BY / DATE"
+    ∷ "  1995    10    15     0     0     0                        EPOCH OF FIRST MAP"
+    ∷ "  1995    10    15     1     0     0                        EPOCH OF LAST MAP"
+    ∷ "  3600                                                      INTERVAL"
+    ∷ "     2                                                      # OF MAPS IN FILE"
+    ∷ "  COSZ                                                      MAPPING FUNCTION"
+    ∷ "     0.0                                                    ELEVATION CUTOFF"
+    ∷ "carrier phase                                               OBSERVABLES USED"
+    ∷ "  6371.0                                                    BASE RADIUS"
+    ∷ "     2                                                      MAP DIMENSION"
+    ∷ "   450.0 450.0   0.0                                        HGT1 / HGT2 / DHGT"
+    ∷ "     5.0   5.0   5.0                                        LAT1 / LAT2 / DLAT"
+    ∷ "     0.0   5.0   5.0                                        LON1 / LON2 / DLON"
+    ∷ "                                                            END OF HEADER"
+    ∷ "     1                                                      START OF TEC MAP"
+    ∷ "  1995    10    15     0     0     0                        EPOCH OF CURRENT MAP"
+    ∷ "     5.0   0.0   5.0   5.0 450.0                            LAT/LON1/LON2/DLON/H"
+    ∷ "   11   12"
+    ∷ "     1                                                      END OF TEC MAP"
+    ∷ "     2                                                      START OF TEC MAP"
+    ∷ "  1995    10    15     1     0     0                        EPOCH OF CURRENT MAP"
+    ∷ "     5.0   0.0   5.0   5.0 450.0                            LAT/LON1/LON2/DLON/H"
+    ∷ "   21   22"
+    ∷ "     2                                                      END OF TEC MAP"
+    ∷ "                                                            END OF FILE"
+    ∷ []
+
+abbrev pair-of : ℤ → ℤ → Block
+pair-of a b = record { exponent = negsuc 0; values = a ∷ b ∷ [] }
+
+unfoldable pub two-set : MapSet
+two-set =
+    record {
+      header = record {
+        version = record { tenths = 11; kind = 73; code = 6 };
+        times = record { first = 3022704000; last = 3022707600; interval = 3600; maps = 2 };
+        model = record { cutoff = 0; radius = 63710; dimension = 2 };
+        grid = record {
+          heights = record { first = pos 4500; last = pos 4500; step = pos 0 };
+          latitudes = record { first = pos 50; last = pos 50; step = pos 50 };
+          longitudes = record { first = pos 0; last = pos 50; step = pos 50 };
+        };
+        stations = record { stands = false; count = 0 };
+        satellites = record { stands = false; count = 0 };
+        systems = record { g = no-system; r = no-system; e = no-system; c = no-system; j = no-system; i = no-system; s = no-system };
+      };
+      texts = record {
+        program = bytes "maker               ";
+        agency = bytes "agency              ";
+        date = bytes "15-nov-26 06:00     ";
+        mapping = bytes "COSZ";
+        observables = bytes "carrier phase                                               ";
+      };
+      maps = record {
+        tec = record { epoch = 3022704000; blocks = pair-of (pos 11) (pos 12) ∷ [] } ∷ record { epoch = 3022707600; blocks = pair-of (pos 21) (pos 22) ∷ [] } ∷ [];
+        rms = [];
+        height = [];
+      };
+    }
+
+pub two-read : read (lines two-text) ≡ ok two-set
+unfolding two-text two-set read begin feed split front opens? pad pick ×-dec ⊎-dec ¬-dec all-dec same sames need bind amap get ℕ-discrete decLe decLt int? le? lt? between? within? natural? dated second isLeap monthDays yearDays sum readField numberOf formed? ×₃-dec ×₄-dec end? step? multiple? together? limits? dimension? follows? name on-line lookup label number blank scan fields cells on-date exponent? kind? true? after? implies? in-time? height? loose on-comment on-exponent start-tec start-other start-map on-start end-map on-map-end epoch-tec epoch-other on-epoch open-block on-block on-file taken step finish run short meant place none? complete? made made-texts once on-end at-head head-step heading versioned version-of
+two-read = refl
+
+-- a text with half a degree in its axes and in its block's opening, as these lines spell it
+pub half-text : String → String → String → List String
+half-text lat lon opening =
+    "     1.1            IONOSPHERE MAPS     MIX                 IONEX VERSION / TYPE"
+    ∷ "maker               agency              15-nov-26 06:00     PGM / RUN BY / DATE"
+    ∷ "  1995    10    15     0     0     0                        EPOCH OF FIRST MAP"
+    ∷ "  1995    10    15     0     0     0                        EPOCH OF LAST MAP"
+    ∷ "     0                                                      INTERVAL"
+    ∷ "     1                                                      # OF MAPS IN FILE"
+    ∷ "  COSZ                                                      MAPPING FUNCTION"
+    ∷ "     0.0                                                    ELEVATION CUTOFF"
+    ∷ "carrier phase                                               OBSERVABLES USED"
+    ∷ "  6371.0                                                    BASE RADIUS"
+    ∷ "     2                                                      MAP DIMENSION"
+    ∷ "   450.0 450.0   0.0                                        HGT1 / HGT2 / DHGT"
+    ∷ lat
+    ∷ lon
+    ∷ "                                                            END OF HEADER"
+    ∷ "     1                                                      START OF TEC MAP"
+    ∷ "  1995    10    15     0     0     0                        EPOCH OF CURRENT MAP"
+    ∷ opening
+    ∷ "   11   12"
+    ∷ "     1                                                      END OF TEC MAP"
+    ∷ "                                                            END OF FILE"
+    ∷ []
+
+pub bare-text : List String
+bare-text =
+    half-text
+    "      .5    .5    .5                                        LAT1 / LAT2 / DLAT"
+    "     -.5    .0    .5                                        LON1 / LON2 / DLON"
+    "      .5   -.5   -.0    .5 450.0                            LAT/LON1/LON2/DLON/H"
+
+pub full-text : List String
+full-text =
+    half-text
+    "     0.5   0.5   0.5                                        LAT1 / LAT2 / DLAT"
+    "    -0.5   0.0   0.5                                        LON1 / LON2 / DLON"
+    "     0.5  -0.5  -0.0   0.5 450.0                            LAT/LON1/LON2/DLON/H"
+
+-- `.5` is accepted, and means what `0.5` means
+pub bare-read : (s : MapSet) × (read (lines bare-text) ≡ ok s) × (read (lines full-text) ≡ ok s)
+unfolding half-text bare-text full-text read begin feed split front opens? pad pick ×-dec ⊎-dec ¬-dec all-dec same sames need bind amap get ℕ-discrete decLe decLt int? le? lt? between? within? natural? dated second isLeap monthDays yearDays sum readField numberOf formed? ×₃-dec ×₄-dec end? step? multiple? together? limits? dimension? follows? name on-line lookup label number blank scan fields cells on-date exponent? kind? true? after? implies? in-time? height? loose on-comment on-exponent start-tec start-other start-map on-start end-map on-map-end epoch-tec epoch-other on-epoch open-block on-block on-file taken step finish run short meant place none? complete? made made-texts once on-end at-head head-step heading versioned version-of
+bare-read = (_, refl, refl)
+
+-- the digit after the point is not left out: 6 at the field's first column
+pub no-digit : read (lines (half-text "      .5    .5    .5                                        LAT1 / LAT2 / DLAT" "      -.    .0    .5                                        LON1 / LON2 / DLON" "")) ≡ refused (why 6 14 3)
+unfolding half-text read begin feed split front opens? pad pick ×-dec ⊎-dec ¬-dec all-dec same sames need bind amap get ℕ-discrete decLe decLt int? le? lt? between? within? natural? dated second isLeap monthDays yearDays sum readField numberOf formed? ×₃-dec ×₄-dec end? step? multiple? together? limits? dimension? follows? name on-line lookup label number blank scan fields cells on-date exponent? kind? true? after? implies? in-time? height? loose on-comment on-exponent start-tec start-other start-map on-start end-map on-map-end epoch-tec epoch-other on-epoch open-block on-block on-file taken step finish run short meant place none? complete? made made-texts once on-end at-head head-step heading versioned version-of
+no-digit = refl
+
+-- ---- versions: GPS and GLO stand under 1.0 and not under 1.1; the version is told before the type, the type before the code
+
+abbrev version-row : String → List ℕ
+version-row s = bytes s ++ name version
+
+pub versions-read : (version-of (version-row "     1.0            IONOSPHERE MAPS     GPS                 ") ≡ ok (record { tenths = 10; kind = 73; code = 9 }))
+    × (version-of (version-row "     1.0            IONOSPHERE MAPS     GLO                 ") ≡ ok (record { tenths = 10; kind = 73; code = 10 }))
+    × (version-of (version-row "     1.0            IONOSPHERE MAPS     MIX                 ") ≡ ok (record { tenths = 10; kind = 73; code = 6 }))
+    × (version-of (version-row "     1.1            IONOSPHERE MAPS     GPS                 ") ≡ refused (fault 3 41))
+    × (version-of (version-row "     1.2            GEODESY             GPS                 ") ≡ refused (fault 3 1))
+    × (version-of (version-row "     1.1            GEODESY             GPS                 ") ≡ refused (fault 3 21))
+unfolding pick ×-dec ⊎-dec all-dec same sames need bind amap get ℕ-discrete decLe decLt within? natural? readField numberOf formed? name number blank scan fields place versioned version-of
+versions-read = (refl, refl, refl, refl, refl, refl)

@@ -1,0 +1,9 @@
+pub mod Accepted
+pub mod Border
+pub mod Gains
+pub mod Likes
+pub mod Nothing
+pub mod Pairs
+pub mod Rows
+pub mod Same
+pub mod SameIndex

@@ -1,0 +1,5 @@
+pub mod LoopLaws
+pub mod PartLaws
+pub mod RowLaws
+pub mod SetLaws
+pub mod TabLaws

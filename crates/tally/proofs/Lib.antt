@@ -1,0 +1,4 @@
+pub mod GatheredLaws
+pub mod ExtremeLaws
+pub mod FigureLaws
+pub mod Vectors
