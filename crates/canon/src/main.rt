@@ -10,7 +10,7 @@ fn main() {
     let mut marks = [0u8; 300];
     let mut out = [0u8; 65536];
     let n = io::read_full(libc::STDIN_FILENO, &mut text);
-    let k = printing::answer(
+    let k = program_text::answer(
         &text[..n],
         &mut tec,
         &mut rms,

@@ -4,7 +4,7 @@ use mathlib.Core.Bool.{true, false}
 use lib.Dec.{T}
 use lib.IntN.{ℤ}
 use lib.Ieee.{Float, binary64, mul, div, le, ofInt}
-use Rattle.nodes.specs.declared.MilliTecu.{MilliTecu}
+use Rattle.ask_nodes.specs.declared.MilliTecu.{MilliTecu}
 use Rattle.delay.specs.Delay.{Told, given, refused, told, whole, InBand, Delays, serves, refuses}
 use Rattle.delay.specs.declared.Delayed.{Delayed}
 use Rattle.delay.specs.declared.Delayed.the-variants.{Given, Refused}

@@ -14,7 +14,7 @@ use lib.Ieee.Order.{round-mono}
 use lib.Ieee.Scale.{finite, round-same}
 use lib.Ieee.Positive.{num, den, positive, positive-finite, between, le→cross, mul-mono}
 use Rattle.kit.proofs.Parts.{size-of-fits}
-use Rattle.nodes.specs.declared.MilliTecu.{MilliTecu}
+use Rattle.ask_nodes.specs.declared.MilliTecu.{MilliTecu}
 use Rattle.delay.specs.Delay.{given, milli, whole, tecu, metres, InBand, Delays, serves}
 use Rattle.delay.proofs.Literals.{factor-exact}
 

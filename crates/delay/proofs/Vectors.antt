@@ -4,7 +4,7 @@ use mathlib.Core.Bool.{false}
 use Prim.Native.Nat.{ℕ}
 use lib.IntN.{ℤ, pos, negsuc}
 use lib.Ieee.{Float, nan, inf, binary64, mul, div, le, ofInt, ofBits, toBits}
-use Rattle.nodes.specs.declared.MilliTecu.{MilliTecu}
+use Rattle.ask_nodes.specs.declared.MilliTecu.{MilliTecu}
 use Rattle.delay.specs.Delay.{milli, given, refused, whole, tecu, metres, Delays, serves, refuses}
 
 -- one TECU at L1 is about 0.162 m: 0.16237244751199473

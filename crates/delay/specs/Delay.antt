@@ -3,7 +3,7 @@ use Prim.Native.Nat.{ℕ}
 use lib.Dec.{T}
 use lib.IntN.{ℤ, pos}
 use lib.Ieee.{Float, binary64, mul, div, le, ofInt}
-use Rattle.nodes.specs.declared.MilliTecu.{MilliTecu}
+use Rattle.ask_nodes.specs.declared.MilliTecu.{MilliTecu}
 use Rattle.delay.specs.declared.Delayed.{Delayed}
 use Rattle.delay.specs.declared.Delayed.the-variants.{Given, Refused}
 

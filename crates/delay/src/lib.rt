@@ -1,6 +1,6 @@
 // The group delay in metres of a TEC answer at a carrier (02, request 13).
 ghost use Rattle.delay.specs.Delay.{told, Delays};
-use nodes::MilliTecu;
+use ask_nodes::MilliTecu;
 
 // Hertz, TECU and metres.
 pub struct Delay {

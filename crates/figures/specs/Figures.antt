@@ -40,13 +40,13 @@ use Rattle.reading.specs.Maps.{short}
 use Rattle.reading.specs.Read.{begin, read}
 use Rattle.reading.proofs.RecordLaws.{cells-yields}
 use Rattle.reading.proofs.Exact.{refused-unmade}
-use Rattle.rounding.specs.Round.{rounded}
-use Rattle.cells.specs.Found.{strip?, after}
-use Rattle.nodes.specs.Value.{is-value?, worth, value}
-use Rattle.sums.specs.Mean.{corners, spread, terms, weighted, weight, valued?, mean}
-use Rattle.asker.specs.Ask.{Question, question, Told, tecu, Answers}
-use Rattle.asker.proofs.Sample.{axis, absent, header, texts}
-use Rattle.asker.proofs.Reckoned.{gives, holds, reckoned, known?, timely?, same-told}
+use Rattle.ask_round.specs.Round.{rounded}
+use Rattle.ask_cells.specs.Found.{strip?, after}
+use Rattle.ask_nodes.specs.Value.{is-value?, worth, value}
+use Rattle.ask_sums.specs.Mean.{corners, spread, terms, weighted, weight, valued?, mean}
+use Rattle.ask.specs.Ask.{Question, question, Told, tecu, Answers}
+use Rattle.ask.proofs.Sample.{axis, absent, header, texts}
+use Rattle.ask.proofs.Reckoned.{gives, holds, reckoned, known?, timely?, same-told}
 
 -- a row of the table
 pub data Figure : Type 0 where

@@ -19,7 +19,7 @@ use Rattle.mapset.specs.Grid.{Line, AxisRules}
 use Rattle.mapset.specs.Header.{count, axis, Said, a-count, a-axis, starred}
 use Rattle.layout.specs.Text.{pad}
 use Rattle.layout.specs.Layout.{Slots, Mode, plain, mode}
-use Rattle.lines.specs.Leads.{LeadsRow, after-all}
+use Rattle.read_lines.specs.Leads.{LeadsRow, after-all}
 use Rattle.reading.specs.Feed.{Fault, fault, Why, why, on-line, Feed, over, bad, row, split, feed}
 use Rattle.reading.proofs.LineLaws.{Sized, sized}
 use Rattle.reading.specs.Maps.{short, run}
@@ -29,11 +29,11 @@ use Rattle.mapset.specs.Said.{number-in, axis-in}
 use Rattle.reading.proofs.SlotLaws.{fit-none, complete-at}
 use Rattle.reading.specs.Read.{nothing-yet, version-of, begin, read}
 use Rattle.reading.proofs.HeadLaws.{Ends, fine-step}
-use Rattle.gathered.specs.Got.{slots-of, texts-of, Went, went, ended, gone, toldNext, stepped}
+use Rattle.head_state.specs.Got.{slots-of, texts-of, Went, went, ended, gone, toldNext, stepped}
 use Rattle.head.specs.Opened.{HeaderFits, Sound, opened, Goes, Stops, Passes, onward, beside, Opens}
-use Rattle.gathered.specs.declared.State.{State}
-use Rattle.gathered.specs.declared.Next.{Next}
-use Rattle.gathered.specs.declared.Next.the-variants as Next
+use Rattle.head_state.specs.declared.State.{State}
+use Rattle.head_state.specs.declared.Next.{Next}
+use Rattle.head_state.specs.declared.Next.the-variants as Next
 use Rattle.head.specs.declared.HeaderRead.{HeaderRead}
 use Rattle.head.specs.declared.Headed.{Headed}
 use Rattle.head.specs.declared.Headed.the-variants.{Refused, Accepted}

@@ -17,10 +17,10 @@ use Rattle.reading.specs.Feed.{Why, why, split, feed}
 use Rattle.reading.specs.Maps.{run}
 use Rattle.reading.specs.Head.{heading, Got}
 use Rattle.reading.specs.declared.Place.the-variants.{Between}
-use Rattle.gathered.specs.Got.{slots-of, texts-of}
-use Rattle.gathered.specs.declared.State.{State}
-use Rattle.gathered.specs.declared.Next.{Next}
-use Rattle.gathered.specs.declared.Next.the-variants as Next
+use Rattle.head_state.specs.Got.{slots-of, texts-of}
+use Rattle.head_state.specs.declared.State.{State}
+use Rattle.head_state.specs.declared.Next.{Next}
+use Rattle.head_state.specs.declared.Next.the-variants as Next
 use Rattle.head.specs.declared.Headed.{Headed}
 use Rattle.head.specs.declared.Headed.the-variants.{Refused, Accepted}
 use Rattle.head.specs.declared.Onward.{Onward}

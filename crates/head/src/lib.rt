@@ -1,5 +1,5 @@
 // The header of a text: its version record, its records in any order, END OF HEADER.
-use gathered::State;
+use head_state::State;
 use mapset::Header;
 use mapset::Texts;
 

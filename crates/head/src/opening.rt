@@ -7,19 +7,19 @@ ghost use Rattle.layout.specs.Layout.{plain};
 ghost use Rattle.reading.specs.Feed.{split, feed};
 ghost use Rattle.reading.specs.Head.{heading, Got};
 ghost use Rattle.reading.specs.Read.{nothing-yet, read};
-ghost use Rattle.gathered.specs.Got.{slots-of, texts-of};
+ghost use Rattle.head_state.specs.Got.{slots-of, texts-of};
 ghost use Rattle.head.specs.Opened.{Passes, onward, beside, Opens};
 ghost use Rattle.mapset.specs.Said.{blank-texts};
 use super::Headed;
 use super::HeaderRead;
 use super::Onward;
 use super::Passed;
-use gathered::Next;
-use gathered::State;
-use lines::NextRow;
+use head_state::Next;
+use head_state::State;
+use read_lines::NextRow;
 use mapset::Texts;
 use mapset::Version;
-use version::Versioned;
+use head_version::Versioned;
 
 // What a row leads to, by what it does to the header: the next line starts at `next`, after n lines.
 fn led_to(turn: Next, exponent: i32, next: usize, n: u64) -> Onward
@@ -37,9 +37,9 @@ fn pass(s: State, version: Version, text: &[u8], from: usize, passed: u64) -> Pa
     requires { ⌜ (from ≤ length (now text)) × (passed ≤ from) × Got (slots-of s) ⌝ }
     ensures { λ r. ⌜ Passes (now (text .entry)) version s from passed (r .onward) (r .state) ⌝ }
 {
-    match lines::row_from(text, from, passed) {
+    match read_lines::row_from(text, from, passed) {
         NextRow::Over(n) => Passed {
-            onward: Onward::Stop(Headed::Refused(10, lines::line_after(n), 0)),
+            onward: Onward::Stop(Headed::Refused(10, read_lines::line_after(n), 0)),
             state: s,
         },
         NextRow::Bad(number, line, column) => Passed {
@@ -47,7 +47,7 @@ fn pass(s: State, version: Version, text: &[u8], from: usize, passed: u64) -> Pa
             state: s,
         },
         NextRow::Row(start, end, next, n) => {
-            let r = headlines::step(s, version, &text[start..end]);
+            let r = head_step::step(s, version, &text[start..end]);
             let turn = r.next;
             let t = r.state;
             Passed {
@@ -107,7 +107,7 @@ fn header_from(text: &[u8], from: usize, passed: u64, version: Version) -> Heade
     requires { ⌜ (from ≤ length (now text)) × (passed ≤ from) ⌝ }
     ensures { λ r. ⌜ Opens (heading version plain (negsuc 0) nothing-yet (feed (suc passed) (split (drop from (now (text .entry)))))) (now (text .entry)) r ⌝ }
 {
-    let mut s = gathered::nothing();
+    let mut s = head_state::nothing();
     let mut at = from;
     let mut n = passed;
     loop {
@@ -140,10 +140,10 @@ fn refusal(number: u64, line: u64, column: u64) -> HeaderRead
 pub fn read_header(text: &[u8]) -> HeaderRead
     ensures { λ r. ⌜ Opens (read (now (text .entry))) (now (text .entry)) r ⌝ }
 {
-    match lines::row_from(text, 0, 0) {
-        NextRow::Over(n) => refusal(10, lines::line_after(n), 0),
+    match read_lines::row_from(text, 0, 0) {
+        NextRow::Over(n) => refusal(10, read_lines::line_after(n), 0),
         NextRow::Bad(number, line, column) => refusal(number, line, column),
-        NextRow::Row(start, end, next, n) => match version::version_of(&text[start..end]) {
+        NextRow::Row(start, end, next, n) => match head_version::version_of(&text[start..end]) {
             Versioned::Refused(number, column) => refusal(number, n + 1, column),
             Versioned::As(version) => header_from(text, next, n + 1, version),
         },

@@ -32,7 +32,7 @@ use Rattle.areas.proofs.Scanned.{rows-begin, scan-leaves, scan-stays}
 use Rattle.areas.proofs.Nested.{mark-low}
 use Rattle.index.specs.Stands.{Stands}
 use Rattle.index.specs.Index.{Index, Fit, Node, Inside, Entries, index, done, entry, block-in, number-in, exponent-in, given, go, position, exponent, Pointed, Replies}
-use Rattle.nodes.specs.Value.{kind-of}
+use Rattle.ask_nodes.specs.Value.{kind-of}
 use Rattle.index.specs.Made.{Placed, just-rows, placed-from, opened, maps-of, put-starts, positions-of, entries-of, fronts}
 use Rattle.index.proofs.Lines.{Lies, lies}
 use Rattle.index.proofs.Begin.{rows-exponent, lies-rows, lies-maps}

@@ -12,8 +12,8 @@ use Rattle.layout.specs.Text.{Clean}
 use Rattle.reading.specs.Feed.{Opens, opens?}
 use Rattle.index.specs.Stands as at
 use Rattle.index.specs.Stands.{Over, Eol}
-use Rattle.lines.specs.Cuts.{Cut, with-byte, with-cr, cuts}
-use Rattle.lines.proofs.Firsts.{cuts-lf, cuts-crlf}
+use Rattle.read_lines.specs.Cuts.{Cut, with-byte, with-cr, cuts}
+use Rattle.read_lines.proofs.Firsts.{cuts-lf, cuts-crlf}
 
 -- ---- a clean line and its end
 

@@ -26,7 +26,7 @@ use Rattle.kit.proofs.ListLaws.{all-append, all-drop}
 use Rattle.index.specs.Stands as at
 use Rattle.index.specs.Stands.{Over, Eol, Blanks, Shown, Stands}
 use Rattle.index.specs.Found.{clean?, blank?, agrees?, Found, in-front, on-ok, values-at, block-at}
-use Rattle.lines.specs.Cuts.{Cut, with-byte, with-cr, cuts}
+use Rattle.read_lines.specs.Cuts.{Cut, with-byte, with-cr, cuts}
 use Rattle.index.proofs.CutLaws.{cut-line, cut-last, Joined, j-none, j-last, j-line, joined}
 
 -- ---- one line

@@ -9,7 +9,7 @@ use Rattle.kit.specs.Answer.{All}
 use Rattle.kit.proofs.AnswerLaws.{pick-yes, pick-no}
 use Rattle.forms.specs.Columns.{Blank}
 use Rattle.layout.specs.Text.{Ended, none, last, lf, crlf, Clean, pad, Laid, blank, line}
-use Rattle.lines.specs.Cuts.{Cut, cuts}
+use Rattle.read_lines.specs.Cuts.{Cut, cuts}
 use Rattle.index.specs.Stands as at
 use Rattle.index.specs.Stands.{Eol, Blanks, Shown}
 use Rattle.index.specs.Found.{clean?, blank?}

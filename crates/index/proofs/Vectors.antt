@@ -16,7 +16,7 @@ use Rattle.reading.specs.Fields.{lookup, label, number, blank, scan, fields, ce
 use Rattle.reading.proofs.Vectors.{lines, small-text, small-set}
 use Rattle.areas.specs.Flat.{areas-of}
 use Rattle.areas.specs.Scan.{or-else, second-of, brought, body, events}
-use Rattle.lines.specs.Cuts.{cuts}
+use Rattle.read_lines.specs.Cuts.{cuts}
 use Rattle.index.specs.Found.{clean?, blank?}
 use Rattle.index.specs.Index.{node, entry, entries}
 use Rattle.index.specs.Made.{placed, opened, maps-of, positions-of, entries-of}

@@ -18,7 +18,7 @@ use Rattle.layout.specs.Labels.{name, block, layout}
 use Rattle.layout.specs.Layout.{node, Opens}
 use Rattle.reading.specs.Fields.{fields, cells}
 use Rattle.reading.specs.Maps.{height?, on-row}
-use Rattle.lines.specs.Cuts.{Cut}
+use Rattle.read_lines.specs.Cuts.{Cut}
 
 -- ---- tests
 unfoldable pub clean? : (l : List ℕ) → Dec (Clean l)

@@ -14,7 +14,7 @@ use Rattle.mapset.specs.declared.Texts.{Texts}
 use Rattle.layout.specs.Layout.{Exponent, per-map}
 use Rattle.areas.specs.Stores.{before, place, first-of}
 use Rattle.areas.specs.Valid.{values-in}
-use Rattle.nodes.specs.Value.{kind-of}
+use Rattle.ask_nodes.specs.Value.{kind-of}
 use Rattle.index.specs.Stands.{Stands}
 
 -- header record and texts, marks, and of each block its position in the text and its exponent, in the order of the exponents of a map set

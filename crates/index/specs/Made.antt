@@ -17,7 +17,7 @@ use Rattle.areas.specs.Events as event
 use Rattle.areas.specs.Events.{Event}
 use Rattle.areas.specs.Stores.{before, first-of}
 use Rattle.areas.specs.Scan.{by-label, exponent-in, events}
-use Rattle.lines.specs.Cuts.{Cut, cuts}
+use Rattle.read_lines.specs.Cuts.{Cut, cuts}
 use Rattle.index.specs.Found.{clean?, blank?}
 use Rattle.index.specs.Index.{Entries, entries}
 

@@ -1,8 +1,8 @@
 // The value at a place and second, and as other languages ask for it.
 ghost use Rattle.mapset.specs.Areas.{six};
-ghost use Rattle.asker.specs.Ask.{question, Answers, told};
-ghost use Rattle.crossing.specs.AskExported.{asks, AskCrosses};
-use asker::Asked;
+ghost use Rattle.ask.specs.Ask.{question, Answers, told};
+ghost use Rattle.c_answers.specs.AskExported.{asks, AskCrosses};
+use ask::Asked;
 use mapset::Header;
 use mapset::Texts;
 
@@ -25,7 +25,7 @@ pub fn ask(
 ) -> Asked
     ensures { λ r. ⌜ Answers (question header texts (six (now (tec .entry)) (now (rms .entry)) (now (height .entry)) (now (exponents .entry)) (now (epochs .entry)) (now (marks .entry))) kind method layer lat lon second) (told r) ⌝ }
 {
-    asker::ask(
+    ask::ask(
         header,
         texts,
         tec,
@@ -64,12 +64,12 @@ pub extern "C" fn ionex_ask(
 ) -> u64
     ensures { λ r. ⌜ AskCrosses (now (header .entry)) (now (texts .entry)) (asks (now (header .entry)) (now (texts .entry)) (six (now (tec .entry)) (now (rms .entry)) (now (height .entry)) (now (exponents .entry)) (now (epochs .entry)) (now (marks .entry))) kind method layer lat lon second) (now (value .entry)) r (now (value .exit)) ⌝ }
 {
-    let short = crossing::too_short(header.len(), texts.len(), value.len(), 1);
+    let short = c_answers::too_short(header.len(), texts.len(), value.len(), 1);
     if 0 < short {
         return short;
     }
-    let h = given::header_in(header);
-    let x = given::texts_in(texts);
+    let h = c_given::header_in(header);
+    let x = c_given::texts_in(texts);
     let answer = ask(
         h,
         x,
@@ -86,5 +86,5 @@ pub extern "C" fn ionex_ask(
         lon,
         second,
     );
-    crossing::put_answer(answer, value)
+    c_answers::put_answer(answer, value)
 }

@@ -1,12 +1,12 @@
 // The delay in metres of an answer, and at a place and second; and as other languages ask for them.
 ghost use Rattle.mapset.specs.Areas.{six};
-ghost use Rattle.asker.specs.Ask.{question};
+ghost use Rattle.ask.specs.Ask.{question};
 ghost use Rattle.delay.specs.Delay.{Delays, told as told-delay};
-ghost use Rattle.askdelay.specs.AskDelay.{AskDelays, told as told-asked};
-ghost use Rattle.crossing.specs.AskExported.{asks};
-ghost use Rattle.crossing.specs.DelayExported.{TecuDelayCrosses, DelayCrosses};
-use askdelay::AskedDelay;
-use asker::MilliTecu;
+ghost use Rattle.ask_delay.specs.AskDelay.{AskDelays, told as told-asked};
+ghost use Rattle.c_answers.specs.AskExported.{asks};
+ghost use Rattle.c_answers.specs.DelayExported.{TecuDelayCrosses, DelayCrosses};
+use ask_delay::AskedDelay;
+use ask::MilliTecu;
 use delay::Delayed;
 use mapset::Header;
 use mapset::Texts;
@@ -38,7 +38,7 @@ pub fn ask_delay(
 ) -> AskedDelay
     ensures { λ r. ⌜ AskDelays (question header texts (six (now (tec .entry)) (now (rms .entry)) (now (height .entry)) (now (exponents .entry)) (now (epochs .entry)) (now (marks .entry))) kind method layer lat lon second) carrier (told-asked r) ⌝ }
 {
-    askdelay::ask_delay(
+    ask_delay::ask_delay(
         header,
         texts,
         tec,
@@ -66,7 +66,7 @@ pub extern "C" fn ionex_tecu_delay(x: i32, carrier: f64, out: &mut [f64]) -> u64
         return 103;
     }
     let answer = tecu_delay(MilliTecu(x), carrier);
-    crossing::put_delay(answer, out)
+    c_answers::put_delay(answer, out)
 }
 
 // The delay of a TEC or RMS value of a map set: 0, with carrier, TECU and metres; or 01's or 02's number.
@@ -91,12 +91,12 @@ pub extern "C" fn ionex_delay(
 ) -> u64
     ensures { λ r. ⌜ DelayCrosses (now (header .entry)) (now (texts .entry)) (asks (now (header .entry)) (now (texts .entry)) (six (now (tec .entry)) (now (rms .entry)) (now (height .entry)) (now (exponents .entry)) (now (epochs .entry)) (now (marks .entry))) kind method layer lat lon second) carrier (now (out .entry)) r (now (out .exit)) ⌝ }
 {
-    let short = crossing::too_short(header.len(), texts.len(), out.len(), 3);
+    let short = c_answers::too_short(header.len(), texts.len(), out.len(), 3);
     if 0 < short {
         return short;
     }
-    let h = given::header_in(header);
-    let x = given::texts_in(texts);
+    let h = c_given::header_in(header);
+    let x = c_given::texts_in(texts);
     let answer = ask_delay(
         h,
         x,
@@ -114,5 +114,5 @@ pub extern "C" fn ionex_delay(
         second,
         carrier,
     );
-    crossing::put_asked_delay(answer, out)
+    c_answers::put_asked_delay(answer, out)
 }

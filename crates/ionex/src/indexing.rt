@@ -1,14 +1,14 @@
 // A text's index, and one node or one block by index and text; and as other languages have them.
 ghost use mathlib.Core.Path.{_≡_};
 ghost use Rattle.index.specs.Index.{entries, index, node};
-ghost use Rattle.making.specs.Making.{made, comes};
-ghost use Rattle.pointed.specs.Told.{Finds, HandsBack};
-ghost use Rattle.indexcrossing.specs.Crossed.{NodeCrosses, BlockCrosses};
-ghost use Rattle.indexcrossing.specs.IndexExported.{crossed, index-crossed};
+ghost use Rattle.index_text.specs.Making.{made, comes};
+ghost use Rattle.index_node.specs.Told.{Finds, HandsBack};
+ghost use Rattle.c_index.specs.Crossed.{NodeCrosses, BlockCrosses};
+ghost use Rattle.c_index.specs.IndexExported.{crossed, index-crossed};
 use mapset::Header;
 use mapset::Texts;
-use outcome::ReadOut;
-use pointed::Reply;
+use read_outcome::ReadOut;
+use index_node::Reply;
 
 // A text's index into three lent areas, with its header record and texts; or the reason why not.
 pub fn make_index(
@@ -20,7 +20,7 @@ pub fn make_index(
     ensures { λ r. ⌜ comes r (entries (now (positions .exit)) (now (exponents .exit)) (now (marks .exit)))
         ≡ made (now (text .entry)) (entries (now (positions .entry)) (now (exponents .entry)) (now (marks .entry))) ⌝ }
 {
-    making::make_index(text, positions, exponents, marks)
+    index_text::make_index(text, positions, exponents, marks)
 }
 
 // The number at a node as written, 9999 included, with its exponent, and where its block's lines stand; or 23, 31, 21, 22 or 50, in this order.
@@ -39,7 +39,7 @@ pub fn indexed_node(
 ) -> Reply
     ensures { λ r. ⌜ Finds (index header texts (entries (now (positions .entry)) (now (exponents .entry)) (now (marks .entry)))) (now (text .entry)) (node kind map layer row column) r ⌝ }
 {
-    pointed::find_node(
+    index_node::find_node(
         text,
         header,
         texts,
@@ -70,7 +70,7 @@ pub fn indexed_block<'a>(
 ) -> &'a [u8]
     ensures { λ r. ⌜ HandsBack (index header texts (entries (now (positions .entry)) (now (exponents .entry)) (now (marks .entry)))) (now (text .entry)) (node kind map layer row column) (now r) ⌝ }
 {
-    pointed::find_block(
+    index_node::find_block(
         text,
         header,
         texts,
@@ -99,12 +99,12 @@ pub extern "C" fn ionex_index(
     ensures { λ r. ⌜ crossed r (entries (now (positions .exit)) (now (exponents .exit)) (now (marks .exit))) (now (header .exit)) (now (texts .exit)) (now (place .exit))
         ≡ index-crossed (now (text .entry)) (entries (now (positions .entry)) (now (exponents .entry)) (now (marks .entry))) (now (header .entry)) (now (texts .entry)) (now (place .entry)) ⌝ }
 {
-    let short = crossing::too_short(header.len(), texts.len(), place.len(), 2);
+    let short = c_answers::too_short(header.len(), texts.len(), place.len(), 2);
     if 0 < short {
         return short;
     }
     let r = make_index(text, positions, exponents, marks);
-    crossing::put_reading(r, header, texts, place)
+    c_answers::put_reading(r, header, texts, place)
 }
 
 // One node: 0, with its number and exponent; or 02's number.
@@ -125,12 +125,12 @@ pub extern "C" fn ionex_indexed_node(
 ) -> u64
     ensures { λ r. ⌜ NodeCrosses (now (header .entry)) (now (texts .entry)) (entries (now (positions .entry)) (now (exponents .entry)) (now (marks .entry))) (now (text .entry)) (node kind map layer row column) (now (value .entry)) r (now (value .exit)) ⌝ }
 {
-    let short = crossing::too_short(header.len(), texts.len(), value.len(), 2);
+    let short = c_answers::too_short(header.len(), texts.len(), value.len(), 2);
     if 0 < short {
         return short;
     }
-    let h = given::header_in(header);
-    let x = given::texts_in(texts);
+    let h = c_given::header_in(header);
+    let x = c_given::texts_in(texts);
     let reply = indexed_node(
         text,
         h,
@@ -144,7 +144,7 @@ pub extern "C" fn ionex_indexed_node(
         row,
         column,
     );
-    indexcrossing::put_node(reply, value)
+    c_index::put_node(reply, value)
 }
 
 // The lines of one block: 0, with their start in the text and how many bytes they have; or 02's number.
@@ -165,12 +165,12 @@ pub extern "C" fn ionex_indexed_block(
 ) -> u64
     ensures { λ r. ⌜ BlockCrosses (now (header .entry)) (now (texts .entry)) (entries (now (positions .entry)) (now (exponents .entry)) (now (marks .entry))) (now (text .entry)) (node kind map layer row column) (now (bounds .entry)) r (now (bounds .exit)) ⌝ }
 {
-    let short = crossing::too_short(header.len(), texts.len(), bounds.len(), 2);
+    let short = c_answers::too_short(header.len(), texts.len(), bounds.len(), 2);
     if 0 < short {
         return short;
     }
-    let h = given::header_in(header);
-    let x = given::texts_in(texts);
+    let h = c_given::header_in(header);
+    let x = c_given::texts_in(texts);
     let reply = indexed_node(
         text,
         h,
@@ -184,5 +184,5 @@ pub extern "C" fn ionex_indexed_block(
         row,
         column,
     );
-    indexcrossing::put_block(reply, bounds)
+    c_index::put_block(reply, bounds)
 }

@@ -2,10 +2,10 @@
 ghost use mathlib.Core.Path.{_≡_};
 ghost use Rattle.mapset.specs.Areas.{six};
 ghost use Rattle.join.specs.Into.{lent-of, join-into};
-ghost use Rattle.joining.specs.Joined.{comes, came};
-ghost use Rattle.crossing.specs.ReadExported.{crossed};
-ghost use Rattle.crossing.specs.JoinExported.{join-crossed};
-use joining::Joining;
+ghost use Rattle.join_areas.specs.Joined.{comes, came};
+ghost use Rattle.c_answers.specs.ReadExported.{crossed};
+ghost use Rattle.c_answers.specs.JoinExported.{join-crossed};
+use join_areas::Joining;
 use mapset::Header;
 use mapset::Texts;
 
@@ -37,7 +37,7 @@ pub fn join(
     ensures { λ r. ⌜ comes r ltexts (six (now (tec .exit)) (now (rms .exit)) (now (height .exit)) (now (exponents .exit)) (now (epochs .exit)) (now (marks .exit)))
         ≡ came (join-into (lent-of early etexts (six (now (atec .entry)) (now (arms .entry)) (now (aheight .entry)) (now (aexponents .entry)) (now (aepochs .entry)) (now (amarks .entry)))) (lent-of late ltexts (six (now (btec .entry)) (now (brms .entry)) (now (bheight .entry)) (now (bexponents .entry)) (now (bepochs .entry)) (now (bmarks .entry)))) (six (now (tec .entry)) (now (rms .entry)) (now (height .entry)) (now (exponents .entry)) (now (epochs .entry)) (now (marks .entry)))) (six (now (tec .entry)) (now (rms .entry)) (now (height .entry)) (now (exponents .entry)) (now (epochs .entry)) (now (marks .entry))) ⌝ }
 {
-    joining::join_sets(
+    join_areas::join_sets(
         early,
         etexts,
         atec,
@@ -95,16 +95,16 @@ pub extern "C" fn ionex_join(
     ensures { λ r. ⌜ crossed r (six (now (tec .exit)) (now (rms .exit)) (now (height .exit)) (now (exponents .exit)) (now (epochs .exit)) (now (marks .exit))) (now (header .exit)) (now (texts .exit)) (now (place .exit))
         ≡ join-crossed (now (aheader .entry)) (now (atexts .entry)) (six (now (atec .entry)) (now (arms .entry)) (now (aheight .entry)) (now (aexponents .entry)) (now (aepochs .entry)) (now (amarks .entry))) (now (bheader .entry)) (now (btexts .entry)) (six (now (btec .entry)) (now (brms .entry)) (now (bheight .entry)) (now (bexponents .entry)) (now (bepochs .entry)) (now (bmarks .entry))) (six (now (tec .entry)) (now (rms .entry)) (now (height .entry)) (now (exponents .entry)) (now (epochs .entry)) (now (marks .entry))) (now (header .entry)) (now (texts .entry)) (now (place .entry)) ⌝ }
 {
-    let headers = crossing::shortest(aheader.len(), bheader.len(), header.len());
-    let bytes = crossing::shortest(atexts.len(), btexts.len(), texts.len());
-    let short = crossing::too_short(headers, bytes, place.len(), 2);
+    let headers = c_answers::shortest(aheader.len(), bheader.len(), header.len());
+    let bytes = c_answers::shortest(atexts.len(), btexts.len(), texts.len());
+    let short = c_answers::too_short(headers, bytes, place.len(), 2);
     if 0 < short {
         return short;
     }
-    let early = given::header_in(aheader);
-    let etexts = given::texts_in(atexts);
-    let late = given::header_in(bheader);
-    let ltexts = given::texts_in(btexts);
+    let early = c_given::header_in(aheader);
+    let etexts = c_given::texts_in(atexts);
+    let late = c_given::header_in(bheader);
+    let ltexts = c_given::texts_in(btexts);
     let r = join(
         early,
         etexts,
@@ -129,5 +129,5 @@ pub extern "C" fn ionex_join(
         epochs,
         marks,
     );
-    crossing::put_joined(r, ltexts, header, texts, place)
+    c_answers::put_joined(r, ltexts, header, texts, place)
 }

@@ -1,6 +1,6 @@
 // An epoch moved by seconds, as other languages ask for it.
 ghost use Rattle.calendar.specs.Calendar.{toldWhen, The};
-ghost use Rattle.crossing.specs.MoveExported.{Moves, MoveCrosses};
+ghost use Rattle.c_answers.specs.MoveExported.{Moves, MoveCrosses};
 use calendar::Epoch;
 use calendar::Found;
 use calendar::When;
@@ -27,5 +27,5 @@ pub extern "C" fn ionex_moved(second: u64, by: i64, moved: &mut [u64]) -> u64
         return 103;
     }
     let when = moved_second(second, by);
-    crossing::put_moved(when, moved)
+    c_answers::put_moved(when, moved)
 }

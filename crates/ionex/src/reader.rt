@@ -1,12 +1,12 @@
 // A text read, and what it needs; and as other languages have it read.
 ghost use mathlib.Core.Path.{_≡_};
 ghost use Rattle.mapset.specs.Areas.{six};
-ghost use Rattle.outcome.specs.Outcome.{outcome, comes};
-ghost use Rattle.outcome.specs.Measures.{Measures};
-ghost use Rattle.crossing.specs.ReadExported.{crossed, read-crossed};
-ghost use Rattle.crossing.specs.NeedsExported.{NeedsCross};
-use outcome::Measured;
-use outcome::ReadOut;
+ghost use Rattle.read_outcome.specs.Outcome.{outcome, comes};
+ghost use Rattle.read_outcome.specs.Measures.{Measures};
+ghost use Rattle.c_answers.specs.ReadExported.{crossed, read-crossed};
+ghost use Rattle.c_answers.specs.NeedsExported.{NeedsCross};
+use read_outcome::Measured;
+use read_outcome::ReadOut;
 
 // A text into six lent areas: the map set's header record and texts, or the reason why not.
 pub fn read(
@@ -21,7 +21,7 @@ pub fn read(
     ensures { λ r. ⌜ comes r (six (now (tec .exit)) (now (rms .exit)) (now (height .exit)) (now (exponents .exit)) (now (epochs .exit)) (now (marks .exit)))
         ≡ outcome (now (text .entry)) (six (now (tec .entry)) (now (rms .entry)) (now (height .entry)) (now (exponents .entry)) (now (epochs .entry)) (now (marks .entry))) ⌝ }
 {
-    input::read_text(text, tec, rms, height, exponents, epochs, marks)
+    read_text::read_text(text, tec, rms, height, exponents, epochs, marks)
 }
 
 // A text into six areas: 0, with the header record and its texts; or 01's number, with its place.
@@ -41,19 +41,19 @@ pub extern "C" fn ionex_read(
     ensures { λ r. ⌜ crossed r (six (now (tec .exit)) (now (rms .exit)) (now (height .exit)) (now (exponents .exit)) (now (epochs .exit)) (now (marks .exit))) (now (header .exit)) (now (texts .exit)) (now (place .exit))
         ≡ read-crossed (now (text .entry)) (six (now (tec .entry)) (now (rms .entry)) (now (height .entry)) (now (exponents .entry)) (now (epochs .entry)) (now (marks .entry))) (now (header .entry)) (now (texts .entry)) (now (place .entry)) ⌝ }
 {
-    let short = crossing::too_short(header.len(), texts.len(), place.len(), 2);
+    let short = c_answers::too_short(header.len(), texts.len(), place.len(), 2);
     if 0 < short {
         return short;
     }
     let r = read(text, tec, rms, height, exponents, epochs, marks);
-    crossing::put_reading(r, header, texts, place)
+    c_answers::put_reading(r, header, texts, place)
 }
 
 // What each of the six areas needs for a text, or the reason why it is refused.
 pub fn needs(text: &[u8]) -> Measured
     ensures { λ r. ⌜ Measures (now (text .entry)) r ⌝ }
 {
-    measuring::measure(text)
+    read_measure::measure(text)
 }
 
 // What a text needs: 0, with the six needs; or 01's number, with its place.
@@ -67,6 +67,6 @@ pub extern "C" fn ionex_needs(text: &[u8], needs: &mut [u64], place: &mut [u64])
     if place.len() < 2 {
         return 103;
     }
-    let measured = measuring::measure(text);
-    crossing::put_needs(measured, needs, place)
+    let measured = read_measure::measure(text);
+    c_answers::put_needs(measured, needs, place)
 }

@@ -3,7 +3,7 @@ ghost use mathlib.Core.Path.{_≡_};
 ghost use Rattle.mapset.specs.Areas.{six};
 ghost use Rattle.week.specs.Week.{given-as};
 ghost use Rattle.week.specs.Sane.{comes, outcome};
-ghost use Rattle.weekcrossing.specs.WeekExported.{crossed, week-crossed};
+ghost use Rattle.c_week.specs.WeekExported.{crossed, week-crossed};
 use mapset::Header;
 use mapset::Texts;
 use week::Added;
@@ -56,13 +56,13 @@ pub extern "C" fn ionex_week_add(
     ensures { λ r. ⌜ crossed r (now (week .exit)) (now (rows .exit)) (now (place .exit))
         ≡ week-crossed (now (week .entry)) (now (header .entry)) (now (texts .entry)) (six (now (tec .entry)) (now (rms .entry)) (now (height .entry)) (now (exponents .entry)) (now (epochs .entry)) (now (marks .entry))) (now (rows .entry)) (now (place .entry)) ⌝ }
 {
-    let short = weekcrossing::too_short(header.len(), texts.len(), week.len(), place.len());
+    let short = c_week::too_short(header.len(), texts.len(), week.len(), place.len());
     if 0 < short {
         return short;
     }
-    let w = weekcrossing::week_in(week);
-    let h = given::header_in(header);
-    let x = given::texts_in(texts);
+    let w = c_week::week_in(week);
+    let h = c_given::header_in(header);
+    let x = c_given::texts_in(texts);
     let answer = add(w, h, x, tec, rms, height, exponents, epochs, marks, rows);
-    weekcrossing::put_added(answer, week, place)
+    c_week::put_added(answer, week, place)
 }

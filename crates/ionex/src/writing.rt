@@ -3,11 +3,11 @@ ghost use mathlib.Core.Path.{_≡_};
 ghost use mathlib.Core.List.{List};
 ghost use Prim.Native.Nat.{ℕ};
 ghost use Rattle.mapset.specs.Areas.{six};
-ghost use Rattle.output.specs.Write.{Told, told, written};
-ghost use Rattle.crossing.specs.WriteExported.{crossed, write-crossed};
+ghost use Rattle.write_text.specs.Write.{Told, told, written};
+ghost use Rattle.c_answers.specs.WriteExported.{crossed, write-crossed};
 use mapset::Header;
 use mapset::Texts;
-use output::Written;
+use write_text::Written;
 
 // The number of bytes, with the text in front of the output; or 31; or 30 with the bytes needed, found before a byte is written.
 pub fn write(
@@ -23,7 +23,7 @@ pub fn write(
 ) -> Written
     ensures { λ r. ⌜ _≡_ {A = Told × List ℕ} (told r, now (out .exit)) (written header texts (six (now (tec .entry)) (now (rms .entry)) (now (height .entry)) (now (exponents .entry)) (now (epochs .entry)) (now (marks .entry))) (now (out .entry))) ⌝ }
 {
-    output::write_text(
+    write_text::write_text(
         header,
         texts,
         tec,
@@ -52,12 +52,12 @@ pub extern "C" fn ionex_write(
 ) -> u64
     ensures { λ r. ⌜ crossed r (now (out .exit)) (now (count .exit)) ≡ write-crossed (now (header .entry)) (now (texts .entry)) (six (now (tec .entry)) (now (rms .entry)) (now (height .entry)) (now (exponents .entry)) (now (epochs .entry)) (now (marks .entry))) (now (out .entry)) (now (count .entry)) ⌝ }
 {
-    let short = crossing::too_short(header.len(), texts.len(), count.len(), 1);
+    let short = c_answers::too_short(header.len(), texts.len(), count.len(), 1);
     if 0 < short {
         return short;
     }
-    let h = given::header_in(header);
-    let x = given::texts_in(texts);
+    let h = c_given::header_in(header);
+    let x = c_given::texts_in(texts);
     let answer = write(h, x, tec, rms, height, exponents, epochs, marks, out);
-    crossing::put_written(answer, count)
+    c_answers::put_written(answer, count)
 }

@@ -24,7 +24,7 @@ use Rattle.areas.specs.Valid.{needed}
 use Rattle.areas.proofs.Needs.{needs}
 use Rattle.areas.proofs.Nested.{nest-areas}
 use Rattle.areas.proofs.ValidFormed.{nested-formed, nested-areas, needed-fronts, fronts-valid}
-use Rattle.needs.specs.Needs.{needed-and-lent, first-short}
+use Rattle.read_needs.specs.Needs.{needed-and-lent, first-short}
 use Rattle.join.specs.Join.{count, joined, MayJoin, alike?, meet?, in-limits?, Agree}
 use Rattle.join.proofs.JoinedFormed.{joined-formed}
 use Rattle.join.proofs.Same.{joined-either}

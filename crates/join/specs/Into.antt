@@ -12,7 +12,7 @@ use Rattle.areas.specs.Stores.{fronts}
 use Rattle.areas.specs.Valid.{Valid}
 use Rattle.areas.specs.ValidDecided.{valid?}
 use Rattle.areas.specs.Nesting.{nested}
-use Rattle.needs.specs.Needs.{needed-and-lent, first-short}
+use Rattle.read_needs.specs.Needs.{needed-and-lent, first-short}
 use Rattle.join.specs.Join.{count, joined, alike?, meet?, in-limits?, MayJoin}
 use mathlib.Core.Path.{_≡_}
 use Rattle.areas.specs.Formed.{Formed}

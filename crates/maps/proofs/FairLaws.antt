@@ -26,7 +26,7 @@ use Rattle.reading.specs.Fields.{label, fields}
 use Rattle.reading.specs.Maps.{Todo, Next, stays, loose, date, on-date, on-comment, on-exponent, start-tec, start-other, start-map, on-start, end-map, on-end, epoch-tec, epoch-other, on-epoch, open-block, on-block, on-file, taken, step}
 use Rattle.reading.specs.declared.Place.{Place}
 use Rattle.reading.specs.declared.Place.the-variants.{Ended, Between, Early, Inside}
-use Rattle.mapbounds.specs.Steps.{first-of}
+use Rattle.maps_bounds.specs.Steps.{first-of}
 use Rattle.maps.specs.Turns.{maps-of, seen, grow, Room}
 
 pub record Fair (h : Header) (q : Place) (p : Force) (x : Next q) : Type 0 where

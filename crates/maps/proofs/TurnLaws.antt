@@ -20,19 +20,19 @@ use Rattle.reading.specs.Maps.{Todo, Next as Go-on, Step, short, finish, run, s
 use Rattle.reading.specs.declared.Open.{Open}
 use Rattle.reading.specs.declared.Place.{Place}
 use Rattle.reading.specs.declared.Place.the-variants.{Ended, Between, Early, Inside}
-use Rattle.lines.specs.Leads.{LeadsOver, LeadsRow}
-use Rattle.blocks.specs.Blocks.{values, Done, Judged}
-use Rattle.blocks.proofs.RunLaws.{in-front, resumed, run-values}
-use Rattle.blocks.specs.declared.Block.{Block}
-use Rattle.blocks.proofs.BlockLaws.{short-at}
-use Rattle.mapbounds.specs.Steps.{force-of, past-of, first-of, moved}
+use Rattle.read_lines.specs.Leads.{LeadsOver, LeadsRow}
+use Rattle.read_blocks.specs.Blocks.{values, Done, Judged}
+use Rattle.read_blocks.proofs.RunLaws.{in-front, resumed, run-values}
+use Rattle.read_blocks.specs.declared.Block.{Block}
+use Rattle.read_blocks.proofs.BlockLaws.{short-at}
+use Rattle.maps_bounds.specs.Steps.{force-of, past-of, first-of, moved}
 use Rattle.maps.specs.Turns.{told, told-after, from, ended-with, grow, Room, Fits, After, Goes, Turned, Keeps, Running}
-use Rattle.mapbounds.specs.declared.Past.{Past}
-use Rattle.mapbounds.specs.declared.Next.{Next}
-use Rattle.mapbounds.specs.declared.Push.{Push}
-use Rattle.mapbounds.specs.declared.Push.the-variants.{Keep, New}
-use Rattle.mapbounds.specs.declared.Move.{Move}
-use Rattle.mapbounds.specs.declared.Move.the-variants.{Go, Stop}
+use Rattle.maps_bounds.specs.declared.Past.{Past}
+use Rattle.maps_bounds.specs.declared.Next.{Next}
+use Rattle.maps_bounds.specs.declared.Push.{Push}
+use Rattle.maps_bounds.specs.declared.Push.the-variants.{Keep, New}
+use Rattle.maps_bounds.specs.declared.Move.{Move}
+use Rattle.maps_bounds.specs.declared.Move.the-variants.{Go, Stop}
 use Rattle.maps.specs.declared.Turn.{Turn}
 use Rattle.maps.specs.declared.Turn.the-variants.{On, Halt, Out}
 use Rattle.maps.specs.declared.Verdict.the-variants.{Fine, Wrong}

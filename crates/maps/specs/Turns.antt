@@ -14,12 +14,12 @@ use Rattle.reading.specs.Feed.{Why, why, split, feed}
 use Rattle.reading.specs.Maps.{Todo, finish, run}
 use Rattle.reading.specs.declared.Place.{Place}
 use Rattle.reading.specs.declared.Place.the-variants.{Ended, Between, Early, Inside}
-use Rattle.blocks.specs.Blocks.{values, Done}
-use Rattle.mapbounds.specs.Steps.{force-of}
-use Rattle.mapbounds.specs.declared.Past.{Past}
-use Rattle.mapbounds.specs.declared.Next.{Next}
-use Rattle.mapbounds.specs.declared.Push.{Push}
-use Rattle.mapbounds.specs.declared.Push.the-variants.{Keep, New}
+use Rattle.read_blocks.specs.Blocks.{values, Done}
+use Rattle.maps_bounds.specs.Steps.{force-of}
+use Rattle.maps_bounds.specs.declared.Past.{Past}
+use Rattle.maps_bounds.specs.declared.Next.{Next}
+use Rattle.maps_bounds.specs.declared.Push.{Push}
+use Rattle.maps_bounds.specs.declared.Push.the-variants.{Keep, New}
 use Rattle.maps.specs.declared.Turn.{Turn}
 use Rattle.maps.specs.declared.Turn.the-variants.{On, Halt, Out}
 use Rattle.maps.specs.declared.Verdict.{Verdict}

@@ -6,14 +6,14 @@ ghost use lib.ListN.{length, drop};
 ghost use Rattle.mapset.specs.Grid.{Limits};
 ghost use Rattle.reading.specs.Feed.{split, feed};
 ghost use Rattle.reading.specs.Maps.{run};
-ghost use Rattle.mapbounds.specs.Steps.{force-of};
+ghost use Rattle.maps_bounds.specs.Steps.{force-of};
 ghost use Rattle.maps.specs.Turns.{told, ended-with, After, Turned, Fits, Keeps};
-use blocks::Block;
-use lines::NextRow;
-use mapbounds::Move;
-use mapbounds::Next;
-use mapbounds::Past;
-use mapbounds::Push;
+use read_blocks::Block;
+use read_lines::NextRow;
+use maps_bounds::Move;
+use maps_bounds::Next;
+use maps_bounds::Past;
+use maps_bounds::Push;
 use mapset::Header;
 use reading::Place;
 
@@ -36,7 +36,7 @@ fn values_after(text: &[u8], at: usize, lines: u64, next: Next) -> Turn
     requires { ⌜ (at ≤ length (now text)) × (lines ≤ at) ⌝ }
     ensures { λ r. ⌜ After (now (text .entry)) at lines next r ⌝ }
 {
-    match blocks::judge_block(text, at, lines, next.due) {
+    match read_blocks::judge_block(text, at, lines, next.due) {
         Block::Good(to, passed) => Turn::On(to, passed, next),
         Block::Refused(number, line, column) => Turn::Halt(number, line, column),
     }
@@ -54,11 +54,11 @@ fn turn_at(
     requires { ⌜ ((at ≤ length (now text)) × (lines ≤ at)) × Limits (header .times .maps) (header .grid) ⌝ }
     ensures { λ r. ⌜ Turned header place past (now (epochs .entry)) (now (text .entry)) at lines r ⌝ }
 {
-    match lines::row_from(text, at, lines) {
+    match read_lines::row_from(text, at, lines) {
         NextRow::Over(n) => Turn::Out(n),
         NextRow::Bad(number, line, column) => Turn::Halt(number, line, column),
         NextRow::Row(start, end, next, n) => {
-            match mapsteps::step(header, place, past, epochs, &text[start..end]) {
+            match maps_body::step(header, place, past, epochs, &text[start..end]) {
                 Move::Stop(number, column) => Turn::Halt(number, n + 1, column),
                 Move::Go(x) => values_after(text, next, n + 1, x),
             }

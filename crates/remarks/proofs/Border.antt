@@ -28,7 +28,7 @@ use Rattle.reading.specs.Head.{meant, place, none?, complete?, made, made-texts
 use Rattle.reading.specs.Read.{versioned, version-of, begin, read}
 use Rattle.reading.proofs.Vectors.{lines}
 use Rattle.areas.specs.Scan.{or-else, second-of, brought, body, events}
-use Rattle.lines.specs.Cuts.{cuts}
+use Rattle.read_lines.specs.Cuts.{cuts}
 use Rattle.index.specs.Found.{clean?, blank?}
 use Rattle.index.specs.Made.{placed, placed-from, opened, maps-of, positions-of}
 use Rattle.biases.specs.Biases.{Biases}

@@ -20,25 +20,25 @@ use Rattle.reading.proofs.Machine.{first, from}
 use Rattle.reading.proofs.RefusalLaws.{Fine}
 use Rattle.reading.specs.Refusals.{reads, Faultless}
 use Rattle.areas.specs.Flat.{areas}
-use Rattle.lines.specs.Cuts.{cuts}
-use Rattle.needs.specs.Needs.{first-short}
-use Rattle.outcome.specs.Outcome.{accepted, outcome, outcome-of, comes}
-use Rattle.outcome.specs.Measures.{Measures}
-use Rattle.outcome.proofs.Once.{needs-once}
-use Rattle.outcome.specs.declared.Measured.{Measured}
-use Rattle.outcome.specs.declared.Measured.the-variants as M
-use Rattle.outcome.specs.declared.ReadOut.{ReadOut}
-use Rattle.crossing.specs.Own.{too-short, unless}
-use Rattle.crossing.specs.ReadExported.{crossed, crosses, read-crossed}
-use Rattle.crossing.specs.NeedsExported.{NeedsCross, area-short, answered}
-use Rattle.crossing.proofs.Once.{ionex-needs-once}
+use Rattle.read_lines.specs.Cuts.{cuts}
+use Rattle.read_needs.specs.Needs.{first-short}
+use Rattle.read_outcome.specs.Outcome.{accepted, outcome, outcome-of, comes}
+use Rattle.read_outcome.specs.Measures.{Measures}
+use Rattle.read_outcome.proofs.Once.{needs-once}
+use Rattle.read_outcome.specs.declared.Measured.{Measured}
+use Rattle.read_outcome.specs.declared.Measured.the-variants as M
+use Rattle.read_outcome.specs.declared.ReadOut.{ReadOut}
+use Rattle.c_answers.specs.Own.{too-short, unless}
+use Rattle.c_answers.specs.ReadExported.{crossed, crosses, read-crossed}
+use Rattle.c_answers.specs.NeedsExported.{NeedsCross, area-short, answered}
+use Rattle.c_answers.proofs.Once.{ionex-needs-once}
 use Rattle.index.specs.Index.{Entries, entries}
 use Rattle.index.specs.Made.{placed-from, positions-of, entries-of, fronts}
 use Rattle.index.proofs.FoundLaws.{cuts-split}
-use Rattle.making.specs.Making.{needed-and-lent, with-room, made-of, made}
-use Rattle.making.proofs.Once.{Indexes, index-once}
-use Rattle.indexcrossing.specs.IndexExported as index
-use Rattle.indexcrossing.specs.IndexExported.{index-crossed}
+use Rattle.index_text.specs.Making.{needed-and-lent, with-room, made-of, made}
+use Rattle.index_text.proofs.Once.{Indexes, index-once}
+use Rattle.c_index.specs.IndexExported as index
+use Rattle.c_index.specs.IndexExported.{index-crossed}
 use Rattle.remarks.specs.Remarks.{Remark, commented, inside, Reworded, Close, Remarked}
 use Rattle.remarks.proofs.Likes.{close-back, like, like-back, like-printable, pad-tail, Likes, like-lines, likes-length, likes-at}
 use Rattle.remarks.proofs.Same as at

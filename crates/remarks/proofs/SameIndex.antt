@@ -15,7 +15,7 @@ use Rattle.mapset.specs.declared.Header.{Header}
 use Rattle.layout.specs.Text.{Clean, pad}
 use Rattle.layout.specs.Labels.{comment, aux-start, aux-end}
 use Rattle.layout.specs.Layout.{plain, per-map}
-use Rattle.lines.specs.Cuts.{Cut, with-byte, with-cr, cuts}
+use Rattle.read_lines.specs.Cuts.{Cut, with-byte, with-cr, cuts}
 use Rattle.reading.specs.Feed.{Fault, Why, opens?, row, feed}
 use Rattle.reading.proofs.LineLaws.{feed-row}
 use Rattle.reading.proofs.Machine.{State, first, Out, from, Move, on-row-of}

@@ -155,7 +155,7 @@ pub fn valid(
 ) -> bool
     ensures { λ r. ⌜ r ≡ truth (validity header texts (six (now (tec .entry)) (now (rms .entry)) (now (height .entry)) (now (exponents .entry)) (now (epochs .entry)) (now (marks .entry)))) ⌝ }
 {
-    if !soundness::sound(header, texts, tec, rms, height, exponents, epochs, marks) {
+    if !sound::sound(header, texts, tec, rms, height, exponents, epochs, marks) {
         return false;
     }
     rest_fits(header, tec, rms, height, exponents, marks)

@@ -16,15 +16,15 @@ use Rattle.layout.specs.Layout.{per-map}
 use Rattle.areas.specs.Lists.{flat, tab}
 use Rattle.areas.specs.Stores.{first-of}
 use Rattle.areas.specs.Valid.{values-in}
-use Rattle.nodes.specs.Value.{kind-of}
+use Rattle.ask_nodes.specs.Value.{kind-of}
 use Rattle.valid.specs.Groups.{kind-need, Long}
 use Rattle.valid.proofs.Whole.{kind-holds, few-blocks}
-use Rattle.tally.specs.Figures.{figures}
-use Rattle.tally.specs.Rows.{row}
-use Rattle.setfigures.specs.SetFigures.{map-nodes, map-figures, kind-nodes, kind-rows}
-use Rattle.setfigures.specs.Parts.{part-nodes, parts-nodes, part-row, parts-rows, KindHolds}
-use Rattle.setfigures.proofs.PartLaws.{map-part}
-use Rattle.setfigures.proofs.TabLaws.{tab-same}
+use Rattle.week_tally.specs.Figures.{figures}
+use Rattle.week_tally.specs.Rows.{row}
+use Rattle.week_set.specs.SetFigures.{map-nodes, map-figures, kind-nodes, kind-rows}
+use Rattle.week_set.specs.Parts.{part-nodes, parts-nodes, part-row, parts-rows, KindHolds}
+use Rattle.week_set.proofs.PartLaws.{map-part}
+use Rattle.week_set.proofs.TabLaws.{tab-same}
 
 module _ (h : Header) (a : Areas) (l : Long h a) (k : ℕ) (three : k < 3) where
   abbrev n : ℕ

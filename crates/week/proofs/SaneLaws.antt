@@ -19,13 +19,13 @@ use Rattle.kit.specs.Truth.{truth}
 use Rattle.kit.proofs.TruthLaws.{tells}
 use Rattle.kit.specs.Integer.{le?}
 use Rattle.kit.proofs.Parts.{one-zero, abs-parts, sub-parts2, lt-true, lt-false}
-use Rattle.tally.specs.Figures.{figures, joined, Ready}
-use Rattle.tally.proofs.FigureLaws.{fit-all, joined-fit, nodes-figures, nodes-joined, bounded-joined}
-use Rattle.setfigures.specs.SetFigures.{kind-nodes, kind-figures, set-rows, rows-need}
-use Rattle.setfigures.proofs.RowLaws.{set-rows-length}
-use Rattle.setfigures.proofs.SetLaws.{kind-bounded}
-use Rattle.tally.specs.declared.Tally.{Tally}
-use Rattle.tally.specs.declared.Range.the-variants as R
+use Rattle.week_tally.specs.Figures.{figures, joined, Ready}
+use Rattle.week_tally.proofs.FigureLaws.{fit-all, joined-fit, nodes-figures, nodes-joined, bounded-joined}
+use Rattle.week_set.specs.SetFigures.{kind-nodes, kind-figures, set-rows, rows-need}
+use Rattle.week_set.proofs.RowLaws.{set-rows-length}
+use Rattle.week_set.proofs.SetLaws.{kind-bounded}
+use Rattle.week_tally.specs.declared.Tally.{Tally}
+use Rattle.week_tally.specs.declared.Range.the-variants as R
 use Rattle.week.specs.Week.{Given, ValidSet, valid?, Room, room?, Accepted, accepted?, accepted, week-nodes, week-of, grown, added, no-sets, report}
 use Rattle.week.proofs.WeekLaws.{week-bounded, week-size, set-size, report-week, report-permuted}
 use Rattle.week.specs.Sane.{Fair, Sane, fit?, sane?, Outcome, comes, outcome, kept, SmallWeek, SmallAnswer}

@@ -5,7 +5,7 @@ use native.Mathlib.Omega.{arith}
 use native.Mathlib.Decide.{decLe}
 use Rattle.kit.proofs.AnswerLaws.{pick-yes, pick-no}
 use Rattle.areas.specs.Valid.{Valid}
-use Rattle.tally.specs.Figures.{nothing}
+use Rattle.week_tally.specs.Figures.{nothing}
 use Rattle.week.specs.Week.{Given, tecu, km, valid?}
 use Rattle.week.specs.Sane.{sane?, Sane, outcome, comes}
 use Rattle.week.specs.declared.Week.{Week}

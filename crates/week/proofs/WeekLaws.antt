@@ -10,13 +10,13 @@ use lib.ListN.{length, length-append}
 use Rattle.kit.specs.Answer.{All, pick}
 use Rattle.kit.proofs.AnswerLaws.{pick-yes, pick-no, pick-elim}
 use Rattle.kit.proofs.ListLaws.{all-append}
-use Rattle.nodes.specs.Nodes.{Small}
-use Rattle.tally.specs.Gathered.{gathered, Combines}
-use Rattle.tally.proofs.GatheredLaws.{gathered-permuted}
-use Rattle.tally.specs.Figures.{figures, joined, nothing, Bounded}
-use Rattle.tally.proofs.FigureLaws.{figures-none, figures-append, joined-none, joined-comm, joined-assoc, bounded-figures, nodes-figures, Spans, range-spans}
-use Rattle.setfigures.specs.SetFigures.{kind-nodes}
-use Rattle.setfigures.proofs.SetLaws.{kind-small, kind-length}
+use Rattle.ask_nodes.specs.Nodes.{Small}
+use Rattle.week_tally.specs.Gathered.{gathered, Combines}
+use Rattle.week_tally.proofs.GatheredLaws.{gathered-permuted}
+use Rattle.week_tally.specs.Figures.{figures, joined, nothing, Bounded}
+use Rattle.week_tally.proofs.FigureLaws.{figures-none, figures-append, joined-none, joined-comm, joined-assoc, bounded-figures, nodes-figures, Spans, range-spans}
+use Rattle.week_set.specs.SetFigures.{kind-nodes}
+use Rattle.week_set.proofs.SetLaws.{kind-small, kind-length}
 use Rattle.week.specs.declared.Week.{Week}
 use Rattle.week.specs.Week.{Given, Accepted, accepted?, set-nodes, accepted, week-nodes, week-of, grown, added, no-sets, report, tecu, km}
 

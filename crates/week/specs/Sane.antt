@@ -6,11 +6,11 @@ use lib.IntN.{ℤ, natAbs}
 use Rattle.kit.specs.Answer.{pick, ×-dec}
 use Rattle.kit.specs.Integer.{le?}
 use Rattle.kit.specs.Lists.{front}
-use Rattle.tally.specs.Figures.{nodes-in, Bounded, Ready, Fit}
-use Rattle.tally.specs.declared.Tally.{Tally}
-use Rattle.tally.specs.declared.Range.{Range}
-use Rattle.tally.specs.declared.Range.the-variants as R
-use Rattle.setfigures.specs.SetFigures.{set-rows, rows-need}
+use Rattle.week_tally.specs.Figures.{nodes-in, Bounded, Ready, Fit}
+use Rattle.week_tally.specs.declared.Tally.{Tally}
+use Rattle.week_tally.specs.declared.Range.{Range}
+use Rattle.week_tally.specs.declared.Range.the-variants as R
+use Rattle.week_set.specs.SetFigures.{set-rows, rows-need}
 use Rattle.week.specs.Week.{Given, valid?, room?, grown}
 use Rattle.week.specs.declared.Week.{Week}
 use Rattle.week.specs.declared.Added.{Added}

@@ -8,10 +8,10 @@ use Rattle.mapset.specs.Grid.{columns, Limits}
 use Rattle.mapset.specs.Areas.{blocks}
 use Rattle.mapset.specs.declared.Header.{Header}
 use Rattle.layout.specs.Layout.{per-map}
-use Rattle.tally.specs.Figures.{figures, joined, Ready}
-use Rattle.tally.specs.declared.Tally.{Tally}
-use Rattle.setfigures.specs.SetFigures.{rows-need}
-use Rattle.setfigures.specs.Parts.{parts-nodes, parts-rows, KindHolds}
+use Rattle.week_tally.specs.Figures.{figures, joined, Ready}
+use Rattle.week_tally.specs.declared.Tally.{Tally}
+use Rattle.week_set.specs.SetFigures.{rows-need}
+use Rattle.week_set.specs.Parts.{parts-nodes, parts-rows, KindHolds}
 
 pub record Takes (t : Tally) (k : ℕ) (h : Header) (vs es : List ℤ) (ms : List ℕ) (lent : List ℤ) : Type 0 where
   pub ready : Ready t

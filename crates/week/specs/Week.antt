@@ -12,9 +12,9 @@ use Rattle.mapset.specs.declared.Texts.{Texts}
 use Rattle.areas.specs.Lists.{flat}
 use Rattle.areas.specs.Valid.{Valid}
 use Rattle.valid.specs.Groups.{validity}
-use Rattle.tally.specs.Figures.{figures, joined, nothing}
-use Rattle.tally.specs.declared.Tally.{Tally}
-use Rattle.setfigures.specs.SetFigures.{kind-nodes, kind-figures, rows-need}
+use Rattle.week_tally.specs.Figures.{figures, joined, nothing}
+use Rattle.week_tally.specs.declared.Tally.{Tally}
+use Rattle.week_set.specs.SetFigures.{kind-nodes, kind-figures, rows-need}
 use Rattle.week.specs.declared.Week.{Week}
 use Rattle.week.specs.declared.TecuTally.{TecuTally}
 use Rattle.week.specs.declared.KmTally.{KmTally}

@@ -9,15 +9,15 @@ ghost use Rattle.kit.specs.Lists.{front};
 ghost use Rattle.kit.specs.Truth.{truth};
 ghost use Rattle.mapset.specs.Areas.{six};
 ghost use Rattle.valid.specs.Groups.{Long};
-ghost use Rattle.setfigures.specs.SetFigures.{set-rows, rows-need};
+ghost use Rattle.week_set.specs.SetFigures.{set-rows, rows-need};
 ghost use Rattle.week.specs.Week.{grown, given-as};
 ghost use Rattle.week.specs.Sane.{fit?, fair?, sane?, Sane, comes, outcome};
 ghost use Rattle.week.specs.Takes.{Takes, taken, stored};
 use mapset::Header;
 use mapset::Texts;
 use mapset::axes;
-use tally::Range;
-use tally::Tally;
+use week_tally::Range;
+use week_tally::Tally;
 
 // Figures in thousandths of a TECU.
 pub struct TecuTally(pub Tally);
@@ -126,7 +126,7 @@ fn kind_into(
     let columns = axes::nodes(header.grid.longitudes) as usize;
     let first = (kind as usize) * (maps * blocks);
     let at = (kind as usize) * (5 * (maps + 1));
-    let u = setfigures::kind_rows(
+    let u = week_set::kind_rows(
         kind,
         blocks,
         columns,
@@ -136,7 +136,7 @@ fn kind_into(
         rows,
         at,
     );
-    tally::join(t, u)
+    week_tally::join(t, u)
 }
 
 // The week with a set's figures, whose rows are stored.

@@ -2,7 +2,7 @@ use mathlib.Core.Path.{sym, ap, _∙_}
 use mathlib.Core.List.{[]}
 use Prim.Native.Nat.{suc}
 use Rattle.reading.specs.declared.Place.{Place}
-use Rattle.mapbounds.specs.Steps.{force-of}
+use Rattle.maps_bounds.specs.Steps.{force-of}
 use Rattle.maps.specs.Turns.{ended-with}
 use Rattle.maps.proofs.TurnLaws.{finish-ended, finish-between, finish-early, finish-inside}
 use borrow.Author.Needs.{needs}

@@ -2,7 +2,7 @@ use mathlib.Core.Path.{subst}
 use native.Mathlib.Omega.{arith}
 use Prim.Native.Nat.{_-_, _≤_}
 use lib.ListN.{length, take, drop, length-take, length-drop}
-use Rattle.lines.specs.Leads.{Leads, LeadsRow}
+use Rattle.read_lines.specs.Leads.{Leads, LeadsRow}
 use Rattle.maps.proofs.TurnLaws.{turn-over, turn-bad, turn-stop, turn-go}
 use borrow.Author.Needs.{needs}
 use Rattle.maps.proofs.turn_at.Statement.{statement}

@@ -11,7 +11,7 @@ use Rattle.kit.specs.Lists.{front}
 use Rattle.kit.proofs.TruthLaws.{truth-true, truth-false}
 use Rattle.mapset.specs.Areas.{six}
 use Rattle.valid.proofs.Whole.{sound-long}
-use Rattle.setfigures.specs.SetFigures.{kind-nodes, map-nodes, kind-rows, set-rows, rows-need}
+use Rattle.week_set.specs.SetFigures.{kind-nodes, map-nodes, kind-rows, set-rows, rows-need}
 use Rattle.week.specs.Week.{Given, given-as, ValidSet, Room, grown}
 use Rattle.week.specs.Sane.{Sane, comes}
 use Rattle.week.proofs.SaneLaws.{answer-full, answer-insane, answer-invalid, answer-short, answer-into}

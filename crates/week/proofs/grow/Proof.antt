@@ -11,12 +11,12 @@ use denote.Ref.{now}
 use Rattle.kit.specs.Lists.{front}
 use Rattle.mapset.specs.Areas.{Areas, six}
 use Rattle.areas.specs.Valid.{values-in}
-use Rattle.nodes.specs.Value.{kind-of}
-use Rattle.tally.specs.Figures.{figures, joined}
-use Rattle.tally.specs.declared.Tally.{Tally}
-use Rattle.numbers.proofs.SetLaws.{sets-append, sets-front}
-use Rattle.setfigures.specs.SetFigures.{kind-figures, kind-rows, set-rows, rows-need}
-use Rattle.setfigures.proofs.RowLaws.{kind-rows-length, set-rows-length}
+use Rattle.ask_nodes.specs.Value.{kind-of}
+use Rattle.week_tally.specs.Figures.{figures, joined}
+use Rattle.week_tally.specs.declared.Tally.{Tally}
+use Rattle.c_header.proofs.SetLaws.{sets-append, sets-front}
+use Rattle.week_set.specs.SetFigures.{kind-figures, kind-rows, set-rows, rows-need}
+use Rattle.week_set.proofs.RowLaws.{kind-rows-length, set-rows-length}
 use Rattle.week.specs.Week.{grown}
 use Rattle.week.proofs.WeekLaws.{same}
 use Rattle.week.specs.Sane.{Fair}

@@ -12,10 +12,10 @@ use denote.Ref.{now}
 use Rattle.mapset.specs.Grid.{columns}
 use Rattle.mapset.specs.Areas.{blocks}
 use Rattle.layout.specs.Layout.{per-map}
-use Rattle.tally.specs.Figures.{figures, joined}
-use Rattle.tally.specs.declared.Tally.{Tally}
-use Rattle.setfigures.specs.Parts.{parts-nodes, parts-rows, KindHolds}
-use Rattle.setfigures.proofs.LoopLaws.{parts-ready}
+use Rattle.week_tally.specs.Figures.{figures, joined}
+use Rattle.week_tally.specs.declared.Tally.{Tally}
+use Rattle.week_set.specs.Parts.{parts-nodes, parts-rows, KindHolds}
+use Rattle.week_set.proofs.LoopLaws.{parts-ready}
 use Rattle.week.specs.Takes.{taken, stored}
 use Rattle.week.proofs.kind_into.Statement.{statement}
 use Rattle.week.proofs.kind_into.Tie as tie

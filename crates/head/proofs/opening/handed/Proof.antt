@@ -1,7 +1,7 @@
 use mathlib.Core.Path.{refl, sym, ap, _∙_}
 use Rattle.head.specs.declared.Headed.{Headed}
 use Rattle.head.specs.Opened.{beside}
-use Rattle.gathered.specs.Got.{texts-of}
+use Rattle.head_state.specs.Got.{texts-of}
 use borrow.Author.Needs.{needs}
 use Rattle.head.proofs.opening.handed.Statement.{statement}
 use Rattle.head.proofs.opening.handed.Tie as tie

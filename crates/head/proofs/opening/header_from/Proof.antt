@@ -8,7 +8,7 @@ use Rattle.layout.specs.Layout.{plain}
 use Rattle.reading.specs.Feed.{split, feed}
 use Rattle.reading.specs.Head.{heading, Got}
 use Rattle.reading.specs.Read.{nothing-yet}
-use Rattle.gathered.specs.Got.{slots-of, texts-of}
+use Rattle.head_state.specs.Got.{slots-of, texts-of}
 use Rattle.head.specs.Opened.{from-state, Goes, Stops, Passes}
 use Rattle.head.proofs.OpenedLaws.{begins, hands}
 use Rattle.head.specs.declared.Onward.{Onward}

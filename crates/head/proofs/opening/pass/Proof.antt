@@ -3,7 +3,7 @@ use mir.Val.{toZ, ofZ}
 use mathlib.Core.Path.{_≡_, subst}
 use native.Mathlib.Omega.{arith}
 use lib.ListN.{length-take, length-drop}
-use Rattle.lines.specs.Leads.{Leads, LeadsRow}
+use Rattle.read_lines.specs.Leads.{Leads, LeadsRow}
 use Rattle.head.proofs.OpenedLaws.{stops-over, stops-bad, leads-on}
 use borrow.Author.Needs.{needs}
 use Rattle.head.proofs.opening.pass.Statement.{statement}

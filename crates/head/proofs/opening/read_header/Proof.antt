@@ -3,8 +3,8 @@ use native.Mathlib.Omega.{arith}
 use Prim.Native.Nat.{_+_}
 use mathlib.Core.Path.{subst}
 use lib.ListN.{length-take, length-drop}
-use Rattle.version.specs.Told.{toldVersioned}
-use Rattle.lines.specs.Leads.{Leads, LeadsRow}
+use Rattle.head_version.specs.Told.{toldVersioned}
+use Rattle.read_lines.specs.Leads.{Leads, LeadsRow}
 use Rattle.mapset.specs.Said.{blank-texts}
 use Rattle.head.specs.declared.Headed.the-variants.{Refused}
 use Rattle.head.proofs.OpenedLaws.{hands, first-over, first-bad, first-no, first-versioned, continues}

@@ -1,8 +1,8 @@
 use native.Mathlib.Omega.{arith}
-use Rattle.crossing.proofs.OwnLaws.{none, fit}
+use Rattle.c_answers.proofs.OwnLaws.{none, fit}
 use lib.ListN.{length}
 use mir.Facts.{toZ-ofZ}
-use Rattle.crossing.specs.AskExported.{short, answered}
+use Rattle.c_answers.specs.AskExported.{short, answered}
 use borrow.Author.Needs.{needs}
 use Rattle.ionex.proofs.asking.ionex_ask.Statement.{statement}
 use Rattle.ionex.proofs.asking.ionex_ask.Tie as tie

@@ -1,8 +1,8 @@
 -- `ionex::biases::ionex_biases` meets its contract.
 use native.Mathlib.Omega.{arith}
-use Rattle.biasfill.specs.Flat.{lent}
-use Rattle.biasread.specs.Biased.{comes}
-use Rattle.biascrossing.proofs.Once.{cross-short, cross-answer}
+use Rattle.bias_fill.specs.Flat.{lent}
+use Rattle.bias_text.specs.Biased.{comes}
+use Rattle.c_biases.proofs.Once.{cross-short, cross-answer}
 use borrow.Author.Needs.{needs}
 use Rattle.ionex.proofs.biases.ionex_biases.Statement.{statement}
 use Rattle.ionex.proofs.biases.ionex_biases.Tie as tie

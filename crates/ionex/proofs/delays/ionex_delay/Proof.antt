@@ -1,8 +1,8 @@
 use native.Mathlib.Omega.{arith}
-use Rattle.crossing.proofs.OwnLaws.{none, fit}
+use Rattle.c_answers.proofs.OwnLaws.{none, fit}
 use lib.ListN.{length}
 use mir.Facts.{toZ-ofZ}
-use Rattle.crossing.specs.DelayExported.{short, asked}
+use Rattle.c_answers.specs.DelayExported.{short, asked}
 use borrow.Author.Needs.{needs}
 use Rattle.ionex.proofs.delays.ionex_delay.Statement.{statement}
 use Rattle.ionex.proofs.delays.ionex_delay.Tie as tie

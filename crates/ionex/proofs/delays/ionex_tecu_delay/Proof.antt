@@ -1,7 +1,7 @@
 use native.Mathlib.Omega.{arith}
 use mir.Facts.{toZ-ofZ}
 use Rattle.delay.specs.Delay.{milli, told, Delays}
-use Rattle.crossing.specs.DelayExported.{area-short, answered}
+use Rattle.c_answers.specs.DelayExported.{area-short, answered}
 use borrow.Author.Needs.{needs}
 use Rattle.ionex.proofs.delays.ionex_tecu_delay.Statement.{statement}
 use Rattle.ionex.proofs.delays.ionex_tecu_delay.Tie as tie

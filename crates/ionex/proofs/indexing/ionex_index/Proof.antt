@@ -1,8 +1,8 @@
 use native.Mathlib.Omega.{arith}
 use lib.ListN.{length}
-use Rattle.crossing.proofs.OwnLaws.{none, fit}
+use Rattle.c_answers.proofs.OwnLaws.{none, fit}
 use Rattle.index.specs.Index.{entries}
-use Rattle.indexcrossing.proofs.CrossLaws.{small-epochs, cross-short, cross-answer}
+use Rattle.c_index.proofs.CrossLaws.{small-epochs, cross-short, cross-answer}
 use borrow.Author.Needs.{needs}
 use Rattle.ionex.proofs.indexing.ionex_index.Statement.{statement}
 use Rattle.ionex.proofs.indexing.ionex_index.Tie as tie

@@ -1,10 +1,10 @@
-use Rattle.indexcrossing.specs.Crossed as crossed
-use Rattle.indexcrossing.proofs.CrossLaws.{same-number, same-value}
+use Rattle.c_index.specs.Crossed as crossed
+use Rattle.c_index.proofs.CrossLaws.{same-number, same-value}
 use mathlib.Core.Path.{ap, _∙_}
 use native.Mathlib.Omega.{arith}
 use lib.ListN.{length}
 use Rattle.kit.specs.Lists.{front}
-use Rattle.crossing.proofs.OwnLaws.{none, fit}
+use Rattle.c_answers.proofs.OwnLaws.{none, fit}
 use borrow.Author.Needs.{needs}
 use Rattle.ionex.proofs.indexing.ionex_indexed_node.Statement.{statement}
 use Rattle.ionex.proofs.indexing.ionex_indexed_node.Tie as tie

@@ -4,9 +4,9 @@ use native.Mathlib.Omega.{arith}
 use lib.ListN.{length}
 use Rattle.mapset.specs.Areas.{Areas, six}
 use Rattle.join.specs.Into.{lent-of}
-use Rattle.crossing.specs.Own.{too-short, shortest}
-use Rattle.crossing.proofs.OwnLaws.{Fit, none, fit}
-use Rattle.crossing.proofs.JoinLaws.{all-long, small-epochs, join-short, join-answer}
+use Rattle.c_answers.specs.Own.{too-short, shortest}
+use Rattle.c_answers.proofs.OwnLaws.{Fit, none, fit}
+use Rattle.c_answers.proofs.JoinLaws.{all-long, small-epochs, join-short, join-answer}
 use borrow.Author.Needs.{needs}
 use Rattle.ionex.proofs.joiner.ionex_join.Statement.{statement}
 use Rattle.ionex.proofs.joiner.ionex_join.Tie as tie

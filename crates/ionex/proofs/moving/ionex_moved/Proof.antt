@@ -1,7 +1,7 @@
 use native.Mathlib.Omega.{arith}
 use mir.Facts.{toZ-ofZ}
 use Rattle.calendar.specs.Calendar.{toldWhen, The}
-use Rattle.crossing.specs.MoveExported.{Moves, area-short, answered}
+use Rattle.c_answers.specs.MoveExported.{Moves, area-short, answered}
 use borrow.Author.Needs.{needs}
 use Rattle.ionex.proofs.moving.ionex_moved.Statement.{statement}
 use Rattle.ionex.proofs.moving.ionex_moved.Tie as tie

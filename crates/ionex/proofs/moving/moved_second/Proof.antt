@@ -6,7 +6,7 @@ use Rattle.kit.specs.Answer.{Answer, ok, refused}
 use Rattle.calendar.specs.Calendar.{DateAt, Later, Refusal, toldFound, toldWhen, The}
 use Rattle.calendar.proofs.DateLaws.{date-once}
 use Rattle.calendar.specs.declared.Epoch.{Epoch}
-use Rattle.crossing.specs.MoveExported.{Moves}
+use Rattle.c_answers.specs.MoveExported.{Moves}
 use borrow.Author.Needs.{needs}
 use Rattle.ionex.proofs.moving.moved_second.Statement.{statement}
 use Rattle.ionex.proofs.moving.moved_second.Tie as tie

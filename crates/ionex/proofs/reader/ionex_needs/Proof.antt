@@ -1,6 +1,6 @@
 use mathlib.Core.Logic.{inl, inr}
 use native.Mathlib.Omega.{arith}
-use Rattle.crossing.specs.NeedsExported.{area-short, answered}
+use Rattle.c_answers.specs.NeedsExported.{area-short, answered}
 use borrow.Author.Needs.{needs}
 use Rattle.ionex.proofs.reader.ionex_needs.Statement.{statement}
 use Rattle.ionex.proofs.reader.ionex_needs.Tie as tie

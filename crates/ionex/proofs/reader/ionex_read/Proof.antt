@@ -1,8 +1,8 @@
 use native.Mathlib.Omega.{arith}
-use Rattle.crossing.proofs.OwnLaws.{none, fit}
+use Rattle.c_answers.proofs.OwnLaws.{none, fit}
 use lib.ListN.{length}
 use Rattle.mapset.specs.Areas.{six}
-use Rattle.crossing.proofs.ReadLaws.{small-epochs, cross-short, cross-answer}
+use Rattle.c_answers.proofs.ReadLaws.{small-epochs, cross-short, cross-answer}
 use borrow.Author.Needs.{needs}
 use Rattle.ionex.proofs.reader.ionex_read.Statement.{statement}
 use Rattle.ionex.proofs.reader.ionex_read.Tie as tie

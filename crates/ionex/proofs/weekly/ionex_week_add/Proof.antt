@@ -7,9 +7,9 @@ use lib.ListN.{length}
 use denote.Ref.{now}
 use Rattle.mapset.specs.Areas.{Areas, six}
 use Rattle.week.specs.Sane.{comes, outcome}
-use Rattle.weekcrossing.specs.WeekNumbers.{week-at}
-use Rattle.weekcrossing.specs.WeekExported.{set-of}
-use Rattle.weekcrossing.proofs.WeekLaws.{Fits, fits, small-comes, cross-short, cross-answer}
+use Rattle.c_week.specs.WeekNumbers.{week-at}
+use Rattle.c_week.specs.WeekExported.{set-of}
+use Rattle.c_week.proofs.WeekLaws.{Fits, fits, small-comes, cross-short, cross-answer}
 use Rattle.ionex.proofs.weekly.ionex_week_add.Statement.{statement}
 use Rattle.ionex.proofs.weekly.ionex_week_add.Tie as tie
 

@@ -1,8 +1,8 @@
 use native.Mathlib.Omega.{arith}
-use Rattle.crossing.proofs.OwnLaws.{none, fit}
+use Rattle.c_answers.proofs.OwnLaws.{none, fit}
 use lib.ListN.{length}
 use Rattle.mapset.specs.Areas.{six}
-use Rattle.crossing.proofs.WriteLaws.{write-short, write-answer}
+use Rattle.c_answers.proofs.WriteLaws.{write-short, write-answer}
 use borrow.Author.Needs.{needs}
 use Rattle.ionex.proofs.writing.ionex_write.Statement.{statement}
 use Rattle.ionex.proofs.writing.ionex_write.Tie as tie

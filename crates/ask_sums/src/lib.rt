@@ -1,0 +1,131 @@
+// The nodes that a question looks at with their weights, and the weighted sum.
+ghost use mathlib.Core.Path.{_≡_};
+ghost use Prim.Native.Nat.{_+_, _*_, _≤_, _<_};
+ghost use lib.IntN.{pos, natAbs, _+ℤ_, _*ℤ_};
+ghost use lib.ListN.{getD};
+ghost use Rattle.ask_nodes.specs.Nodes.{corner};
+ghost use Rattle.ask_nodes.specs.Value.{value};
+ghost use Rattle.ask_sums.specs.Mean.{corners, spread, terms};
+ghost use Rattle.ask_sums.specs.Sums.{Reaches, Shared, Summable, Room, InRange, add-value, add-term, add-all};
+use ask_cells::Cell;
+use ask_nodes::Node;
+use ask_nodes::Shape;
+use ask_nodes::Weighed;
+use ask_spans::Shares;
+
+// What the nodes so far come to: the weighted sum and the sum of the weights, or that a needed node has no value.
+pub enum Sum {
+    Of(i64, u64),
+    Lacks,
+}
+
+// The sum with weight times v.
+fn plus(total: i64, weights: u64, weight: u64, v: i32) -> Sum
+    requires { ⌜ Room (Sum.Of total weights) weight × (natAbs v ≤ 99_999_000) ⌝ }
+    ensures { λ r. ⌜ r ≡ Sum.Of (total +ℤ pos weight *ℤ v) (weights + weight) ⌝ }
+{
+    Sum::Of(ask_round::mul_add(total, weight, v), weights + weight)
+}
+
+// The sum with a needed node.
+fn add(sum: Sum, weight: u64, n: Node) -> Sum
+    requires { ⌜ Room sum weight × InRange n × (0 < weight) ⌝ }
+    ensures { λ r. ⌜ r ≡ add-term sum weight n ⌝ }
+{
+    match sum {
+        Sum::Lacks => Sum::Lacks,
+        Sum::Of(total, weights) => match n {
+            Node::Nothing => Sum::Lacks,
+            Node::Tecu(v) => plus(total, weights, weight, v.0),
+            Node::Km(v) => plus(total, weights, weight, v.0),
+        },
+    }
+}
+
+// The sum with a node, which is looked at where its weight is not zero.
+fn term(sum: Sum, n: Weighed, s: Shape, values: &[i32], exponents: &[i32], marks: &[u8]) -> Sum
+    requires { ⌜ Room sum (n .weight) × Reaches (now values) (now exponents) (now marks) s n ⌝ }
+    ensures { λ r. ⌜ r ≡ add-value sum (n .weight) (value s (now (values .entry)) (now (exponents .entry)) (now (marks .entry)) n) ⌝ }
+{
+    if n.weight == 0 {
+        return sum;
+    }
+    add(
+        sum,
+        n.weight,
+        ask_nodes::node_at(n, s, values, exponents, marks),
+    )
+}
+
+// A node of a cell, and its weight.
+fn weigh(share: u64, a: u64, b: u64, map: u64, row: u64, column: u64) -> Weighed
+    requires { ⌜ (a ≤ 1500) × (b ≤ 6000) × (share * (a * b) ≤ 64_800_000_000) ⌝ }
+    ensures { λ r. ⌜ r ≡ corner (share * (a * b)) map row column ⌝ }
+{
+    Weighed {
+        weight: share * (a * b),
+        map: map,
+        row: row,
+        column: column,
+    }
+}
+
+// The nodes of a cell: its row's two, then the next row's.
+fn corner_of(share: u64, map: u64, c: Cell, k: u64) -> Weighed
+    requires { ⌜ Shared share c × (k < 4) ⌝ }
+    ensures { λ r. ⌜ r ≡ getD (corners share map c) k (corner 0 0 0 0) ⌝ }
+{
+    match k {
+        0 => weigh(
+            share,
+            c.tall - c.down,
+            c.wide - c.across,
+            map,
+            c.row,
+            c.column,
+        ),
+        1 => weigh(share, c.tall - c.down, c.across, map, c.row, c.right),
+        2 => weigh(share, c.down, c.wide - c.across, map, c.row + 1, c.column),
+        _ => weigh(share, c.down, c.across, map, c.row + 1, c.right),
+    }
+}
+
+// The nodes that a question looks at, those of the earlier map first.
+fn nth_node(shares: Shares, first: Cell, second: Cell, k: u64) -> Weighed
+    requires { ⌜ Shared (shares .early) first × Shared (shares .late) second × (shares .map ≤ 1000) × (k < 8) ⌝ }
+    ensures { λ r. ⌜ r ≡ getD (spread shares first second) k (corner 0 0 0 0) ⌝ }
+{
+    if k < 4 {
+        return corner_of(shares.early, shares.map, first, k);
+    }
+    corner_of(shares.late, shares.map + 1, second, k - 4)
+}
+
+// The sum over all of them.
+pub fn sum_of(
+    shares: Shares,
+    first: Cell,
+    second: Cell,
+    s: Shape,
+    values: &[i32],
+    exponents: &[i32],
+    marks: &[u8],
+) -> Sum
+    requires { ⌜ Summable (now values) (now exponents) (now marks) s shares first second ⌝ }
+    ensures { λ r. ⌜ r ≡ add-all (Sum.Of (pos 0) 0) (terms s (now (values .entry)) (now (exponents .entry)) (now (marks .entry)) (spread shares first second)) ⌝ }
+{
+    let mut sum = Sum::Of(0, 0);
+    let mut k: u64 = 0;
+    while k < 8 {
+        sum = term(
+            sum,
+            nth_node(shares, first, second, k),
+            s,
+            values,
+            exponents,
+            marks,
+        );
+        k += 1;
+    }
+    sum
+}

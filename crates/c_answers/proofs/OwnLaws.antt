@@ -1,0 +1,38 @@
+-- A call's own areas: long enough where 0 is told.
+use mathlib.Core.Path.{_≡_}
+use Prim.Native.Nat.{ℕ, _≤_, _<_}
+use native.Mathlib.Omega.{arith}
+use native.Mathlib.Decide.{ℕ-discrete, decLe}
+use Rattle.kit.specs.Answer.{pick}
+use Rattle.kit.proofs.AnswerLaws.{pick-yes, pick-no}
+use Rattle.c_answers.specs.Own.{too-short, unless}
+
+pub record Fit (h x r n : ℕ) : Type 0 where
+  pub header : 44 ≤ h
+  pub texts : 124 ≤ x
+  pub result : n ≤ r
+
+module _ (h x r n : ℕ) where
+  all-fit : (a : Dec (44 ≤ h)) (b : Dec (124 ≤ x)) (c : Dec (n ≤ r)) → _≡_ {A = ℕ} (pick a (pick b (pick c 0 103) 102) 101) 0 → Fit h x r n
+  unfolding pick
+  all-fit (yes p) (yes q) (yes s) e = record { header = p; texts = q; result = s }
+  all-fit (yes p) (yes q) (no s) e = absurd (omega (arith, e))
+  all-fit (yes p) (no q) c e = absurd (omega (arith, e))
+  all-fit (no p) b c e = absurd (omega (arith, e))
+
+  -- what a call told, as it is compared with 0
+  pub none : {k : ℕ} → k ≡ too-short h x r n → k < 1 → too-short h x r n ≡ 0
+  none e p = omega (arith, e, p)
+
+  pub fit : {k : ℕ} → k ≡ too-short h x r n → k < 1 → Fit h x r n
+  unfolding too-short
+  fit e p = all-fit (decLe 44 h) (decLe 124 x) (decLe n r) (none e p)
+
+module _ {A : Type 0} {k : ℕ} (a : A) (f : ℕ → A) where
+  pub unless-none : k ≡ 0 → unless k a f ≡ a
+  unfolding unless
+  unless-none e = pick-yes (ℕ-discrete k 0) a (f k) e
+
+  pub unless-short : 1 ≤ k → unless k a f ≡ f k
+  unfolding unless
+  unless-short p = pick-no (ℕ-discrete k 0) a (f k) (λ e. omega (arith, e))

@@ -1,0 +1,30 @@
+use mathlib.Core.Path.{_≡_, refl, _∙_}
+use lib.Seq.{sets}
+use Rattle.c_header.specs.Numbers.{numbers}
+use Rattle.c_header.proofs.SetLaws.{sets-front}
+use borrow.Author.Needs.{needs}
+use Rattle.c_header.proofs.put_header.Statement.{statement}
+use Rattle.c_header.proofs.put_header.Tie as tie
+
+put-first-requires : tie.Need-put-first-requires
+put-first-requires c κs = search needs
+
+put-grid-requires : tie.Need-put-grid-requires
+put-grid-requires c κs = search needs
+
+put-starred-requires : tie.Need-put-starred-requires
+put-starred-requires c κs = search needs
+
+same-length : tie.Need-same-length
+same-length c = search needs
+
+returns : tie.Need-returns
+returns c =
+    let s = c .before .before .before .before .before .before .before .before .before in
+    let e : c .before .put-starred .last .0 ≡ sets (s .args .out .now) 0 (numbers (s .args .h)) = rw (c .before .put-starred .ensures, c .before .before .before .before .put-grid .ensures, c .before .before .before .before .before .before .before .put-first .ensures) refl in
+    e ∙ sets-front (numbers (s .args .h)) (s .args .out .now) (s .pre .0)
+
+pub put-header-spec : {M : Type 1} → statement M
+put-header-spec =
+    tie.close
+    (tie.spec put-first-requires put-grid-requires put-starred-requires same-length returns)

@@ -1,0 +1,28 @@
+use borrow.Author.Needs.{needs}
+use Rattle.maps_agree.proofs.grid.natural.Statement.{statement}
+use Rattle.maps_agree.proofs.grid.natural.Tie as tie
+use mathlib.Core.Path.{_≡_, sym, ap, _∙_}
+use lib.IntN.{ℤ, pos, natAbs}
+use lib.Signed.{ltZ}
+use mir.Facts.{toZ-ofZ}
+use Rattle.maps_agree.proofs.GridLaws.{up-none, up-size}
+
+below : (c : tie.After-less) → c .less .result ≡ ltZ (c .before .args .x) (pos 0)
+below c = c .less .ensures ∙ ap (λ (z : ℤ). ltZ z (pos 0)) (toZ-ofZ (c .before .fits .x))
+
+less-requires : tie.Need-less-requires
+less-requires c κs = search needs
+
+returns : tie.Need-returns
+returns c = up-none (c .before .before .args .x) (sym (below (c .before)) ∙ c .if1 .taken)
+
+size-requires : tie.Need-size-requires
+size-requires c κs = search needs
+
+returns-2 : tie.Need-returns-2
+returns-2 c =
+    let s = c .before .before .before in
+    c .size .ensures ∙ ap natAbs (toZ-ofZ (s .fits .x)) ∙ up-size (s .args .x) (sym (below (c .before .before)) ∙ c .before .if1 .left)
+
+pub natural-spec : {M : Type 1} → statement M
+natural-spec = tie.close (tie.spec less-requires returns size-requires returns-2)

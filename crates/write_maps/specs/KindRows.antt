@@ -1,0 +1,63 @@
+-- The rows of the maps of one kind, from what the lent areas hold of it: one map for each TEC map, where its mark says that it is there.
+use mathlib.Core.List.{List, [], _∷_, _++_}
+use Prim.Native.Nat.{ℕ, suc, _*_}
+use lib.ListN.{length, take, drop}
+use lib.IntN.{ℤ, negsuc}
+use Rattle.mapset.specs.declared.Kind.{Kind}
+use Rattle.mapset.specs.declared.Kind.the-variants.{Tec, Rms, Height}
+use Rattle.mapset.specs.declared.Header.{Header}
+use Rattle.mapset.specs.Grid.{columns}
+use Rattle.mapset.specs.MapSet.{Block}
+use Rattle.mapset.specs.Areas.{Areas, blocks}
+use Rattle.layout.specs.Labels.{file-end}
+use Rattle.layout.specs.Layout.{per-map}
+use Rattle.areas.specs.Stores.{first-of}
+use Rattle.areas.specs.Valid.{values-in}
+use Rattle.valid.specs.Groups.{kind-need}
+use Rattle.canonical.specs.Canon.{row-of}
+use Rattle.write_map.specs.OneMap.{map-blocks, slot-map, slot-force}
+
+-- the blocks of the first of several maps
+abbrev pub first-map : Header → (es vs : List ℤ) → List Block
+first-map h es vs = map-blocks h (take (per-map h) es) (take (per-map h * columns (h .grid)) vs)
+
+-- the maps after i others, from their epochs, marks, exponents and values; and the exponent in force after them
+unfoldable pub kind-rows : Kind → Header → (i : ℕ) (k : ℤ) (ts ms : List ℕ) (es vs : List ℤ) → List (List ℕ)
+kind-rows q h i k (t ∷ ts) (m ∷ ms) es vs =
+    slot-map q h (suc i) t m k (first-map h es vs)
+    ++ kind-rows q h (suc i) (slot-force q m k (first-map h es vs)) ts ms (drop (per-map h) es) (drop (per-map h * columns (h .grid)) vs)
+kind-rows q h i k (t ∷ ts) [] es vs = []
+kind-rows q h i k [] ms es vs = []
+
+unfoldable pub kind-force : Kind → Header → (k : ℤ) (ms : List ℕ) (es vs : List ℤ) → ℤ
+kind-force q h k (m ∷ ms) es vs =
+    kind-force q h (slot-force q m k (first-map h es vs)) ms (drop (per-map h) es) (drop (per-map h * columns (h .grid)) vs)
+kind-force q h k [] es vs = k
+
+-- ---- of the areas as they are lent: the exponents of a kind begin at `first`, and a kind with no map needs no values
+
+abbrev pub part-exponents : Header → (ms : List ℕ) (es : List ℤ) (first : ℕ) → List ℤ
+part-exponents h ms es first = take (length ms * per-map h) (drop first es)
+
+abbrev pub part-values : Kind → Header → (ms : List ℕ) (vs : List ℤ) → List ℤ
+part-values q h ms vs = take (kind-need q (per-map h) (columns (h .grid)) ms) vs
+
+module _ (h : Header) (a : Areas) where
+  abbrev epochs : List ℕ
+  epochs = take (h .times .maps) (a .epochs)
+
+  abbrev marks : List ℕ
+  marks = take (h .times .maps) (a .marks)
+
+  unfoldable pub area-rows : Kind → ℤ → List (List ℕ)
+  area-rows q k = kind-rows q h 0 k epochs marks (part-exponents h marks (a .exponents) (first-of q (blocks h))) (part-values q h marks (values-in q a))
+
+  unfoldable pub area-force : Kind → ℤ → ℤ
+  area-force q k = kind-force q h k marks (part-exponents h marks (a .exponents) (first-of q (blocks h))) (part-values q h marks (values-in q a))
+
+  -- TEC maps, RMS maps, height maps; the exponent in force goes on from kind to kind
+  abbrev pub all-rows : List (List ℕ)
+  all-rows =
+      area-rows Tec (negsuc 0)
+      ++ (area-rows Rms (area-force Tec (negsuc 0))
+      ++ (area-rows Height (area-force Rms (area-force Tec (negsuc 0))) ++ (row-of file-end tt ∷ [])))

@@ -1,0 +1,23 @@
+-- What the functions that put the maps ask of their callers.
+use mathlib.Core.List.{List}
+use Prim.Native.Nat.{ℕ, _≤_}
+use lib.ListN.{length}
+use lib.IntN.{ℤ}
+use Rattle.mapset.specs.declared.Kind.{Kind}
+use Rattle.mapset.specs.declared.Header.{Header}
+use Rattle.mapset.specs.Grid.{columns}
+use Rattle.mapset.specs.Areas.{Areas}
+use Rattle.layout.specs.Layout.{per-map}
+use Rattle.valid.specs.Groups.{Holds, Long}
+use Rattle.write_map.specs.Ready.{Ready}
+use Rattle.write_maps.specs.KindRows.{kind-rows, part-exponents, part-values, all-rows}
+
+-- the maps of a kind in the areas as they are lent
+pub record ReadyPart (h : Header) (at : ℕ) (q : Kind) (k : ℤ) (ts ms : List ℕ) (es : List ℤ) (first : ℕ) (vs : List ℤ) : Type 0 where
+  pub ready : Ready h at (kind-rows q h 0 k ts ms (part-exponents h ms es first) (part-values q h ms vs))
+  pub holds : Holds q (per-map h) (columns (h .grid)) ms vs es first
+
+pub record ReadyMaps (h : Header) (at : ℕ) (a : Areas) : Type 0 where
+  pub ready : Ready h at (all-rows h a)
+  pub epochs : h .times .maps ≤ length (a .epochs)
+  pub long : Long h a

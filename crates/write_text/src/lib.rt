@@ -1,0 +1,97 @@
+// Canonical text of the lent areas, put into a lent output.
+ghost use mathlib.Core.Path.{_≡_};
+ghost use mathlib.Core.List.{List};
+ghost use Prim.Native.Nat.{ℕ};
+ghost use Rattle.mapset.specs.Areas.{six};
+ghost use Rattle.areas.specs.Valid.{Valid};
+ghost use Rattle.areas.specs.Nesting.{nested};
+ghost use Rattle.canonical.specs.Canon.{canon-rows};
+ghost use Rattle.write_line.specs.Put.{Room, Put};
+ghost use Rattle.write_text.specs.Write.{Told, told, written};
+use mapset::Header;
+use mapset::Texts;
+
+// The canonical text.
+fn put_text(
+    out: &mut [u8],
+    at: usize,
+    header: Header,
+    texts: Texts,
+    tec: &[i32],
+    rms: &[i32],
+    height: &[i32],
+    exponents: &[i32],
+    epochs: &[u64],
+    marks: &[u8],
+) -> usize
+    requires { ⌜ Valid header texts (six (now tec) (now rms) (now height) (now exponents) (now epochs) (now marks)) × Room at (canon-rows (nested header texts (six (now tec) (now rms) (now height) (now exponents) (now epochs) (now marks)))) ⌝ }
+    ensures { λ r. ⌜ Put (now (out .entry)) at (canon-rows (nested header texts (six (now (tec .entry)) (now (rms .entry)) (now (height .entry)) (now (exponents .entry)) (now (epochs .entry)) (now (marks .entry))))) (now (out .exit)) r ⌝ }
+{
+    let next = write_head::put_header(out, at, header, texts);
+    write_maps::put_maps(
+        out,
+        next,
+        header,
+        tec,
+        rms,
+        height,
+        exponents,
+        epochs,
+        marks,
+    )
+}
+
+// What writing answers: the bytes written, the bytes needed (30), or that this is no map set (31).
+pub enum Written {
+    Bytes(u64),
+    Short(u64),
+    Unsound,
+}
+
+// The text is measured in none of the output, so that 30 leaves it as it was.
+pub fn write_text(
+    header: Header,
+    texts: Texts,
+    tec: &[i32],
+    rms: &[i32],
+    height: &[i32],
+    exponents: &[i32],
+    epochs: &[u64],
+    marks: &[u8],
+    out: &mut [u8],
+) -> Written
+    ensures { λ r. ⌜ _≡_ {A = Told × List ℕ} (told r, now (out .exit)) (written header texts (six (now (tec .entry)) (now (rms .entry)) (now (height .entry)) (now (exponents .entry)) (now (epochs .entry)) (now (marks .entry))) (now (out .entry))) ⌝ }
+{
+    if !valid::valid(header, texts, tec, rms, height, exponents, epochs, marks) {
+        return Written::Unsound;
+    }
+    let nothing: usize = 0;
+    let needed = put_text(
+        &mut out[..nothing],
+        0,
+        header,
+        texts,
+        tec,
+        rms,
+        height,
+        exponents,
+        epochs,
+        marks,
+    );
+    if out.len() < needed {
+        return Written::Short(needed as u64);
+    }
+    let end = put_text(
+        out,
+        0,
+        header,
+        texts,
+        tec,
+        rms,
+        height,
+        exponents,
+        epochs,
+        marks,
+    );
+    Written::Bytes(end as u64)
+}
