@@ -22,3 +22,4 @@ pub mod Unnested
 pub mod Absent
 pub mod Nested
 pub mod ValidFormed
+pub mod Theorems

@@ -10,3 +10,4 @@ pub mod Sample
 pub mod Strip
 pub mod SunSample
 pub mod WholeTurn
+pub mod Theorems

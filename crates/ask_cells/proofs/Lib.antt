@@ -1,2 +1,3 @@
 pub mod EarthLaws
 pub mod PlaceLaws
+pub mod Theorems

@@ -1,2 +1,3 @@
 pub mod AskDelayLaws
 pub mod Once
+pub mod Theorems

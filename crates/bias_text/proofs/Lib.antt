@@ -1,3 +1,4 @@
 pub mod BiasedLaws
 pub mod Numbers
 pub mod Once
+pub mod Theorems

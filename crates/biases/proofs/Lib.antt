@@ -3,3 +3,4 @@ pub mod Fine
 pub mod Laws
 pub mod Refusals
 pub mod Vectors
+pub mod Theorems

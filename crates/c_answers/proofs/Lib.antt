@@ -4,3 +4,4 @@ pub mod WriteLaws
 pub mod JoinLaws
 pub mod Once
 pub mod Back
+pub mod Theorems

@@ -1,2 +1,3 @@
 pub mod CrossLaws
 pub mod Once
+pub mod Theorems

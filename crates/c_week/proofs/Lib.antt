@@ -2,3 +2,4 @@ pub mod RangeLaws
 pub mod WeekLaws
 pub mod Once
 pub mod Back
+pub mod Theorems

@@ -1,3 +1,4 @@
 pub mod DateLaws
 pub mod FieldLaws
 pub mod Once
+pub mod Theorems

@@ -6,3 +6,4 @@ pub mod RoomLaws
 pub mod RowLaws
 pub mod TextLaws
 pub mod Vectors
+pub mod Theorems

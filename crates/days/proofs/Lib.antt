@@ -1,3 +1,4 @@
 pub mod FormulaLaws
 pub mod SumLaws
 pub mod YearLaws
+pub mod Theorems

@@ -2,3 +2,4 @@ pub mod DelayLaws
 pub mod Finite
 pub mod Literals
 pub mod Vectors
+pub mod Theorems

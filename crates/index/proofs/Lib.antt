@@ -8,3 +8,4 @@ pub mod CutLaws
 pub mod FoundLaws
 pub mod Once
 pub mod Vectors
+pub mod Theorems

@@ -1,2 +1,3 @@
 pub mod AskLaws
 pub mod Once
+pub mod Theorems

@@ -1,2 +1,3 @@
 pub mod MakeLaws
 pub mod Once
+pub mod Theorems

@@ -8,3 +8,4 @@ pub mod JoinedFormed
 pub mod Same
 pub mod Sample
 pub mod Vectors
+pub mod Theorems

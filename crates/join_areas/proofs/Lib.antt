@@ -1,3 +1,4 @@
 pub mod StoreLaws
 pub mod Stored
 pub mod Once
+pub mod Theorems

@@ -5,3 +5,4 @@ pub mod Epochs
 pub mod Parts
 pub mod Terms
 pub mod Values
+pub mod Theorems

@@ -6,3 +6,4 @@ pub mod TruthLaws
 pub mod IntegerLaws
 pub mod Parts
 pub mod Order
+pub mod Theorems

@@ -1,3 +1,4 @@
 mod PrintedLaws
 pub mod Exactly
 pub mod Said
+pub mod Theorems

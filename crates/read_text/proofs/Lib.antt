@@ -2,3 +2,4 @@ pub mod StoreLaws
 pub mod Needed
 pub mod Once
 pub mod Wrong
+pub mod Theorems

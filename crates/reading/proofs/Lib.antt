@@ -12,3 +12,4 @@ pub mod RefusalLaws
 pub mod ScanLaws
 pub mod SlotLaws
 pub mod Vectors
+pub mod Theorems

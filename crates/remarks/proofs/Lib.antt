@@ -7,3 +7,4 @@ pub mod Pairs
 pub mod Rows
 pub mod Same
 pub mod SameIndex
+pub mod Theorems

@@ -3,3 +3,4 @@ pub mod Short
 pub mod Exactly
 pub mod Sample
 pub mod WriteLaws
+pub mod Theorems

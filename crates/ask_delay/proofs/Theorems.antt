@@ -1,0 +1,3 @@
+-- What is told of this crate.
+pub use Rattle.ask_delay.proofs.AskDelayLaws.{km-kind}
+pub use Rattle.ask_delay.proofs.Once.{ask-delays-once, ask-delay-once}

@@ -1,0 +1,2 @@
+-- What is told of years and months.
+pub use Rattle.days.proofs.FormulaLaws.{years-by-formula}

@@ -1,0 +1,2 @@
+-- What is told of number fields.
+pub use Rattle.forms.proofs.ShowLaws.{written-spells}

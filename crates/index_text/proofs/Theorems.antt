@@ -1,0 +1,2 @@
+-- What is told of this crate.
+pub use Rattle.index_text.proofs.Once.{made-as-read, node-as-read, index-once, refused-as-read}

@@ -1,0 +1,9 @@
+-- What is told of two map sets joined.
+pub use Rattle.join.proofs.JoinedAreas.{joined-areas}
+pub use Rattle.join.proofs.IntoLaws.{lent-areas, joined-valid, either-way-lent, large}
+pub use Rattle.join.proofs.JoinedFormed.{joined-formed}
+pub use Rattle.join.proofs.Exactly.{join-exactly, join-once}
+pub use Rattle.join.proofs.IntoExactly.{lent-exactly, lent-once}
+pub use Rattle.join.proofs.Vectors.{limits-at, refusals-in-order}
+pub use Rattle.join.proofs.EitherWay.{either-way}
+pub use Rattle.join.proofs.Grouping.{any-grouping, groupings}

@@ -1,0 +1,3 @@
+-- What is told of this crate.
+pub use Rattle.write_text.proofs.Exactly.{written-read, write-once, refused-exactly}
+pub use Rattle.write_text.proofs.Sample.{not-refused}
