@@ -1,4 +1,4 @@
--- What is told of this crate.
+-- The theorems told of asking.
 pub use Rattle.ask.proofs.Once.{answers-once, ask-once, number-once}
 pub use Rattle.ask.proofs.Reckonings.{reckonings, not-served}
 pub use Rattle.ask.proofs.AtEpoch.{methods-agree, at-node, sun-at-epoch, nearest-sun-at-epoch}

@@ -1,2 +1,2 @@
--- What is told of places in the grid.
+-- The theorems told of a place in the grid.
 pub use Rattle.ask_cells.proofs.EarthLaws.{inside-exactly, strip-right, plain-right, meridian, round-inside}

@@ -1,2 +1,2 @@
--- What is told of rounding.
+-- The theorems told of rounding.
 pub use Rattle.ask_round.proofs.RoundLaws.{nearest-unique}

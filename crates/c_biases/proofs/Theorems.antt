@@ -1,2 +1,2 @@
--- What is told of this crate.
+-- The theorems told of biases as they cross.
 pub use Rattle.c_biases.proofs.Once.{ionex-biases-once}

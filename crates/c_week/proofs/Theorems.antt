@@ -1,3 +1,3 @@
--- What is told of this crate.
+-- The theorems told of a week as it crosses.
 pub use Rattle.c_week.proofs.Back.{week-back, zero-week, broken-insane}
 pub use Rattle.c_week.proofs.Once.{ionex-week-add-once}

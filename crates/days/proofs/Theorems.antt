@@ -1,2 +1,2 @@
--- What is told of years and months.
+-- The theorems told of years and months.
 pub use Rattle.days.proofs.FormulaLaws.{years-by-formula}

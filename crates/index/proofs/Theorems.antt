@@ -1,4 +1,4 @@
--- What is told of an index and its text.
+-- The theorems told of an index and what it answers.
 pub use Rattle.index.proofs.Vectors.{small-index, entries-apart}
 pub use Rattle.index.proofs.Once.{reply-once}
 pub use Rattle.index.proofs.AsRead.{indexed-as-read}

@@ -1,4 +1,4 @@
--- What is told of two map sets joined.
+-- The theorems told of two map sets joined.
 pub use Rattle.join.proofs.JoinedAreas.{joined-areas}
 pub use Rattle.join.proofs.IntoLaws.{lent-areas, joined-valid, either-way-lent, large}
 pub use Rattle.join.proofs.JoinedFormed.{joined-formed}

@@ -6,4 +6,3 @@ pub mod TruthLaws
 pub mod IntegerLaws
 pub mod Parts
 pub mod Order
-pub mod Theorems

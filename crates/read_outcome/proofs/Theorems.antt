@@ -1,2 +1,2 @@
--- What is told of needs.
+-- The theorems told of what a text needs.
 pub use Rattle.read_outcome.proofs.Once.{needs-once}

@@ -1,4 +1,4 @@
--- What is told of this crate.
+-- The theorems told of remarks.
 pub use Rattle.remarks.proofs.Border.{biases-differ, bias-remarked, biases-told}
 pub use Rattle.remarks.proofs.Pairs.{remarked, not-same}
 pub use Rattle.remarks.proofs.Accepted.{accepted-comment, other-comment}
