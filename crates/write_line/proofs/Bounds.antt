@@ -1,6 +1,6 @@
 -- The labels of START and END in 01's list: those of a kind stand together.
 use mathlib.Core.Path.{_≡_, refl}
-use Prim.Native.Nat.{ℕ, _+_, _<_}
+use Prim.Native.Nat.{_+_, _<_}
 use native.Mathlib.Omega.{arith}
 use lib.IntN.{ℤ}
 use Rattle.mapset.specs.declared.Kind.{Kind}
@@ -9,11 +9,7 @@ use Rattle.layout.specs.Labels.{start, end}
 use Rattle.layout.specs.Names.{names}
 use Rattle.canonical.specs.Canon.{row-of}
 use Rattle.write_row.specs.Rows.{row-at, whole}
-
-abbrev pub start-place : Kind → ℕ
-start-place Tec = 23
-start-place Rms = 25
-start-place Height = 27
+use Rattle.write_line.specs.Starts.{start-place}
 
 pub start-row : (k : Kind) (z : ℤ) → row-at (start-place k) whole (z, tt) ≡ row-of (start k) (z, tt)
 unfolding row-at row-of names

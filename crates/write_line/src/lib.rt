@@ -7,7 +7,7 @@ ghost use lib.IntN.{pos};
 ghost use Rattle.layout.specs.Labels.{epoch, block, file-end, start, end};
 ghost use Rattle.canonical.specs.Canon.{row-of, date-of, six, trimmed, value-rows, exponent-rows};
 ghost use Rattle.write_row.specs.Rows.{row-at, whole, six-whole, opening-of, Placed};
-ghost use Rattle.write_line.proofs.Bounds.{start-place};
+ghost use Rattle.write_line.specs.Starts.{start-place};
 ghost use Rattle.write_line.specs.Put.{Room, Put};
 use mapset::Grid;
 use mapset::Kind;
