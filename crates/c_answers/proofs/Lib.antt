@@ -2,6 +2,12 @@ pub mod OwnLaws
 pub mod ReadLaws
 pub mod WriteLaws
 pub mod JoinLaws
-pub mod Once
+pub mod AskOnce
+pub mod DelayOnce
+pub mod JoinOnce
+pub mod MoveOnce
+pub mod NeedsOnce
+pub mod ReadOnce
+pub mod WriteOnce
 pub mod Back
 pub mod Theorems

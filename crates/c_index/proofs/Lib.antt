@@ -1,3 +1,4 @@
 pub mod CrossLaws
-pub mod Once
+pub mod NodeOnce
+pub mod IndexOnce
 pub mod Theorems

@@ -1,5 +1,5 @@
 pub mod RangeLaws
 pub mod WeekLaws
-pub mod Once
+pub mod WeekOnce
 pub mod Back
 pub mod Theorems

@@ -31,7 +31,7 @@ use Rattle.read_outcome.specs.declared.ReadOut.{ReadOut}
 use Rattle.c_answers.specs.Own.{too-short, unless}
 use Rattle.c_answers.specs.ReadExported.{crossed, crosses, read-crossed}
 use Rattle.c_answers.specs.NeedsExported.{NeedsCross, area-short, answered}
-use Rattle.c_answers.proofs.Once.{ionex-needs-once}
+use Rattle.c_answers.proofs.NeedsOnce.{ionex-needs-once}
 use Rattle.index.specs.Index.{Entries, entries}
 use Rattle.index.specs.Made.{placed-from, positions-of, entries-of, fronts}
 use Rattle.index.proofs.FoundLaws.{cuts-split}

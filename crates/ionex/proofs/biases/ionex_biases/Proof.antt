@@ -2,7 +2,7 @@
 use native.Mathlib.Omega.{arith}
 use Rattle.bias_fill.specs.Flat.{lent}
 use Rattle.bias_text.specs.Biased.{comes}
-use Rattle.c_biases.proofs.Once.{cross-short, cross-answer}
+use Rattle.c_biases.proofs.BiasOnce.{cross-short, cross-answer}
 use borrow.Author.Needs.{needs}
 use Rattle.ionex.proofs.biases.ionex_biases.Statement.{statement}
 use Rattle.ionex.proofs.biases.ionex_biases.Tie as tie

@@ -1,4 +1,4 @@
--- What each exported function answers: no second answer fits.
+-- No second answer fits.
 use mathlib.Core.Path.{_≡_, refl, sym, _∙_}
 use mathlib.Core.List.{List}
 use Prim.Native.Nat.{ℕ}
@@ -8,7 +8,6 @@ use Rattle.kit.specs.Lists.{front}
 use Rattle.index.specs.Index.{Entries, Node, position}
 use Rattle.index.proofs.Once.{reply-once}
 use Rattle.c_index.specs.Crossed.{told-number, told-value, told-bounds, index-of, NodeCrosses, short, answered, BlockCrosses}
-use Rattle.c_index.specs.IndexExported.{Crossed, index-crossed}
 
 module _ (h : List ℤ) (x : List ℕ) (l : Entries) (t : List ℕ) (q : Node) where
   pub ionex-indexed-node-once : (v : List ℤ) {n m : ℕ} {u w : List ℤ} → NodeCrosses h x l t q v n u → NodeCrosses h x l t q v m w → (n ≡ m) × (u ≡ w)
@@ -26,7 +25,3 @@ module _ (h : List ℤ) (x : List ℕ) (l : Entries) (t : List ℕ) (q : Node) w
   ionex-indexed-block-once v (answered e a r) (answered f b s) =
       let p = reply-once (index-of h x l) t q a b r s in
       (λ i. told-number (p i), λ i. front (told-bounds (position (index-of h x l) q) (p i)) v)
-
--- no second answer
-pub ionex-index-once : (t : List ℕ) (l : Entries) (h : List ℤ) (x p : List ℕ) (a b : Crossed) → a ≡ index-crossed t l h x p → b ≡ index-crossed t l h x p → a ≡ b
-ionex-index-once t l h x p a b e f = e ∙ sym f

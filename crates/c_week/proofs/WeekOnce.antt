@@ -1,4 +1,4 @@
--- What each exported function answers: no second answer fits.
+-- No second answer fits.
 use mathlib.Core.Path.{_≡_, sym, _∙_}
 use mathlib.Core.List.{List}
 use Prim.Native.Nat.{ℕ}
