@@ -31,6 +31,7 @@ use Rattle.reading.proofs.Blame.{Blames, blamed, amap-blames, not-ten, cells-bl
 use Rattle.reading.specs.Refusals.{Later}
 use Rattle.reading.proofs.Machine.{State, first, header, maps, turn, Move, on-row-of}
 use Rattle.reading.specs.declared.Place.{Place}
+use Rattle.reading.proofs.RecordLaws.{blank-spaces}
 use Rattle.remarks.specs.Remarks.{Bears}
 
 -- ---- a blank line bears no label
@@ -67,7 +68,7 @@ start-word =
 
 pub not-blank : {x : Label} (l : List ℕ) → Word x → Bears x l → ¬ All Blank l
 unfolding pad
-not-blank l w e a = w .shown (rw e at (all-drop 60 (l ++ replicate (80 - length l) 32) (all-append Blank l (replicate (80 - length l) 32) a (blanks (80 - length l)))))
+not-blank l w e a = w .shown (rw e at (all-drop Blank 60 (l ++ replicate (80 - length l) 32) (all-append Blank l (replicate (80 - length l) 32) a (blank-spaces (80 - length l)))))
 
 -- ---- no row of values bears such a label
 
@@ -83,7 +84,7 @@ number-bad x c f e = rw e y-no
 module _ {x : Label} (k : Word x) where
   no-cells : (j c m : ℕ) (bs : List ℕ) → drop (j * 5) bs ≡ name x → Yields (λ zs. ⊥) (cells c m bs)
   unfolding cells blank
-  no-cells j c zero bs e = need-yields (all-dec (λ b. ℕ-discrete b 32) bs) _ (λ a. absurd (k .shown (rw e at (all-drop (j * 5) bs a))))
+  no-cells j c zero bs e = need-yields (all-dec (λ b. ℕ-discrete b 32) bs) _ (λ a. absurd (k .shown (rw e at (all-drop Blank (j * 5) bs a))))
   no-cells zero c (suc m) bs e = number-bad (readField form.I (take 5 bs)) c _ (ap (λ x. readField form.I (take 5 x)) e ∙ k .no-number)
   no-cells (suc j) c (suc m) bs e =
       let n : 5 + j * 5 ≡ suc j * 5 = omega arith in
