@@ -25,7 +25,7 @@ use Rattle.c_header.proofs.SetLaws.{sets-append, sets-front}
 use Rattle.bias_scan.specs.Walk.{with-satellite, with-station}
 use Rattle.bias_scan.specs.Turns.{from, Halts, OnRow}
 use Rattle.bias_fill.specs.Flat.{Lent, lent, four, three, of-satellites, of-stations, names-of, flat, in-front}
-use Rattle.bias_fill.specs.Filled.{told-role, told, one, fours, threes, named, stored, Fits, past, rest, Enough, Room, Fills, Stays, left}
+use Rattle.bias_fill.specs.Filled.{told-role, told, one, fours, threes, named, stored, Fits, past, rest, Enough, BiasRoom, Fills, Stays, left}
 use Rattle.bias_fill.specs.declared.Fill.{Fill}
 
 -- ---- one record more
@@ -116,7 +116,7 @@ gathered-told f g p b e = yields _ (gather-told f g p) e
 
 -- ---- one row
 
-module _ (t : List ℕ) (f : Fill) (l : Lent) (z : Room t f l) where
+module _ (t : List ℕ) (f : Fill) (l : Lent) (z : BiasRoom t f l) where
   none-told : (x : Feed) → NoRow x → told (f .place) x ≡ nothing
   unfolding told
   none-told (ends n) h = refl

@@ -83,7 +83,7 @@ over f = record { place = f .place; at = f .at; lines = f .lines; satellites = f
 abbrev pub rest : List ℕ → Fill → Biases
 rest t f = told (f .place) (from t (f .at) (f .lines))
 
-pub record Room (t : List ℕ) (f : Fill) (l : Lent) : Type 0 where
+pub record BiasRoom (t : List ℕ) (f : Fill) (l : Lent) : Type 0 where
   pub within : f .at ≤ length t
   pub lines : f .lines ≤ f .at
   pub fits : Fits (rest t f) (f .satellites) (f .stations) l
@@ -91,12 +91,12 @@ pub record Room (t : List ℕ) (f : Fill) (l : Lent) : Type 0 where
 -- one row more: over, with all stored; or on, with as much to come
 abbrev pub Fills : List ℕ → Fill → Lent → Bool → Fill → Lent → Type 0
 Fills t f l true f′ l′ = l′ ≡ stored (rest t f) (f .satellites) (f .stations) l
-Fills t f l false f′ l′ = Room t f′ l′ × (stored (rest t f′) (f′ .satellites) (f′ .stations) l′ ≡ stored (rest t f) (f .satellites) (f .stations) l) × (f .at < f′ .at)
+Fills t f l false f′ l′ = BiasRoom t f′ l′ × (stored (rest t f′) (f′ .satellites) (f′ .stations) l′ ≡ stored (rest t f) (f .satellites) (f .stations) l) × (f .at < f′ .at)
 
 -- of the areas l₀ at the start: over, with all stored; or on the way there
 abbrev pub Stays : List ℕ → Lent → Fill → Lent → Bool → Type 0
 Stays t l₀ f l true = l ≡ filled t l₀
-Stays t l₀ f l false = Room t f l × (stored (rest t f) (f .satellites) (f .stations) l ≡ filled t l₀)
+Stays t l₀ f l false = BiasRoom t f l × (stored (rest t f) (f .satellites) (f .stations) l ≡ filled t l₀)
 
 -- how far it is
 abbrev pub left : List ℕ → Fill → Bool → ℕ

@@ -146,7 +146,7 @@ fn fill_row(
     stations: &mut [i32],
     names: &mut [u8],
 ) -> Fill
-    requires { ⌜ filled.Room (now text) f (lent (now satellites) (now stations) (now names)) ⌝ }
+    requires { ⌜ filled.BiasRoom (now text) f (lent (now satellites) (now stations) (now names)) ⌝ }
     ensures { λ r. ⌜ filled.Fills (now (text .entry)) f (lent (now (satellites .entry)) (now (stations .entry)) (now (names .entry))) (r .done) r (lent (now (satellites .exit)) (now (stations .exit)) (now (names .exit))) ⌝ }
 {
     let place = f.place;

@@ -56,10 +56,10 @@ pub record Gives (t : List ℕ) (ns nt : ℕ) : Type 0 where
   pub fours : 4 * ns ≤ length t
   pub twenties : 20 * nt ≤ length t
 
-abbrev pub Leads : List ℕ → Scan → Onward → Scan → Type 0
-Leads t s (Onward.Wrong k l c) s′ = gather nothing Outside (first t) ≡ refused (why k l c)
-Leads t s Onward.Ended s′ = Gives t (s′ .satellites) (s′ .stations)
-Leads t s Onward.More s′ = Stands t s′ × (s .at < s′ .at)
+abbrev pub Passes : List ℕ → Scan → Onward → Scan → Type 0
+Passes t s (Onward.Wrong k l c) s′ = gather nothing Outside (first t) ≡ refused (why k l c)
+Passes t s Onward.Ended s′ = Gives t (s′ .satellites) (s′ .stations)
+Passes t s Onward.More s′ = Stands t s′ × (s .at < s′ .at)
 
 abbrev pub Judges : List ℕ → Verdict → Type 0
 Judges t (Verdict.Wrong k l c) = gather nothing Outside (first t) ≡ refused (why k l c)

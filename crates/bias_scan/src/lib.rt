@@ -238,7 +238,7 @@ fn more(s: Scan) -> Passed
 // A satellite's row, from start to end, on the line after which so many were passed.
 fn of_satellite(text: &[u8], s: Scan, start: usize, end: usize, next: usize, lines: u64) -> Passed
     requires { ⌜ judged.Stands (now text) s × turns.OnLine (now text) (s .at) (s .lines) (s .place) start end next lines Role.OfSatellite ⌝ }
-    ensures { λ r. ⌜ judged.Leads (now (text .entry)) s (r .onward) (r .scan) ⌝ }
+    ensures { λ r. ⌜ judged.Passes (now (text .entry)) s (r .onward) (r .scan) ⌝ }
 {
     match bias_line::satellite(&text[start..end]) {
         SatelliteSaid::Refused(number, column) => wrong(number, lines, column, s),
@@ -255,7 +255,7 @@ fn of_satellite(text: &[u8], s: Scan, start: usize, end: usize, next: usize, lin
 
 fn of_station(text: &[u8], s: Scan, start: usize, end: usize, next: usize, lines: u64) -> Passed
     requires { ⌜ judged.Stands (now text) s × turns.OnLine (now text) (s .at) (s .lines) (s .place) start end next lines Role.OfStation ⌝ }
-    ensures { λ r. ⌜ judged.Leads (now (text .entry)) s (r .onward) (r .scan) ⌝ }
+    ensures { λ r. ⌜ judged.Passes (now (text .entry)) s (r .onward) (r .scan) ⌝ }
 {
     let read = bias_line::station(&text[start..end]);
     let said = read.said;
@@ -273,7 +273,7 @@ fn of_station(text: &[u8], s: Scan, start: usize, end: usize, next: usize, lines
 
 fn step(text: &[u8], s: Scan) -> Passed
     requires { ⌜ judged.Stands (now text) s ⌝ }
-    ensures { λ r. ⌜ judged.Leads (now (text .entry)) s (r .onward) (r .scan) ⌝ }
+    ensures { λ r. ⌜ judged.Passes (now (text .entry)) s (r .onward) (r .scan) ⌝ }
 {
     let place = s.place;
     match next_row(text, s.at, s.lines, place) {

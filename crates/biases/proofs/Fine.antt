@@ -10,7 +10,7 @@ use Rattle.kit.specs.Answer.{bind, All}
 use Rattle.kit.proofs.ListLaws.{all-front}
 use Rattle.kit.specs.Range.{Within, Printable}
 use Rattle.forms.specs.Form as form
-use Rattle.forms.specs.Show.{Room}
+use Rattle.forms.specs.Show.{FieldRoom}
 use Rattle.forms.proofs.ShowLaws.{spells-room}
 use Rattle.mapset.specs.Header.{Written}
 use Rattle.mapset.specs.MapSet.{MapSet}
@@ -53,7 +53,7 @@ lettered no-letter = inl refl
 lettered its-r = inr refl
 
 -- ten columns, one of them the point
-nine : (z : ℤ) → Room form.F3 10 z → Nine z
+nine : (z : ℤ) → FieldRoom form.F3 10 z → Nine z
 nine (pos n) r = r .1
 nine (negsuc n) r = let h : suc n < 100000000 = r .1 in omega arith
 
@@ -62,7 +62,7 @@ abbrev Roomy : (is : List Item) → Vals is → Type 0
 Roomy [] vs = Unit {0}
 Roomy (I w ∷ is) vs = Roomy is (vs .1)
 Roomy (F w ∷ is) vs = Roomy is (vs .1)
-Roomy (D w ∷ is) vs = Room form.F3 w (vs .0) × Roomy is (vs .1)
+Roomy (D w ∷ is) vs = FieldRoom form.F3 w (vs .0) × Roomy is (vs .1)
 Roomy (X w ∷ is) vs = Roomy is vs
 Roomy (A w ∷ is) vs = Roomy is (vs .1)
 Roomy (U w ∷ is) vs = Roomy is vs

@@ -12,7 +12,7 @@ use Rattle.kit.proofs.ListLaws.{all-append, all-at}
 use Rattle.kit.proofs.TruthLaws.{decided}
 use Rattle.kit.specs.Range.{Within, within?, Printable}
 use Rattle.forms.specs.Form as form
-use Rattle.forms.specs.Show.{showField, Room}
+use Rattle.forms.specs.Show.{showField, FieldRoom}
 use Rattle.forms.proofs.ShowLaws.{show-spells, written-spells}
 use Rattle.calendar.specs.Calendar.{end as after-2199}
 use Rattle.mapset.specs.declared.Kind.the-variants.{Rms, Height}
@@ -94,7 +94,7 @@ unfolding all-dec within? ×-dec decLe
 maps-print = decided (all-dec (within? 32 126) (bytes "IONOSPHERE MAPS     "))
 
 module _ (v : Version) (w : VersionRules v) where
-  tenths-room : Room form.W1 8 (pos (v .tenths))
+  tenths-room : FieldRoom form.W1 8 (pos (v .tenths))
   tenths-room = (omega (arith, w .tenths .1), omega (arith, w .tenths .1))
 
   version-fields : Fields (layout version) (pos (v .tenths), (73 ∷ [], (getD codes (v .code) [], tt))) (first-columns v)

@@ -11,7 +11,7 @@ use Rattle.kit.specs.Integer.{Between, up, dn}
 use Rattle.kit.proofs.Parts.{add-parts, scale-up, scale-dn, sub-parts2, parts-le, le-parts, lt-true, abs-parts, one-zero}
 use Rattle.kit.proofs.TruthLaws.{is-true}
 use Rattle.forms.specs.Form as form
-use Rattle.forms.specs.Show.{Room}
+use Rattle.forms.specs.Show.{FieldRoom}
 use Rattle.mapset.specs.declared.Axis.{Axis}
 use Rattle.mapset.specs.Grid.{Line, heights, latitudes, longitudes, End, Step, AxisRules, nodes}
 use Rattle.layout.specs.Layout.{node}
@@ -19,24 +19,24 @@ use Rattle.canonical.specs.Canon.{Wide}
 
 -- an integer from -low to high has room where both ends have
 room : (fm : form.Form) (w : ℕ) (low high : ℕ) (z : ℤ) → Between (negsuc low) (pos high) z
-    → ((n : ℕ) → n ≤ high → Room fm w (pos n)) → ((n : ℕ) → n ≤ low → Room fm w (negsuc n)) → Room fm w z
+    → ((n : ℕ) → n ≤ high → FieldRoom fm w (pos n)) → ((n : ℕ) → n ≤ low → FieldRoom fm w (negsuc n)) → FieldRoom fm w z
 room fm w low high (pos n) b f g = f n (leb→le n high (b .to .le))
 room fm w low high (negsuc n) b f g = g n (leb→le n low (b .from .le))
 
-pub five : (z : ℤ) → Between (negsuc 9998) (pos 99999) z → Room form.I 5 z
+pub five : (z : ℤ) → Between (negsuc 9998) (pos 99999) z → FieldRoom form.I 5 z
 five z b = room form.I 5 9998 99999 z b (λ n h. (omega arith, omega arith)) (λ n h. (omega arith, omega arith))
 
-pub six-digits : (n : ℕ) → n ≤ 999999 → Room form.I 6 (pos n)
+pub six-digits : (n : ℕ) → n ≤ 999999 → FieldRoom form.I 6 (pos n)
 six-digits n h = (omega arith, omega arith)
 
-pub tenths-eight : (n : ℕ) → n ≤ 999999 → Room form.W1 8 (pos n)
+pub tenths-eight : (n : ℕ) → n ≤ 999999 → FieldRoom form.W1 8 (pos n)
 tenths-eight n h = (omega arith, omega arith)
 
-pub exponent-room : (e : ℤ) → Between (negsuc 2) (pos 0) e → Room form.I 6 e
+pub exponent-room : (e : ℤ) → Between (negsuc 2) (pos 0) e → FieldRoom form.I 6 e
 exponent-room e b = room form.I 6 2 0 e b (λ n h. (omega arith, omega arith)) (λ n h. (omega arith, omega arith))
 
 -- tenths of a degree or of a kilometre in six columns
-pub tenths-six : (z : ℤ) → Between (negsuc 8999) (pos 99999) z → Room form.W1 6 z
+pub tenths-six : (z : ℤ) → Between (negsuc 8999) (pos 99999) z → FieldRoom form.W1 6 z
 tenths-six z b = room form.W1 6 8999 99999 z b (λ n h. (omega arith, omega arith)) (λ n h. (omega arith, omega arith))
 
 -- ---- the nodes of an axis lie between its ends

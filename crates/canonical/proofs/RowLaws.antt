@@ -16,7 +16,7 @@ use Rattle.kit.proofs.TruthLaws.{decided}
 use Rattle.kit.specs.Range.{within?, Printable}
 use Rattle.forms.specs.Form as form
 use Rattle.forms.specs.Form.{Form, Digit, sign, pointed, Spells}
-use Rattle.forms.specs.Show.{showField, Room}
+use Rattle.forms.specs.Show.{showField, FieldRoom}
 use Rattle.forms.proofs.ShowLaws.{show-spells, written-spells}
 use Rattle.forms.proofs.FieldLaws.{spells-width}
 use Rattle.forms.specs.Columns.{Blank}
@@ -54,9 +54,9 @@ spells-print s =
 -- each number has room, each text its width, and its bytes are printable
 abbrev pub Roomy : (is : List Item) → Vals is → Type 0
 Roomy [] v = Unit {0}
-Roomy (I w ∷ is) v = Room form.I w (v .0) × Roomy is (v .1)
-Roomy (F w ∷ is) v = Room form.W1 w (v .0) × Roomy is (v .1)
-Roomy (D w ∷ is) v = Room form.F3 w (v .0) × Roomy is (v .1)
+Roomy (I w ∷ is) v = FieldRoom form.I w (v .0) × Roomy is (v .1)
+Roomy (F w ∷ is) v = FieldRoom form.W1 w (v .0) × Roomy is (v .1)
+Roomy (D w ∷ is) v = FieldRoom form.F3 w (v .0) × Roomy is (v .1)
 Roomy (X w ∷ is) v = Roomy is v
 Roomy (A w ∷ is) v = Written w (v .0) × Roomy is (v .1)
 Roomy (U w ∷ is) v = Roomy is v
@@ -133,7 +133,7 @@ row-good l v k r =
 -- ---- a block's values
 
 abbrev pub Fives : List ℤ → Type 0
-Fives zs = All (λ z. Room form.I 5 z) zs
+Fives zs = All (λ z. FieldRoom form.I 5 z) zs
 
 cells-is : (zs : List ℤ) (g : ℕ) → Fives zs → Cells zs (cells-of zs ++ replicate g 32)
 unfolding cells-of

@@ -11,7 +11,7 @@ use lib.IntN.{ℤ, pos, negsuc, natAbs}
 use Rattle.kit.specs.Answer.{All}
 use Rattle.kit.proofs.ListLaws.{all-append}
 use Rattle.forms.specs.Form.{Form, F1, W1, Digit, numeral, sign, signed, dot, Spells}
-use Rattle.forms.specs.Show.{isMinus, figures, digits, withPoint, aligned, showField, digitColumns, Room}
+use Rattle.forms.specs.Show.{isMinus, figures, digits, withPoint, aligned, showField, digitColumns, FieldRoom}
 use Rattle.forms.proofs.FieldLaws.{pointed-length}
 
 -- ---- digits and the number that they make
@@ -109,7 +109,7 @@ room-marks w zero k (pos n) h l = omega arith
 room-marks zero zero k (negsuc n) h l = absurd (omega arith)
 room-marks (suc w) zero k (negsuc n) h l = omega arith
 
-pub show-spells : {fm : Form} {w : ℕ} {z : ℤ} → Room fm w z → Spells fm w z (showField fm w z)
+pub show-spells : {fm : Form} {w : ℕ} {z : ℤ} → FieldRoom fm w z → Spells fm w z (showField fm w z)
 unfolding showField
 show-spells {fm} {w} {z} r =
     let ds = digits (fm .least + fm .after) (natAbs z) in
@@ -137,7 +137,7 @@ show-spells {fm} {w} {z} r =
     }
 
 -- with a digit before the point, which the form need not ask for
-pub written-spells : {w : ℕ} {z : ℤ} → Room W1 w z → Spells F1 w z (showField W1 w z)
+pub written-spells : {w : ℕ} {z : ℤ} → FieldRoom W1 w z → Spells F1 w z (showField W1 w z)
 written-spells {w} {z} r =
     let s = show-spells {fm = W1} {w = w} {z = z} r in
     record {
@@ -165,7 +165,7 @@ signed-size true zero = refl
 signed-size true (suc n) = refl
 signed-size false n = refl
 
-pub spells-room : {fm : Form} {w : ℕ} {z : ℤ} {f : List ℕ} → Spells fm w z f → Room fm w z
+pub spells-room : {fm : Form} {w : ℕ} {z : ℤ} {f : List ℕ} → Spells fm w z f → FieldRoom fm w z
 spells-room {fm} {w} {z} {f} s =
     let all = s .whole ++ s .part in
     let n = numeral 0 all in

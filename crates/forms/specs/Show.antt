@@ -38,8 +38,8 @@ abbrev pub digitColumns : Form → ℕ → ℤ → ℕ
 digitColumns fm w z = w - (length (sign (isMinus z)) + dot (fm .after))
 
 -- the number has a place in w columns
-abbrev pub Room : Form → ℕ → ℤ → Type 0
-Room fm w z = (fm .least + fm .after ≤ digitColumns fm w z) × (natAbs z < 10 ^ digitColumns fm w z)
+abbrev pub FieldRoom : Form → ℕ → ℤ → Type 0
+FieldRoom fm w z = (fm .least + fm .after ≤ digitColumns fm w z) × (natAbs z < 10 ^ digitColumns fm w z)
 
-unfoldable pub room? : (fm : Form) (w : ℕ) (z : ℤ) → Dec (Room fm w z)
+unfoldable pub room? : (fm : Form) (w : ℕ) (z : ℤ) → Dec (FieldRoom fm w z)
 room? fm w z = ×-dec (decLe (fm .least + fm .after) (digitColumns fm w z)) (decLt (natAbs z) (10 ^ digitColumns fm w z))

@@ -30,7 +30,7 @@ use Rattle.reading.proofs.SlotLaws.{fit-none, complete-at}
 use Rattle.reading.specs.Read.{nothing-yet, version-of, begin, read}
 use Rattle.reading.proofs.HeadLaws.{Ends, fine-step}
 use Rattle.head_state.specs.Got.{slots-of, texts-of, Went, went, ended, gone, toldNext, stepped}
-use Rattle.head.specs.Opened.{HeaderFits, Sound, opened, Goes, Stops, Passes, onward, beside, Opens}
+use Rattle.head.specs.Opened.{HeaderFits, Sound, opened, Goes, Stops, Passes, onward, beside, ReadsHeader}
 use Rattle.head_state.specs.declared.State.{State}
 use Rattle.head_state.specs.declared.Next.{Next}
 use Rattle.head_state.specs.declared.Next.the-variants as Next
@@ -193,7 +193,7 @@ unfolding opened
 refusal-alone k l c x y t = refl
 
 -- the answer that is handed back
-pub hands : (f : Answer Why MapSet) (t : List ℕ) (a : Headed) (x : Texts) (r : HeaderRead) → r .answer ≡ a → r .texts ≡ beside a x → f ≡ opened a x t → Sound t a → Opens f t r
+pub hands : (f : Answer Why MapSet) (t : List ℕ) (a : Headed) (x : Texts) (r : HeaderRead) → r .answer ≡ a → r .texts ≡ beside a x → f ≡ opened a x t → Sound t a → ReadsHeader f t r
 hands f t (Refused k l c) x r e g h z =
     record {
       same = h ∙ refusal-alone k l c x (r .texts) t ∙ (λ i. opened (sym e i) (r .texts) t);
@@ -232,5 +232,5 @@ module _ (t : List ℕ) where
     first-versioned c e = first-row ∙ (rw (← e) refl) ∙ ap (λ (l : ℕ). heading c plain (negsuc 0) nothing-yet (feed (suc l) (split (drop next t)))) (sym (add-one m))
 
 -- what is read from later on is read from the start
-pub continues : (f g : Answer Why MapSet) (t : List ℕ) (r : HeaderRead) → f ≡ g → Opens g t r → Opens f t r
+pub continues : (f g : Answer Why MapSet) (t : List ℕ) (r : HeaderRead) → f ≡ g → ReadsHeader g t r → ReadsHeader f t r
 continues f g t r e o = record { same = e ∙ o .same; sound = o .sound; blanks = o .blanks }

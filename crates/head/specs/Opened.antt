@@ -90,7 +90,7 @@ beside (Refused k l c) x = blank-texts
 beside (Accepted h e at n) x = x
 
 -- `Opens f t r`: what f stands for is what is read of the text t, by r
-pub record Opens (f : Answer Why MapSet) (t : List ℕ) (r : HeaderRead) : Type 0 where
+pub record ReadsHeader (f : Answer Why MapSet) (t : List ℕ) (r : HeaderRead) : Type 0 where
   pub same : f ≡ opened (r .answer) (r .texts) t
   pub sound : Sound t (r .answer)
   pub blanks : r .texts ≡ beside (r .answer) (r .texts)

@@ -8,7 +8,7 @@ ghost use Rattle.reading.specs.Feed.{split, feed};
 ghost use Rattle.reading.specs.Head.{heading, Got};
 ghost use Rattle.reading.specs.Read.{nothing-yet, read};
 ghost use Rattle.head_state.specs.Got.{slots-of, texts-of};
-ghost use Rattle.head.specs.Opened.{Passes, onward, beside, Opens};
+ghost use Rattle.head.specs.Opened.{Passes, onward, beside, ReadsHeader};
 ghost use Rattle.mapset.specs.Said.{blank-texts};
 use super::Headed;
 use super::HeaderRead;
@@ -105,7 +105,7 @@ fn handed(answer: Headed, s: State) -> HeaderRead
 // The header after its version record.
 fn header_from(text: &[u8], from: usize, passed: u64, version: Version) -> HeaderRead
     requires { ⌜ (from ≤ length (now text)) × (passed ≤ from) ⌝ }
-    ensures { λ r. ⌜ Opens (heading version plain (negsuc 0) nothing-yet (feed (suc passed) (split (drop from (now (text .entry)))))) (now (text .entry)) r ⌝ }
+    ensures { λ r. ⌜ ReadsHeader (heading version plain (negsuc 0) nothing-yet (feed (suc passed) (split (drop from (now (text .entry)))))) (now (text .entry)) r ⌝ }
 {
     let mut s = head_state::nothing();
     let mut at = from;
@@ -138,7 +138,7 @@ fn refusal(number: u64, line: u64, column: u64) -> HeaderRead
 
 // A text from its start to END OF HEADER.
 pub fn read_header(text: &[u8]) -> HeaderRead
-    ensures { λ r. ⌜ Opens (read (now (text .entry))) (now (text .entry)) r ⌝ }
+    ensures { λ r. ⌜ ReadsHeader (read (now (text .entry))) (now (text .entry)) r ⌝ }
 {
     match read_lines::row_from(text, 0, 0) {
         NextRow::Over(n) => refusal(10, read_lines::line_after(n), 0),

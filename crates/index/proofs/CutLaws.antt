@@ -9,7 +9,7 @@ use Rattle.kit.proofs.AnswerLaws.{pick-no, pick-elim}
 use Rattle.kit.specs.Range.{Within, Printable}
 use Rattle.forms.specs.Columns.{Blank}
 use Rattle.layout.specs.Text.{Clean}
-use Rattle.reading.specs.Feed.{Opens, opens?}
+use Rattle.reading.specs.Feed.{LineOpens, opens?}
 use Rattle.index.specs.Stands as at
 use Rattle.index.specs.Stands.{Over, Eol}
 use Rattle.read_lines.specs.Cuts.{Cut, with-byte, with-cr, cuts}
@@ -61,7 +61,7 @@ push b j-last = j-last
 push b (j-line x j) = j-line x j
 
 -- a first byte that begins no line end
-begin : (b : ℕ) (t : List ℕ) → Joined (cuts t) t → ((b ≡ 13) × Opens 10 t → Joined (with-cr (cuts t)) (b ∷ t)) → Joined (cuts (b ∷ t)) (b ∷ t)
+begin : (b : ℕ) (t : List ℕ) → Joined (cuts t) t → ((b ≡ 13) × LineOpens 10 t → Joined (with-cr (cuts t)) (b ∷ t)) → Joined (cuts (b ∷ t)) (b ∷ t)
 unfolding cuts
 begin b t h cr =
     pick-elim (λ cs. Joined cs (b ∷ t)) (ℕ-discrete b 10) (λ e. subst (λ c. Joined (([], 10 ∷ []) ∷ cuts t) (c ∷ t)) (sym e) (j-line at.lf h))

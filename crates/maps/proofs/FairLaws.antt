@@ -27,11 +27,11 @@ use Rattle.reading.specs.Maps.{Todo, Next, stays, loose, date, on-date, on-comm
 use Rattle.reading.specs.declared.Place.{Place}
 use Rattle.reading.specs.declared.Place.the-variants.{Ended, Between, Early, Inside}
 use Rattle.maps_bounds.specs.Steps.{first-of}
-use Rattle.maps.specs.Turns.{maps-of, seen, grow, Room}
+use Rattle.maps.specs.Turns.{maps-of, seen, grow, MapRoom}
 
 pub record Fair (h : Header) (q : Place) (p : Force) (x : Next q) : Type 0 where
   pub epochs : x .force .epochs ≡ grow (first-of (drop (length (p .epochs)) (x .force .epochs))) (p .epochs)
-  pub room : Room h q (length (p .epochs)) → Room h (x .to) (length (x .force .epochs))
+  pub room : MapRoom h q (length (p .epochs)) → MapRoom h (x .to) (length (x .force .epochs))
   pub rms : (zs : List ℤ) (w : Todo (x .to)) → seen (p .rms) (maps-of q (x .back zs w) .rms) ≡ seen (x .force .rms) (maps-of (x .to) w .rms)
   pub height : (zs : List ℤ) (w : Todo (x .to)) → seen (p .height) (maps-of q (x .back zs w) .height) ≡ seen (x .force .height) (maps-of (x .to) w .height)
 

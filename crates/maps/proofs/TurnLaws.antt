@@ -26,7 +26,7 @@ use Rattle.read_blocks.proofs.RunLaws.{in-front, resumed, run-values}
 use Rattle.read_blocks.specs.declared.Block.{Block}
 use Rattle.read_blocks.proofs.BlockLaws.{short-at}
 use Rattle.maps_bounds.specs.Steps.{force-of, past-of, first-of, moved}
-use Rattle.maps.specs.Turns.{told, told-after, from, ended-with, grow, Room, Fits, After, Goes, Turned, Keeps, Running}
+use Rattle.maps.specs.Turns.{told, told-after, from, ended-with, grow, MapRoom, Fits, After, Goes, Turned, Keeps, Running}
 use Rattle.maps_bounds.specs.declared.Past.{Past}
 use Rattle.maps_bounds.specs.declared.Next.{Next}
 use Rattle.maps_bounds.specs.declared.Push.{Push}
@@ -164,8 +164,8 @@ module _ (h : Header) (q : Place) (p : Past) (es : List ℕ) (t : List ℕ) (at 
           ∙ told-back h q (force-of p es) (a .on) fair (run h (a .on .to) (a .on .force) (a .on .due) g)
           ∙ (λ i. told-after (a .to i) (force-is i) (run h (a .to i) (force-is i) (a .due i) g))
 
-      room : Room h q (length es) → Room h (y .to) (length (grow (y .push) es))
-      room k = subst (λ (z : Place). Room h z (length (grow (y .push) es))) (the-same .to) (subst (λ (z : Force). Room h (the-same .on .to) (length (z .epochs))) force-is (fair .room k))
+      room : MapRoom h q (length es) → MapRoom h (y .to) (length (grow (y .push) es))
+      room k = subst (λ (z : Place). MapRoom h z (length (grow (y .push) es))) (the-same .to) (subst (λ (z : Force). MapRoom h (the-same .on .to) (length (z .epochs))) force-is (fair .room k))
 
       pub turn-go : (r : Turn) → After t next (m + 1) y r → Turned h q p es t at n r
       turn-go (On at′ n′ z) b =
@@ -202,7 +202,7 @@ pub ended-as : (q : Place) (p : Past) (es : List ℕ) (n : ℕ) → ended-with q
 ended-as q p es n = any-epochs q p es (finish q n)
 
 module _ (h : Header) (p₀ : Past) (t : List ℕ) (a₀ n₀ l : ℕ) (wide : h .times .maps ≤ l) where
-  room-all : (q : Place) (k : ℕ) → Room h q k → k ≤ h .times .maps
+  room-all : (q : Place) (k : ℕ) → MapRoom h q k → k ≤ h .times .maps
   room-all Ended k r = r
   room-all Between k r = r
   room-all Early k r = omega arith
@@ -217,8 +217,8 @@ module _ (h : Header) (p₀ : Past) (t : List ℕ) (a₀ n₀ l : ℕ) (wide : h
     es-length = length-take-le k tab (let a = i .upto in let b = i .sized in omega arith)
 
     module _ (at′ n′ : ℕ) (x : Next) (g : Goes h q p (take k tab) t at n at′ n′ x) where
-      roomy : Room h (x .to) (length (grow (x .push) (take k tab)))
-      roomy = g .room (subst (Room h q) (sym es-length) (i .room))
+      roomy : MapRoom h (x .to) (length (grow (x .push) (take k tab)))
+      roomy = g .room (subst (MapRoom h q) (sym es-length) (i .room))
 
       pub run-fits : Fits (x .push) k (length tab)
       run-fits = subst (Fits (x .push) k) (sym (i .sized)) (fits-grown (x .push) (take k tab) k es-length (room-all (x .to) _ roomy))
@@ -232,6 +232,6 @@ module _ (h : Header) (p₀ : Past) (t : List ℕ) (a₀ n₀ l : ℕ) (wide : h
             small = g .small;
             upto = omega arith;
             sized = e .len ∙ i .sized;
-            room = subst (Room h (x .to)) (sym (ap length (e .is)) ∙ len) roomy;
+            room = subst (MapRoom h (x .to)) (sym (ap length (e .is)) ∙ len) roomy;
             on = i .on ∙ g .on ∙ ap (λ (y : List ℕ). from h (x .to) (force-of (x .past) y) 0 t at′ n′) (sym (e .is));
           }

@@ -67,11 +67,11 @@ grow Keep es = es
 grow (New e) es = es ++ (e ∷ [])
 
 -- there is room for the epoch that is to come
-abbrev pub Room : Header → Place → ℕ → Type 0
-Room h Ended k = k ≤ h .times .maps
-Room h Between k = k ≤ h .times .maps
-Room h Early k = k < h .times .maps
-Room h (Inside o) k = k ≤ h .times .maps
+abbrev pub MapRoom : Header → Place → ℕ → Type 0
+MapRoom h Ended k = k ≤ h .times .maps
+MapRoom h Between k = k ≤ h .times .maps
+MapRoom h Early k = k < h .times .maps
+MapRoom h (Inside o) k = k ≤ h .times .maps
 
 -- k epochs stand in a table of l, and one may come
 abbrev pub Fits : Push → ℕ → ℕ → Type 0
@@ -89,7 +89,7 @@ pub record Goes (h : Header) (q : Place) (p : Past) (es : List ℕ) (t : List �
   pub within : at′ ≤ length t
   pub small : n′ ≤ at′
   pub on : from h q (force-of p es) 0 t at n ≡ from h (x .to) (force-of (x .past) (grow (x .push) es)) 0 t at′ n′
-  pub room : Room h q (length es) → Room h (x .to) (length (grow (x .push) es))
+  pub room : MapRoom h q (length es) → MapRoom h (x .to) (length (grow (x .push) es))
 
 abbrev pub Turned : Header → Place → Past → List ℕ → List ℕ → ℕ → ℕ → Turn → Type 0
 Turned h q p es t at n (On at′ n′ x) = Goes h q p es t at n at′ n′ x
@@ -108,5 +108,5 @@ pub record Running (h : Header) (p₀ : Past) (t : List ℕ) (a₀ n₀ l : ℕ)
   pub small : n ≤ at
   pub upto : k ≤ l
   pub sized : length tab ≡ l
-  pub room : Room h q k
+  pub room : MapRoom h q k
   pub on : from h Between (force-of p₀ []) 0 t a₀ n₀ ≡ from h q (force-of p (take k tab)) 0 t at n

@@ -21,7 +21,7 @@ use Rattle.reading.proofs.MapLaws.{runs, written, wrote-rows}
 use Rattle.reading.specs.Refusals.{Cause, too-long, bad-byte, by-row}
 use Rattle.reading.proofs.FaultLaws.{refusals, ten-at}
 use Rattle.reading.specs.declared.Place.the-variants.{Between}
-use Rattle.head.specs.Opened.{MapsStart, Sound, opened, Opens}
+use Rattle.head.specs.Opened.{MapsStart, Sound, opened, ReadsHeader}
 use Rattle.head.specs.declared.HeaderRead.{HeaderRead}
 use Rattle.head.specs.declared.Headed.the-variants as Headed
 use Rattle.maps.specs.Turns.{stands, told}
@@ -58,7 +58,7 @@ bare-run h p n ls w e =
 
 -- ---- a text, by its header
 
-module _ (t : List ℕ) (r : HeaderRead) (o : Opens (read t) t r) where
+module _ (t : List ℕ) (r : HeaderRead) (o : ReadsHeader (read t) t r) where
   pub refused-head : {k l c : ℕ} → r .answer ≡ Headed.Refused k l c → read t ≡ refused (why k l c)
   unfolding opened
   refused-head e = o .same ∙ ap (λ a. opened a (r .texts) t) e

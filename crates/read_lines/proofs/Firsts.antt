@@ -12,7 +12,7 @@ use Rattle.kit.proofs.AnswerLaws.{pick-yes, pick-no, pick-elim}
 use Rattle.kit.proofs.ListLaws.{all-front, all-behind}
 use Rattle.kit.specs.Range.{Within, within?}
 use Rattle.layout.specs.Text.{Clean, pad}
-use Rattle.reading.specs.Feed.{why, front, Opens, opens?, split, Feed, over, bad, row, feed, bad-column}
+use Rattle.reading.specs.Feed.{why, front, LineOpens, opens?, split, Feed, over, bad, row, feed, bad-column}
 use Rattle.reading.proofs.LineLaws.{split-lf, split-crlf}
 use Rattle.read_lines.specs.Lines.{passing, not-lf?, printable?, blank?, look-of, Spans, Skips, Rows}
 use Rattle.read_lines.specs.Cuts.{with-byte, cuts, Starts}
@@ -29,7 +29,7 @@ chop [] = []
 chop (b ∷ []) = pick (ℕ-discrete b 13) [] (b ∷ [])
 chop (b ∷ c ∷ l) = b ∷ chop (c ∷ l)
 
-split-front : (b : ℕ) (t : List ℕ) → ¬ (b ≡ 10) → ¬ ((b ≡ 13) × Opens 10 t) → split (b ∷ t) ≡ front b (split t)
+split-front : (b : ℕ) (t : List ℕ) → ¬ (b ≡ 10) → ¬ ((b ≡ 13) × LineOpens 10 t) → split (b ∷ t) ≡ front b (split t)
 unfolding split
 split-front b t p q = pick-no (ℕ-discrete b 10) _ _ p ∙ pick-no (×-dec (ℕ-discrete b 13) (opens? 10 t)) _ _ q
 
@@ -58,7 +58,7 @@ pub cuts-crlf : (t : List ℕ) → cuts (13 ∷ 10 ∷ t) ≡ ([], 13 ∷ 10 ∷
 unfolding cuts pick ℕ-discrete ×-dec opens?
 cuts-crlf t = refl
 
-cuts-front : (b : ℕ) (t : List ℕ) → ¬ (b ≡ 10) → ¬ ((b ≡ 13) × Opens 10 t) → cuts (b ∷ t) ≡ with-byte b (cuts t)
+cuts-front : (b : ℕ) (t : List ℕ) → ¬ (b ≡ 10) → ¬ ((b ≡ 13) × LineOpens 10 t) → cuts (b ∷ t) ≡ with-byte b (cuts t)
 unfolding cuts
 cuts-front b t p q = pick-no (ℕ-discrete b 10) _ _ p ∙ pick-no (×-dec (ℕ-discrete b 13) (opens? 10 t)) _ _ q
 

@@ -11,7 +11,7 @@ use Rattle.kit.proofs.ListLaws.{all-append}
 use Rattle.kit.specs.Range.{Within, within?, Printable}
 use Rattle.forms.specs.Columns.{Blank}
 use Rattle.layout.specs.Text.{Ended, none, last, lf, crlf, Clean, pad, Laid, blank, line}
-use Rattle.reading.specs.Feed.{Why, front, Opens, opens?, split, Feed, over, bad, row, feed}
+use Rattle.reading.specs.Feed.{Why, front, LineOpens, opens?, split, Feed, over, bad, row, feed}
 
 -- ---- text and lines
 
@@ -26,7 +26,7 @@ fronted b [] t none = last
 fronted b (l ∷ ls) t h = push h
 
 -- a first byte that begins no line end
-begin : (b : ℕ) (t : List ℕ) → Ended (split t) t → ((b ≡ 13) × Opens 10 t → Ended (split t) (b ∷ t)) → Ended (split (b ∷ t)) (b ∷ t)
+begin : (b : ℕ) (t : List ℕ) → Ended (split t) t → ((b ≡ 13) × LineOpens 10 t → Ended (split t) (b ∷ t)) → Ended (split (b ∷ t)) (b ∷ t)
 unfolding split
 begin b t h cr =
     pick-elim (λ ls. Ended ls (b ∷ t)) (ℕ-discrete b 10) (λ e. rw e (lf h))

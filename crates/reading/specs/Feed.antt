@@ -36,11 +36,11 @@ unfoldable pub front : ℕ → List (List ℕ) → List (List ℕ)
 front b [] = (b ∷ []) ∷ []
 front b (l ∷ ls) = (b ∷ l) ∷ ls
 
-abbrev pub Opens : ℕ → List ℕ → Type 0
-Opens b [] = ⊥
-Opens b (c ∷ t) = c ≡ b
+abbrev pub LineOpens : ℕ → List ℕ → Type 0
+LineOpens b [] = ⊥
+LineOpens b (c ∷ t) = c ≡ b
 
-unfoldable pub opens? : (b : ℕ) (t : List ℕ) → Dec (Opens b t)
+unfoldable pub opens? : (b : ℕ) (t : List ℕ) → Dec (LineOpens b t)
 opens? b [] = no (λ h. h)
 opens? b (c ∷ t) = ℕ-discrete c b
 

@@ -10,7 +10,7 @@ use Rattle.kit.specs.Answer.{pick, ×-dec}
 use Rattle.kit.proofs.AnswerLaws.{pick-yes}
 use Rattle.kit.specs.Range.{Within, within?, Printable}
 use Rattle.layout.specs.Text.{pad}
-use Rattle.reading.specs.Feed.{split, front, Opens, opens?, bad-column}
+use Rattle.reading.specs.Feed.{split, front, LineOpens, opens?, bad-column}
 use Rattle.remarks.specs.Remarks.{SameLabel, Close}
 
 pub close-back : (b b′ : ℕ) → Close b b′ → Close b′ b
@@ -96,7 +96,7 @@ like-front b b′ [] (l ∷ ls′) w h = absurd h
 like-front b b′ (l ∷ ls) [] w h = absurd h
 like-front b b′ (l ∷ ls) (l′ ∷ ls′) w h = ((w, h .0), h .1)
 
-pub like-opens : (t t′ : List ℕ) → Like t t′ → Opens 10 t → Opens 10 t′
+pub like-opens : (t t′ : List ℕ) → Like t t′ → LineOpens 10 t → LineOpens 10 t′
 like-opens [] [] h o = o
 like-opens [] (b ∷ t′) h o = absurd h
 like-opens (b ∷ t) [] h o = absurd h

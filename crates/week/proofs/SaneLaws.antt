@@ -26,7 +26,7 @@ use Rattle.week_set.proofs.RowLaws.{set-rows-length}
 use Rattle.week_set.proofs.SetLaws.{kind-bounded}
 use Rattle.week_tally.specs.declared.Tally.{Tally}
 use Rattle.week_tally.specs.declared.Range.the-variants as R
-use Rattle.week.specs.Week.{Given, ValidSet, valid?, Room, room?, Accepted, accepted?, accepted, week-nodes, week-of, grown, added, no-sets, report}
+use Rattle.week.specs.Week.{Given, ValidSet, valid?, RowRoom, room?, Accepted, accepted?, accepted, week-nodes, week-of, grown, added, no-sets, report}
 use Rattle.week.proofs.WeekLaws.{week-bounded, week-size, set-size, report-week, report-permuted}
 use Rattle.week.specs.Sane.{Fair, Sane, fit?, sane?, Outcome, comes, outcome, kept, SmallWeek, SmallAnswer}
 use Rattle.week.specs.declared.Week.{Week}
@@ -99,11 +99,11 @@ module _ (w : Week) (s : Given) where
       answer-invalid v = pick-no (decLe 100 (w .sets)) _ _ not-full ∙ pick-yes (sane? w) _ _ h ∙ pick-no (valid? s) _ _ v
 
       module _ (v : ValidSet s) where
-        pub answer-short : ¬ Room s → outcome w s ≡ comes (A.Refused (Y.Short (rows-need (s .header)))) (s .rows)
+        pub answer-short : ¬ RowRoom s → outcome w s ≡ comes (A.Refused (Y.Short (rows-need (s .header)))) (s .rows)
         unfolding outcome
         answer-short r = pick-no (decLe 100 (w .sets)) _ _ not-full ∙ pick-yes (sane? w) _ _ h ∙ pick-yes (valid? s) _ _ v ∙ pick-no (room? s) _ _ r
 
-        pub answer-into : Room s → outcome w s ≡ comes (A.Into (grown w (s .header) (s .areas))) (front (set-rows (s .header) (s .areas)) (s .rows))
+        pub answer-into : RowRoom s → outcome w s ≡ comes (A.Into (grown w (s .header) (s .areas))) (front (set-rows (s .header) (s .areas)) (s .rows))
         unfolding outcome
         answer-into r = pick-no (decLe 100 (w .sets)) _ _ not-full ∙ pick-yes (sane? w) _ _ h ∙ pick-yes (valid? s) _ _ v ∙ pick-yes (room? s) _ _ r
 
@@ -118,7 +118,7 @@ kept-added w s h = by (decLe 100 (w .sets)) (valid? s) (room? s)
     left : ¬ (100 ≤ w .sets) → ¬ Accepted s → added w s ≡ w
     left n a = pick-no (decLe 100 (w .sets)) w (pick (accepted? s) (grown w (s .header) (s .areas)) w) n ∙ pick-no (accepted? s) (grown w (s .header) (s .areas)) w a
 
-    by : Dec (100 ≤ w .sets) → Dec (ValidSet s) → Dec (Room s) → kept w (outcome w s .answer) ≡ added w s
+    by : Dec (100 ≤ w .sets) → Dec (ValidSet s) → Dec (RowRoom s) → kept w (outcome w s .answer) ≡ added w s
     by (yes f) a r = told (answer-full w s f) ∙ sym (pick-yes (decLe 100 (w .sets)) _ _ f)
     by (no n) (no v) r = told (answer-invalid w s (omega arith) h v) ∙ sym (left n (λ a. v (a .0)))
     by (no n) (yes v) (no r) = told (answer-short w s (omega arith) h v r) ∙ sym (left n (λ a. r (a .1)))

@@ -35,14 +35,14 @@ ValidSet s = Valid (s .header) (s .texts) (s .areas)
 abbrev pub valid? : (s : Given) → Dec (ValidSet s)
 valid? s = validity (s .header) (s .texts) (s .areas)
 
-abbrev pub Room : Given → Type 0
-Room s = rows-need (s .header) ≤ length (s .rows)
+abbrev pub RowRoom : Given → Type 0
+RowRoom s = rows-need (s .header) ≤ length (s .rows)
 
-abbrev pub room? : (s : Given) → Dec (Room s)
+abbrev pub room? : (s : Given) → Dec (RowRoom s)
 room? s = decLe (rows-need (s .header)) (length (s .rows))
 
 abbrev pub Accepted : Given → Type 0
-Accepted s = ValidSet s × Room s
+Accepted s = ValidSet s × RowRoom s
 
 abbrev pub accepted? : (s : Given) → Dec (Accepted s)
 accepted? s = ×-dec (valid? s) (room? s)

@@ -6,7 +6,7 @@ ghost use Rattle.mapset.specs.Sound.{HeaderSays, SystemsSay, ModelSays};
 ghost use Rattle.layout.specs.Labels.{header-end};
 ghost use Rattle.canonical.specs.Canon as canon;
 ghost use Rattle.canonical.specs.Canon.{row-of, head-rows, order};
-ghost use Rattle.write_line.specs.Put.{Room, Put};
+ghost use Rattle.write_line.specs.Put.{LineRoom, Put};
 ghost use Rattle.write_head_row.specs.HeadRows.{tenths-row};
 ghost use Rattle.write_head.specs.Header as said;
 use mapset::Axis;
@@ -21,14 +21,14 @@ use mapset::Texts;
 // ---- Records, each with where the next line starts
 
 fn put_count(out: &mut [u8], at: usize, k: usize, n: u32) -> usize
-    requires { ⌜ (k < 32) × (n < 2 ^ 31) × Room at (said.number-row k n ∷ []) ⌝ }
+    requires { ⌜ (k < 32) × (n < 2 ^ 31) × LineRoom at (said.number-row k n ∷ []) ⌝ }
     ensures { λ r. ⌜ Put (now (out .entry)) at (said.number-row k n ∷ []) (now (out .exit)) r ⌝ }
 {
     write_line::put_number(out, at, k, n as i32)
 }
 
 fn put_tenths(out: &mut [u8], at: usize, k: usize, n: u32) -> usize
-    requires { ⌜ (k < 32) × (n < 2 ^ 31) × Room at (tenths-row k n ∷ []) ⌝ }
+    requires { ⌜ (k < 32) × (n < 2 ^ 31) × LineRoom at (tenths-row k n ∷ []) ⌝ }
     ensures { λ r. ⌜ Put (now (out .entry)) at (tenths-row k n ∷ []) (now (out .exit)) r ⌝ }
 {
     let row = write_head_row::tenths_row(k, n);
@@ -36,7 +36,7 @@ fn put_tenths(out: &mut [u8], at: usize, k: usize, n: u32) -> usize
 }
 
 fn put_axis(out: &mut [u8], at: usize, k: usize, a: Axis) -> usize
-    requires { ⌜ (k < 32) × Room at (said.axis-row k a ∷ []) ⌝ }
+    requires { ⌜ (k < 32) × LineRoom at (said.axis-row k a ∷ []) ⌝ }
     ensures { λ r. ⌜ Put (now (out .entry)) at (said.axis-row k a ∷ []) (now (out .exit)) r ⌝ }
 {
     let row = write_row::three_row(k, a.first, a.last, a.step);
@@ -45,7 +45,7 @@ fn put_axis(out: &mut [u8], at: usize, k: usize, a: Axis) -> usize
 
 // # OF STATIONS or # OF SATELLITES, where it stands.
 fn put_counted(out: &mut [u8], at: usize, k: usize, c: Counted) -> usize
-    requires { ⌜ (k < 32) × (c .count < 2 ^ 31) × Room at (said.counted-rows k c) ⌝ }
+    requires { ⌜ (k < 32) × (c .count < 2 ^ 31) × LineRoom at (said.counted-rows k c) ⌝ }
     ensures { λ r. ⌜ Put (now (out .entry)) at (said.counted-rows k c) (now (out .exit)) r ⌝ }
 {
     let stands = c.stands;
@@ -57,7 +57,7 @@ fn put_counted(out: &mut [u8], at: usize, k: usize, c: Counted) -> usize
 
 // SYS / #STA / #SAT of the j-th letter, where it stands.
 fn put_system(out: &mut [u8], at: usize, j: usize, s: System) -> usize
-    requires { ⌜ (j < 7) × (s .stations < 2 ^ 31) × (s .satellites < 2 ^ 31) × Room at (said.system-rows j s) ⌝ }
+    requires { ⌜ (j < 7) × (s .stations < 2 ^ 31) × (s .satellites < 2 ^ 31) × LineRoom at (said.system-rows j s) ⌝ }
     ensures { λ r. ⌜ Put (now (out .entry)) at (said.system-rows j s) (now (out .exit)) r ⌝ }
 {
     let stands = s.stands;
@@ -71,7 +71,7 @@ fn put_system(out: &mut [u8], at: usize, j: usize, s: System) -> usize
 // ---- The header
 
 fn put_first(out: &mut [u8], at: usize, header: Header, texts: Texts) -> usize
-    requires { ⌜ HeaderSays header texts × Room at (said.first-rows header texts) ⌝ }
+    requires { ⌜ HeaderSays header texts × LineRoom at (said.first-rows header texts) ⌝ }
     ensures { λ r. ⌜ Put (now (out .entry)) at (said.first-rows header texts) (now (out .exit)) r ⌝ }
 {
     let version = write_head_row::version_row(header.version);
@@ -85,7 +85,7 @@ fn put_first(out: &mut [u8], at: usize, header: Header, texts: Texts) -> usize
 }
 
 fn put_middle(out: &mut [u8], at: usize, header: Header, texts: Texts) -> usize
-    requires { ⌜ HeaderSays header texts × Room at (said.middle-rows header texts) ⌝ }
+    requires { ⌜ HeaderSays header texts × LineRoom at (said.middle-rows header texts) ⌝ }
     ensures { λ r. ⌜ Put (now (out .entry)) at (said.middle-rows header texts) (now (out .exit)) r ⌝ }
 {
     let mapping = write_head_row::mapping_row(texts);
@@ -98,7 +98,7 @@ fn put_middle(out: &mut [u8], at: usize, header: Header, texts: Texts) -> usize
 }
 
 fn put_systems(out: &mut [u8], at: usize, s: Systems) -> usize
-    requires { ⌜ SystemsSay s × Room at (said.systems-rows s) ⌝ }
+    requires { ⌜ SystemsSay s × LineRoom at (said.systems-rows s) ⌝ }
     ensures { λ r. ⌜ Put (now (out .entry)) at (said.systems-rows s) (now (out .exit)) r ⌝ }
 {
     let a = put_system(out, at, 0, s.g);
@@ -111,7 +111,7 @@ fn put_systems(out: &mut [u8], at: usize, s: Systems) -> usize
 }
 
 fn put_last(out: &mut [u8], at: usize, model: Model, grid: Grid) -> usize
-    requires { ⌜ ModelSays model × Room at (said.last-rows model grid) ⌝ }
+    requires { ⌜ ModelSays model × LineRoom at (said.last-rows model grid) ⌝ }
     ensures { λ r. ⌜ Put (now (out .entry)) at (said.last-rows model grid) (now (out .exit)) r ⌝ }
 {
     let end = write_row::blank_row(labels::HEADER_END);
@@ -125,7 +125,7 @@ fn put_last(out: &mut [u8], at: usize, model: Model, grid: Grid) -> usize
 
 // Where the first map's line starts.
 pub fn put_header(out: &mut [u8], at: usize, header: Header, texts: Texts) -> usize
-    requires { ⌜ HeaderSays header texts × Room at (canon.version-row (header .version) ∷ head-rows order (says header texts) (row-of header-end tt ∷ [])) ⌝ }
+    requires { ⌜ HeaderSays header texts × LineRoom at (canon.version-row (header .version) ∷ head-rows order (says header texts) (row-of header-end tt ∷ [])) ⌝ }
     ensures { λ r. ⌜ Put (now (out .entry)) at (canon.version-row (header .version) ∷ head-rows order (says header texts) (row-of header-end tt ∷ [])) (now (out .exit)) r ⌝ }
 {
     let a = put_first(out, at, header, texts);

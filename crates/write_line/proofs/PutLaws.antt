@@ -6,7 +6,7 @@ use native.Mathlib.Omega.{arith}
 use lib.ListN.{length, take, drop, length-append, take-append-drop}
 use lib.Seq.{take-at, drop-append-add, drop-drop, length-take-le}
 use Rattle.canonical.specs.Canon.{trimmed, lines-of}
-use Rattle.write_line.specs.Put.{Room, Put, Leads}
+use Rattle.write_line.specs.Put.{LineRoom, Put, PutsOn}
 
 pub lines-append : (xs ys : List (List ℕ)) → lines-of (xs ++ ys) ≡ lines-of xs ++ lines-of ys
 unfolding lines-of
@@ -18,16 +18,16 @@ lines-length xs ys = ap length (lines-append xs ys) ∙ length-append (lines-of 
 
 -- ---- room
 
-pub room-front : {at : ℕ} (xs ys : List (List ℕ)) → Room at (xs ++ ys) → Room at xs
+pub room-front : {at : ℕ} (xs ys : List (List ℕ)) → LineRoom at (xs ++ ys) → LineRoom at xs
 room-front xs ys m = record { fits = omega (arith, m .fits, lines-length xs ys) }
 
-pub room-behind : {o o₁ : List ℕ} {at r : ℕ} (xs ys : List (List ℕ)) → Room at (xs ++ ys) → Put o at xs o₁ r → Room r ys
+pub room-behind : {o o₁ : List ℕ} {at r : ℕ} (xs ys : List (List ℕ)) → LineRoom at (xs ++ ys) → Put o at xs o₁ r → LineRoom r ys
 room-behind xs ys m p = record { fits = omega (arith, m .fits, p .moved, lines-length xs ys) }
 
-pub room-first : {at : ℕ} {x : List ℕ} {ys : List (List ℕ)} → Room at (x ∷ ys) → Room at (x ∷ [])
+pub room-first : {at : ℕ} {x : List ℕ} {ys : List (List ℕ)} → LineRoom at (x ∷ ys) → LineRoom at (x ∷ [])
 room-first {x = x} {ys = ys} m = room-front (x ∷ []) ys m
 
-pub room-next : {o o₁ : List ℕ} {at r : ℕ} {x : List ℕ} {ys : List (List ℕ)} → Room at (x ∷ ys) → Put o at (x ∷ []) o₁ r → Room r ys
+pub room-next : {o o₁ : List ℕ} {at r : ℕ} {x : List ℕ} {ys : List (List ℕ)} → LineRoom at (x ∷ ys) → Put o at (x ∷ []) o₁ r → LineRoom r ys
 room-next {x = x} {ys = ys} m p = room-behind (x ∷ []) ys m p
 
 -- ---- texts
@@ -63,10 +63,10 @@ put-next {x = x} {ys = ys} p q = put-then (x ∷ []) ys p q
 
 -- ---- loops
 
-pub leads-self : {o : List ℕ} {at : ℕ} {xs : List (List ℕ)} → Leads o at xs o at xs
+pub leads-self : {o : List ℕ} {at : ℕ} {xs : List (List ℕ)} → PutsOn o at xs o at xs
 leads-self = record { room = λ m. m; size = refl; rest = λ o r p. p }
 
-pub leads-on : {o₀ o o₁ : List ℕ} {at₀ at r : ℕ} {zs : List (List ℕ)} (xs ys : List (List ℕ)) → Leads o₀ at₀ zs o at (xs ++ ys) → Put o at xs o₁ r → Leads o₀ at₀ zs o₁ r ys
+pub leads-on : {o₀ o o₁ : List ℕ} {at₀ at r : ℕ} {zs : List (List ℕ)} (xs ys : List (List ℕ)) → PutsOn o₀ at₀ zs o at (xs ++ ys) → Put o at xs o₁ r → PutsOn o₀ at₀ zs o₁ r ys
 leads-on xs ys l p =
     record {
       room = λ m. room-behind xs ys (l .room m) p;
@@ -74,5 +74,5 @@ leads-on xs ys l p =
       rest = λ o r q. l .rest o r (put-then xs ys p q);
     }
 
-pub leads-next : {o₀ o o₁ : List ℕ} {at₀ at r : ℕ} {zs : List (List ℕ)} {x : List ℕ} {ys : List (List ℕ)} → Leads o₀ at₀ zs o at (x ∷ ys) → Put o at (x ∷ []) o₁ r → Leads o₀ at₀ zs o₁ r ys
+pub leads-next : {o₀ o o₁ : List ℕ} {at₀ at r : ℕ} {zs : List (List ℕ)} {x : List ℕ} {ys : List (List ℕ)} → PutsOn o₀ at₀ zs o at (x ∷ ys) → Put o at (x ∷ []) o₁ r → PutsOn o₀ at₀ zs o₁ r ys
 leads-next {x = x} {ys = ys} l p = leads-on (x ∷ []) ys l p

@@ -7,7 +7,7 @@ use Prim.Native.Nat.{ℕ, _+_, _≤_, _<_, _^_}
 use lib.ListN.{length, take, drop}
 use Rattle.canonical.specs.Canon.{lines-of}
 
-pub record Room (at : ℕ) (rs : List (List ℕ)) : Type 0 where
+pub record LineRoom (at : ℕ) (rs : List (List ℕ)) : Type 0 where
   pub fits : at + length (lines-of rs) < 2 ^ 62
 
 -- the lines of rs are put at `at` into o, which becomes o′; r is the position after them
@@ -17,7 +17,7 @@ pub record Put (o : List ℕ) (at : ℕ) (rs : List (List ℕ)) (o′ : List ℕ
   pub text : r ≤ length o → o′ ≡ take at o ++ (lines-of rs ++ drop r o)
 
 -- putting ys from here on is putting xs from the start on
-pub record Leads (o₀ : List ℕ) (at₀ : ℕ) (xs : List (List ℕ)) (o : List ℕ) (at : ℕ) (ys : List (List ℕ)) : Type 0 where
-  pub room : Room at₀ xs → Room at ys
+pub record PutsOn (o₀ : List ℕ) (at₀ : ℕ) (xs : List (List ℕ)) (o : List ℕ) (at : ℕ) (ys : List (List ℕ)) : Type 0 where
+  pub room : LineRoom at₀ xs → LineRoom at ys
   pub size : length o ≡ length o₀
   pub rest : (o′ : List ℕ) (r : ℕ) → Put o at ys o′ r → Put o₀ at₀ xs o′ r

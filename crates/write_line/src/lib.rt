@@ -8,7 +8,7 @@ ghost use Rattle.layout.specs.Labels.{epoch, block, file-end, start, end};
 ghost use Rattle.canonical.specs.Canon.{row-of, date-of, six, trimmed, value-rows, exponent-rows};
 ghost use Rattle.write_row.specs.Rows.{row-at, whole, six-whole, opening-of, Placed};
 ghost use Rattle.write_line.specs.Starts.{start-place};
-ghost use Rattle.write_line.specs.Put.{Room, Put};
+ghost use Rattle.write_line.specs.Put.{LineRoom, Put};
 use mapset::Grid;
 use mapset::Kind;
 
@@ -30,7 +30,7 @@ fn shown(row: &[u8]) -> usize
 
 // The row up to its last non-blank byte, then LF, written only where it fits; where the next line starts.
 pub fn put_line(out: &mut [u8], at: usize, row: &[u8]) -> usize
-    requires { ⌜ Room at (now row ∷ []) ⌝ }
+    requires { ⌜ LineRoom at (now row ∷ []) ⌝ }
     ensures { λ r. ⌜ Put (now (out .entry)) at (now (row .entry) ∷ []) (now (out .exit)) r ⌝ }
 {
     let n = shown(row);
@@ -47,7 +47,7 @@ pub fn put_line(out: &mut [u8], at: usize, row: &[u8]) -> usize
 
 // 16 values to a line, the last line holding the rest.
 fn put_values(out: &mut [u8], at: usize, values: &[i32]) -> usize
-    requires { ⌜ Room at (value-rows (length (now values)) (now values)) ⌝ }
+    requires { ⌜ LineRoom at (value-rows (length (now values)) (now values)) ⌝ }
     ensures { λ r. ⌜ Put (now (out .entry)) at (value-rows (length (now (values .entry))) (now (values .entry))) (now (out .exit)) r ⌝ }
 {
     let mut next = at;
@@ -66,7 +66,7 @@ fn put_values(out: &mut [u8], at: usize, values: &[i32]) -> usize
 
 // I6,54X.
 pub fn put_number(out: &mut [u8], at: usize, k: usize, z: i32) -> usize
-    requires { ⌜ (k < 32) × Room at (row-at k whole (z, tt) ∷ []) ⌝ }
+    requires { ⌜ (k < 32) × LineRoom at (row-at k whole (z, tt) ∷ []) ⌝ }
     ensures { λ r. ⌜ Put (now (out .entry)) at (row-at k whole (z, tt) ∷ []) (now (out .exit)) r ⌝ }
 {
     let row = write_row::number_row(k, z);
@@ -75,7 +75,7 @@ pub fn put_number(out: &mut [u8], at: usize, k: usize, z: i32) -> usize
 
 // 6I6,24X.
 pub fn put_dated(out: &mut [u8], at: usize, k: usize, second: u64) -> usize
-    requires { ⌜ (k < 32) × Room at (row-at k six-whole (six (date-of second)) ∷ []) ⌝ }
+    requires { ⌜ (k < 32) × LineRoom at (row-at k six-whole (six (date-of second)) ∷ []) ⌝ }
     ensures { λ r. ⌜ Put (now (out .entry)) at (row-at k six-whole (six (date-of second)) ∷ []) (now (out .exit)) r ⌝ }
 {
     let row = write_row::epoch_row(k, second);
@@ -84,7 +84,7 @@ pub fn put_dated(out: &mut [u8], at: usize, k: usize, second: u64) -> usize
 
 // EXPONENT, where it differs from the one in force.
 fn put_exponent(out: &mut [u8], at: usize, in_force: i32, exponent: i32) -> usize
-    requires { ⌜ Room at (exponent-rows in_force exponent) ⌝ }
+    requires { ⌜ LineRoom at (exponent-rows in_force exponent) ⌝ }
     ensures { λ r. ⌜ Put (now (out .entry)) at (exponent-rows in_force exponent) (now (out .exit)) r ⌝ }
 {
     if kit::same(in_force, exponent) {
@@ -103,7 +103,7 @@ pub fn put_block(
     exponent: i32,
     values: &[i32],
 ) -> usize
-    requires { ⌜ Placed grid d × Room at (exponent-rows in_force exponent ++ (row-of block (opening-of grid d) ∷ value-rows (length (now values)) (now values))) ⌝ }
+    requires { ⌜ Placed grid d × LineRoom at (exponent-rows in_force exponent ++ (row-of block (opening-of grid d) ∷ value-rows (length (now values)) (now values))) ⌝ }
     ensures { λ r. ⌜ Put (now (out .entry)) at (exponent-rows in_force exponent ++ (row-of block (opening-of grid d) ∷ value-rows (length (now (values .entry))) (now (values .entry)))) (now (out .exit)) r ⌝ }
 {
     let opening = write_row::opening_row(grid, d);
@@ -124,7 +124,7 @@ fn start_label(kind: Kind) -> usize
 }
 
 pub fn put_start(out: &mut [u8], at: usize, kind: Kind, number: u64) -> usize
-    requires { ⌜ (number < 2 ^ 31) × Room at (row-of (start kind) (pos number, tt) ∷ []) ⌝ }
+    requires { ⌜ (number < 2 ^ 31) × LineRoom at (row-of (start kind) (pos number, tt) ∷ []) ⌝ }
     ensures { λ r. ⌜ Put (now (out .entry)) at (row-of (start kind) (pos number, tt) ∷ []) (now (out .exit)) r ⌝ }
 {
     let k = start_label(kind);
@@ -132,7 +132,7 @@ pub fn put_start(out: &mut [u8], at: usize, kind: Kind, number: u64) -> usize
 }
 
 pub fn put_end(out: &mut [u8], at: usize, kind: Kind, number: u64) -> usize
-    requires { ⌜ (number < 2 ^ 31) × Room at (row-of (end kind) (pos number, tt) ∷ []) ⌝ }
+    requires { ⌜ (number < 2 ^ 31) × LineRoom at (row-of (end kind) (pos number, tt) ∷ []) ⌝ }
     ensures { λ r. ⌜ Put (now (out .entry)) at (row-of (end kind) (pos number, tt) ∷ []) (now (out .exit)) r ⌝ }
 {
     let k = start_label(kind) + 1;
@@ -141,14 +141,14 @@ pub fn put_end(out: &mut [u8], at: usize, kind: Kind, number: u64) -> usize
 
 // EPOCH OF CURRENT MAP.
 pub fn put_epoch(out: &mut [u8], at: usize, second: u64) -> usize
-    requires { ⌜ Room at (row-of epoch (six (date-of second)) ∷ []) ⌝ }
+    requires { ⌜ LineRoom at (row-of epoch (six (date-of second)) ∷ []) ⌝ }
     ensures { λ r. ⌜ Put (now (out .entry)) at (row-of epoch (six (date-of second)) ∷ []) (now (out .exit)) r ⌝ }
 {
     put_dated(out, at, labels::EPOCH, second)
 }
 
 pub fn put_file_end(out: &mut [u8], at: usize) -> usize
-    requires { ⌜ Room at (row-of file-end tt ∷ []) ⌝ }
+    requires { ⌜ LineRoom at (row-of file-end tt ∷ []) ⌝ }
     ensures { λ r. ⌜ Put (now (out .entry)) at (row-of file-end tt ∷ []) (now (out .exit)) r ⌝ }
 {
     let row = write_row::blank_row(labels::FILE_END);

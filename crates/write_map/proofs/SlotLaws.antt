@@ -9,10 +9,10 @@ use Rattle.mapset.specs.declared.Header.{Header}
 use Rattle.mapset.specs.MapSet.{Block}
 use Rattle.mapset.specs.Areas.{Present, present?}
 use Rattle.canonical.specs.Canon.{in-force}
-use Rattle.write_line.specs.Put.{Leads}
+use Rattle.write_line.specs.Put.{PutsOn}
 use Rattle.write_map.specs.OneMap.{one-map, slot-map, slot-force}
 
-pub leads-same : {o₀ o : List ℕ} {at₀ at : ℕ} {xs ys zs : List (List ℕ)} → Leads o₀ at₀ xs o at ys → ys ≡ zs → Leads o₀ at₀ xs o at zs
+pub leads-same : {o₀ o : List ℕ} {at₀ at : ℕ} {xs ys zs : List (List ℕ)} → PutsOn o₀ at₀ xs o at ys → ys ≡ zs → PutsOn o₀ at₀ xs o at zs
 leads-same l e = rw e at l
 
 module _ (q : Kind) (h : Header) (i t m : ℕ) (k : ℤ) (bs : List Block) where

@@ -10,7 +10,7 @@ use Rattle.mapset.specs.Grid.{columns, Limits}
 use Rattle.mapset.specs.Areas.{Present}
 use Rattle.layout.specs.Layout.{per-map}
 use Rattle.canonical.specs.Canon.{Axes}
-use Rattle.write_line.specs.Put.{Room, Put}
+use Rattle.write_line.specs.Put.{LineRoom, Put}
 use Rattle.write_map.specs.OneMap.{slot-blocks, slot-map}
 use Rattle.write_map.specs.declared.Reached.{Reached}
 
@@ -22,7 +22,7 @@ pub record Fine (h : Header) : Type 0 where
 
 pub record Ready (h : Header) (at : ℕ) (rs : List (List ℕ)) : Type 0 where
   pub fine : Fine h
-  pub room : Room at rs
+  pub room : LineRoom at rs
 
 -- the exponents and values of one map
 pub record Full (h : Header) (es vs : List ℤ) : Type 0 where

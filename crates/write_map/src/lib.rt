@@ -2,7 +2,7 @@
 ghost use mathlib.Core.List.{[]};
 ghost use Prim.Native.Nat.{_<_, _^_};
 ghost use Rattle.canonical.specs.Canon.{block-rows};
-ghost use Rattle.write_line.specs.Put.{Room, Put};
+ghost use Rattle.write_line.specs.Put.{LineRoom, Put};
 ghost use Rattle.write_map.specs.OneMap.{map-blocks, slot-blocks, epoch-rows, one-map, slot-map, slot-force};
 ghost use Rattle.write_map.specs.Ready.{Ready, Full, ReadySlot, PutTo};
 use mapset::Header;
@@ -53,7 +53,7 @@ fn put_blocks(
 
 // Only a TEC map carries its epoch.
 fn put_epoch(out: &mut [u8], at: usize, kind: Kind, epoch: u64) -> usize
-    requires { ⌜ Room at (epoch-rows kind epoch) ⌝ }
+    requires { ⌜ LineRoom at (epoch-rows kind epoch) ⌝ }
     ensures { λ r. ⌜ Put (now (out .entry)) at (epoch-rows kind epoch) (now (out .exit)) r ⌝ }
 {
     match kind {

@@ -15,7 +15,7 @@ use Rattle.mapset.specs.Grid.{columns}
 use Rattle.mapset.specs.MapSet.{Block}
 use Rattle.mapset.specs.Areas.{Present, present?, Nowhere, nowhere?}
 use Rattle.layout.specs.Layout.{per-map}
-use Rattle.write_line.specs.Put.{Room, Put, Leads}
+use Rattle.write_line.specs.Put.{LineRoom, Put, PutsOn}
 use Rattle.write_line.proofs.PutLaws.{put-none, room-front, leads-self, leads-on}
 use Rattle.valid.specs.Groups.{kind-need, Holds}
 use Rattle.valid.proofs.Whole.{take-drop-take}
@@ -142,7 +142,7 @@ module _ (q : Kind) (h : Header) (epochs marks : List ℕ) (es vs : List ℤ) (n
       force-next q h ts ms es′ vs′ i (i * per-map h) from k in-marks
       ∙ (λ j. kind-force q h (force-told k j) (drop (i + 1) ms) (drop (exponents-next j) es′) (drop (from + sym w j) vs′))
 
-  slot-ready : (at : ℕ) (k : ℤ) → Room at (slot-map q h (i + 1) (getD epochs i 0) (getD marks i 0) k here′)
+  slot-ready : (at : ℕ) (k : ℤ) → LineRoom at (slot-map q h (i + 1) (getD epochs i 0) (getD marks i 0) k here′)
       → ReadySlot h at q (i + 1) (getD epochs i 0) (getD marks i 0) k (take (begin + B′ - begin) (drop begin es)) vs from (from + W′)
   slot-ready at k m =
       record {
@@ -160,7 +160,7 @@ pub record Going (q : Kind) (h : Header) (epochs marks : List ℕ) (es vs : List
   pub values : from ≡ i * (per-map h * columns (h .grid))
   pub force : kind-force q h k (drop i (take n marks)) (drop (i * per-map h) (part-exponents h (take n marks) es first)) (drop from (part-values q h (take n marks) vs))
       ≡ kind-force q h k₀ (take n marks) (part-exponents h (take n marks) es first) (part-values q h (take n marks) vs)
-  pub leads : Leads o₀ at (kind-rows q h 0 k₀ (take n epochs) (take n marks) (part-exponents h (take n marks) es first) (part-values q h (take n marks) vs)) o next
+  pub leads : PutsOn o₀ at (kind-rows q h 0 k₀ (take n epochs) (take n marks) (part-exponents h (take n marks) es first) (part-values q h (take n marks) vs)) o next
       (kind-rows q h i k (drop i (take n epochs)) (drop i (take n marks)) (drop (i * per-map h) (part-exponents h (take n marks) es first)) (drop from (part-values q h (take n marks) vs)))
 
 module _ (q : Kind) (h : Header) (epochs marks : List ℕ) (es vs : List ℤ) (n first : ℕ) (k₀ : ℤ) (o₀ : List ℕ) (at : ℕ) where
@@ -184,7 +184,7 @@ module _ (q : Kind) (h : Header) (epochs marks : List ℕ) (es vs : List ℤ) (n
       abbrev row-list : List (List ℕ)
       row-list = slot-map q h (i + 1) (getD epochs i 0) (getD marks i 0) k this
 
-      leads-here : Leads o₀ at all o next (row-list ++ kind-rows q h (i + 1) (slot-force q (getD marks i 0) k this) (drop (i + 1) (take n epochs)) (drop (i + 1) (take n marks)) (drop ((i + 1) * per-map h) (part-exponents h (take n marks) es first)) (drop (from + W′) (part-values q h (take n marks) vs)))
+      leads-here : PutsOn o₀ at all o next (row-list ++ kind-rows q h (i + 1) (slot-force q (getD marks i 0) k this) (drop (i + 1) (take n epochs)) (drop (i + 1) (take n marks)) (drop ((i + 1) * per-map h) (part-exponents h (take n marks) es first)) (drop (from + W′) (part-values q h (take n marks) vs)))
       leads-here = leads-same (g .leads) (rows-next q h epochs marks es vs n first f u held i begin from B′ W′ p w l (g .exponents) (g .values) v k)
 
       pub going-inside : begin + B′ ≤ length es
@@ -193,7 +193,7 @@ module _ (q : Kind) (h : Header) (epochs marks : List ℕ) (es vs : List ℤ) (n
       pub going-few : from + W′ ≤ 300 * 16657984
       going-few = values-few q h epochs marks es vs n first f u held i begin from B′ W′ p w l (g .exponents) (g .values)
 
-      pub going-ready : Room at all → ReadySlot h next q (i + 1) (getD epochs i 0) (getD marks i 0) k (take (begin + B′ - begin) (drop begin es)) vs from (from + W′)
+      pub going-ready : LineRoom at all → ReadySlot h next q (i + 1) (getD epochs i 0) (getD marks i 0) k (take (begin + B′ - begin) (drop begin es)) vs from (from + W′)
       going-ready r = slot-ready q h epochs marks es vs n first f u held i begin from B′ W′ p w l (g .exponents) (g .values) next k (room-front _ _ (leads-here .room r))
 
       pub going-next : (o′ : List ℕ) (r : Reached) (k′ : ℤ) → k′ ≡ r .exponent → PutTo o next row-list (slot-force q (getD marks i 0) k this) o′ r

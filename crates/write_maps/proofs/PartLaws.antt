@@ -13,7 +13,7 @@ use Rattle.areas.specs.Stores.{first-of}
 use Rattle.areas.specs.Valid.{values-in}
 use Rattle.valid.specs.Groups.{Long}
 use Rattle.valid.proofs.Whole.{kind-holds}
-use Rattle.write_line.specs.Put.{Room}
+use Rattle.write_line.specs.Put.{LineRoom}
 use Rattle.write_maps.specs.KindRows.{kind-rows, kind-force, part-exponents, part-values, area-rows, area-force}
 use Rattle.write_map.specs.Ready.{Fine, PutTo}
 use Rattle.write_maps.specs.Ready.{ReadyPart}
@@ -26,7 +26,7 @@ module _ (h : Header) (a : Areas) (l : Long h a) (q : Kind) (k k′ : ℤ) (firs
   abbrev ms : List ℕ
   ms = take (h .times .maps) (a .marks)
 
-  pub area-ready : {at : ℕ} → Fine h → Room at (area-rows h a q k) → ReadyPart h at q k′ ts ms (a .exponents) first (values-in q a)
+  pub area-ready : {at : ℕ} → Fine h → LineRoom at (area-rows h a q k) → ReadyPart h at q k′ ts ms (a .exponents) first (values-in q a)
   unfolding area-rows
   area-ready f r =
       rw (e, p) (record { ready = record { fine = f; room = r }; holds = kind-holds h a l q (per-map h) (columns (h .grid)) (first-of q (blocks h)) refl refl refl })

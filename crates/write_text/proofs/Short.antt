@@ -32,7 +32,7 @@ use Rattle.valid.proofs.Whole.{sound-long}
 use Rattle.canonical.specs.Canon.{version-row, slot-rows, order, head-rows, canon-rows, row-of, opening, value-rows, exponent-rows, block-rows, trimmed, lines-of}
 use Rattle.canonical.proofs.RowLaws.{GoodRow}
 use Rattle.canonical.proofs.Made.{rows-good}
-use Rattle.write_line.specs.Put.{Room}
+use Rattle.write_line.specs.Put.{LineRoom}
 use Rattle.write_map.specs.OneMap.{epoch-rows, one-map, slot-map, slot-force}
 use Rattle.write_maps.specs.KindRows.{first-map, kind-rows, part-exponents, part-values, area-rows, area-force, all-rows}
 use Rattle.write_map.specs.Ready.{Fine}
@@ -180,5 +180,5 @@ module _ (h : Header) (t : Texts) (a : Areas) (v : Valid h t a) where
         area-count Height k2,
       )
 
-  pub canon-short : Room 0 (canon-rows (nested h t a))
+  pub canon-short : LineRoom 0 (canon-rows (nested h t a))
   canon-short = record { fits = omega (arith, lines-short (canon-rows (nested h t a)) (rows-good (nested h t a) (nested-formed h t a v)), row-count) }

@@ -6,7 +6,7 @@ ghost use Rattle.mapset.specs.Areas.{six};
 ghost use Rattle.areas.specs.Valid.{Valid};
 ghost use Rattle.areas.specs.Nesting.{nested};
 ghost use Rattle.canonical.specs.Canon.{canon-rows};
-ghost use Rattle.write_line.specs.Put.{Room, Put};
+ghost use Rattle.write_line.specs.Put.{LineRoom, Put};
 ghost use Rattle.write_text.specs.Write.{Told, told, written};
 use mapset::Header;
 use mapset::Texts;
@@ -24,7 +24,7 @@ fn put_text(
     epochs: &[u64],
     marks: &[u8],
 ) -> usize
-    requires { ⌜ Valid header texts (six (now tec) (now rms) (now height) (now exponents) (now epochs) (now marks)) × Room at (canon-rows (nested header texts (six (now tec) (now rms) (now height) (now exponents) (now epochs) (now marks)))) ⌝ }
+    requires { ⌜ Valid header texts (six (now tec) (now rms) (now height) (now exponents) (now epochs) (now marks)) × LineRoom at (canon-rows (nested header texts (six (now tec) (now rms) (now height) (now exponents) (now epochs) (now marks)))) ⌝ }
     ensures { λ r. ⌜ Put (now (out .entry)) at (canon-rows (nested header texts (six (now (tec .entry)) (now (rms .entry)) (now (height .entry)) (now (exponents .entry)) (now (epochs .entry)) (now (marks .entry))))) (now (out .exit)) r ⌝ }
 {
     let next = write_head::put_header(out, at, header, texts);

@@ -3,7 +3,7 @@ use mathlib.Core.Path.{subst}
 use native.Mathlib.Omega.{arith}
 use Prim.Native.Nat.{_-_}
 use lib.ListN.{length}
-use Rattle.bias_scan.specs.Judged.{Stands, Leads}
+use Rattle.bias_scan.specs.Judged.{Stands, Passes}
 use Rattle.bias_scan.proofs.JudgedLaws.{stands-first}
 use Rattle.bias_scan.specs.declared.Onward.{Onward}
 use borrow.Author.Needs.{needs}
@@ -26,24 +26,24 @@ enum-known-onward : tie.Need-enum-known-onward Inv-loop μ-loop
 enum-known-onward c = search needs
 
 returns : tie.Need-returns Inv-loop μ-loop
-returns c = (subst (λ (o : Onward). Leads (c .before .before .before .before .before .before .before .args .text .now) (c .before .before .before .before .before .loop .s) o (c .before .before .before .before .step .result .scan)) (c .before .onward .given .1) (c .before .before .before .before .step .ensures))
+returns c = (subst (λ (o : Onward). Passes (c .before .before .before .before .before .before .before .args .text .now) (c .before .before .before .before .before .loop .s) o (c .before .before .before .before .step .result .scan)) (c .before .onward .given .1) (c .before .before .before .before .step .ensures))
 
 enum-told : tie.Need-enum-told Inv-loop μ-loop
 enum-told c = search needs
 
 returns-2 : tie.Need-returns-2 Inv-loop μ-loop
-returns-2 c = (subst (λ (o : Onward). Leads (c .before .before .before .before .before .before .args .text .now) (c .before .before .before .before .loop .s) o (c .before .before .before .step .result .scan)) (c .enum-told .given .1) (c .before .before .before .step .ensures))
+returns-2 c = (subst (λ (o : Onward). Passes (c .before .before .before .before .before .before .args .text .now) (c .before .before .before .before .loop .s) o (c .before .before .before .step .result .scan)) (c .enum-told .given .1) (c .before .before .before .step .ensures))
 
 enum-told-2 : tie.Need-enum-told-2 Inv-loop μ-loop
 enum-told-2 c = search needs
 
 loop-less : tie.Need-loop-less Inv-loop μ-loop
 loop-less c =
-    let k = (subst (λ (o : Onward). Leads (c .before .before .before .before .before .before .args .text .now) (c .before .before .before .before .loop .s) o (c .before .before .before .step .result .scan)) (c .enum-told2 .given .1) (c .before .before .before .step .ensures)) in
+    let k = (subst (λ (o : Onward). Passes (c .before .before .before .before .before .before .args .text .now) (c .before .before .before .before .loop .s) o (c .before .before .before .step .result .scan)) (c .enum-told2 .given .1) (c .before .before .before .step .ensures)) in
     omega (arith, k .1, k .0 .within)
 
 loop-again : tie.Need-loop-again Inv-loop μ-loop
-loop-again c = (subst (λ (o : Onward). Leads (c .before .before .before .before .before .before .args .text .now) (c .before .before .before .before .loop .s) o (c .before .before .before .step .result .scan)) (c .enum-told2 .given .1) (c .before .before .before .step .ensures)) .0
+loop-again c = (subst (λ (o : Onward). Passes (c .before .before .before .before .before .before .args .text .now) (c .before .before .before .before .loop .s) o (c .before .before .before .step .result .scan)) (c .enum-told2 .given .1) (c .before .before .before .step .ensures)) .0
 
 pub judge-spec : {M : Type 1} → statement M
 judge-spec =

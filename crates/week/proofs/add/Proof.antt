@@ -12,7 +12,7 @@ use Rattle.kit.proofs.TruthLaws.{truth-true, truth-false}
 use Rattle.mapset.specs.Areas.{six}
 use Rattle.valid.proofs.Whole.{sound-long}
 use Rattle.week_set.specs.SetFigures.{kind-nodes, map-nodes, kind-rows, set-rows, rows-need}
-use Rattle.week.specs.Week.{Given, given-as, ValidSet, Room, grown}
+use Rattle.week.specs.Week.{Given, given-as, ValidSet, RowRoom, grown}
 use Rattle.week.specs.Sane.{Sane, comes}
 use Rattle.week.proofs.SaneLaws.{answer-full, answer-insane, answer-invalid, answer-short, answer-into}
 use Rattle.week.specs.declared.Week.{Week}
@@ -55,7 +55,7 @@ module _ (d : tie.Else4) where
   need-is : d .before .rows-need .result ≡ rows-need (begin .args .header)
   need-is = d .before .rows-need .ensures
 
-  has-room : Room (lent begin)
+  has-room : RowRoom (lent begin)
   has-room = omega (arith, need-is, d .if4 .left)
 
 returns : tie.Need-returns

@@ -5,14 +5,14 @@ use native.Mathlib.Omega.{arith}
 use lib.ListN.{length}
 use borrow.Author.Needs.{needs}
 use Rattle.canonical.specs.Canon.{value-row, value-rows}
-use Rattle.write_line.specs.Put.{Leads}
+use Rattle.write_line.specs.Put.{PutsOn}
 use Rattle.write_line.proofs.PutLaws.{room-first, leads-self, leads-next}
 use Rattle.write_line.proofs.BlockLaws.{values-step, values-rest, values-from}
 use Rattle.write_line.proofs.put_values.Statement.{statement}
 use Rattle.write_line.proofs.put_values.Tie as tie
 
 abbrev Inv-loop : tie.InvT-loop
-Inv-loop out₀ at values next₀ i₀ out next i = (i ≤ length values) × Leads out₀ at (value-rows (length values) values) out next (values-from i values)
+Inv-loop out₀ at values next₀ i₀ out next i = (i ≤ length values) × PutsOn out₀ at (value-rows (length values) values) out next (values-from i values)
 
 abbrev μ-loop : tie.MeasureT-loop
 μ-loop out₀ at values next₀ i₀ out next i = length values - i

@@ -12,7 +12,7 @@ use mir.Val.{toZ, ofZ}
 use mir.Facts.{toZ-ofZ}
 use Rattle.mapset.specs.Grid as G
 use Rattle.canonical.specs.Canon.{block-rows}
-use Rattle.write_line.specs.Put.{Put, Leads}
+use Rattle.write_line.specs.Put.{Put, PutsOn}
 use Rattle.write_line.proofs.PutLaws.{put-none, room-front, leads-self, leads-on}
 use Rattle.write_row.proofs.PlacedLaws.{placed}
 use Rattle.write_map.specs.OneMap.{map-blocks}
@@ -23,7 +23,7 @@ use Rattle.write_map.proofs.put_blocks.Tie as tie
 abbrev Inv-loop : tie.InvT-loop
 Inv-loop out₀ at header in-force es vs columns next₀ held₀ d₀ from₀ out next held d from =
     (d ≤ length es) × (from ≡ d * G.columns (header .grid))
-    × Leads out₀ at (block-rows header 0 (toZ w32 in-force) (map-blocks header es vs) []) out next (blocks-from header (G.columns (header .grid)) es vs d from (toZ w32 held))
+    × PutsOn out₀ at (block-rows header 0 (toZ w32 in-force) (map-blocks header es vs) []) out next (blocks-from header (G.columns (header .grid)) es vs d from (toZ w32 held))
 
 abbrev μ-loop : tie.MeasureT-loop
 μ-loop out₀ at header in-force es vs columns next₀ held₀ d₀ from₀ out next held d from = length es - d
@@ -42,7 +42,7 @@ module _ (l : tie.At-loop Inv-loop μ-loop) where
     inside : l .loop .from + C ≤ length (now (s .args .vs))
     inside = part-inside (l .loop .d) (length (now (s .args .es))) C (l .loop .from) (length (now (s .args .vs))) (l .loop .inv .1) (s .pre .1 .values ∙ ap (λ n. n * C) (sym (s .pre .1 .exponents))) h
 
-    here : Leads (now (s .args .out)) (s .args .at) (block-rows (s .args .header) 0 (s .args .in-force) (map-blocks (s .args .header) (now (s .args .es)) (now (s .args .vs))) []) (l .loop .out) (l .loop .next)
+    here : PutsOn (now (s .args .out)) (s .args .at) (block-rows (s .args .header) 0 (s .args .in-force) (map-blocks (s .args .header) (now (s .args .es)) (now (s .args .vs))) []) (l .loop .out) (l .loop .next)
         (one-block (s .args .header) (l .loop .d) (toZ w32 (l .loop .held)) (getD (now (s .args .es)) (l .loop .d) (pos 0)) (take C (drop (l .loop .from) (now (s .args .vs))))
         ++ blocks-from (s .args .header) C (now (s .args .es)) (now (s .args .vs)) (l .loop .d + 1) (l .loop .from + C) (getD (now (s .args .es)) (l .loop .d) (pos 0)))
     here = rw (force-is, blocks-next (s .args .header) C (now (s .args .es)) (now (s .args .vs)) (l .loop .d) (l .loop .from) (toZ w32 (l .loop .held)) h) at (l .loop .inv .2)
@@ -110,7 +110,7 @@ loop-again c =
       omega arith,
       ap (λ n. l .loop .from + n) (l .before .nodes .ensures) ∙ part-next _ _ _ _ _ (l .loop .inv .1) refl h,
       rw (force-is l, exponent-is (c .before .before .before .before .before))
-          (subst (λ (n : ℕ). Leads (now (s l .args .out)) (s l .args .at) (block-rows (s l .args .header) 0 (s l .args .in-force) (map-blocks (s l .args .header) (now (s l .args .es)) (now (s l .args .vs))) [])
+          (subst (λ (n : ℕ). PutsOn (now (s l .args .out)) (s l .args .at) (block-rows (s l .args .header) 0 (s l .args .in-force) (map-blocks (s l .args .header) (now (s l .args .es)) (now (s l .args .vs))) [])
           (c .before .before .put-block .last .0) (c .before .before .put-block .result)
           (blocks-from (s l .args .header) (C l) (now (s l .args .es)) (now (s l .args .vs)) (l .loop .d + 1) (l .loop .from + n) (getD (now (s l .args .es)) (l .loop .d) (pos 0)))) (sym (l .before .nodes .ensures)) p),
     )

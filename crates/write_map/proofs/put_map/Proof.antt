@@ -10,7 +10,7 @@ use mir.Val.{toZ, ofZ}
 use mir.Facts.{toZ-ofZ}
 use Rattle.layout.specs.Labels.{start, end}
 use Rattle.canonical.specs.Canon.{row-of, block-rows}
-use Rattle.write_line.specs.Put.{Leads}
+use Rattle.write_line.specs.Put.{PutsOn}
 use Rattle.write_line.proofs.PutLaws.{room-front, room-first, leads-self, leads-on, leads-next}
 use Rattle.write_map.specs.OneMap.{map-blocks, epoch-rows, one-map}
 use Rattle.write_map.proofs.put_map.Statement.{statement}
@@ -26,20 +26,20 @@ module _ (s : tie.Start) where
   abbrev all : List (List ℕ)
   all = one-map (s .args .kind) (s .args .header) (s .args .number) (s .args .epoch) (s .args .in-force) (map-blocks (s .args .header) (now (s .args .es)) (now (s .args .vs)))
 
-  begins : Leads (now (s .args .out)) (s .args .at) all (now (s .args .out)) (s .args .at) (row-of (start (s .args .kind)) (pos (s .args .number), tt) ∷ (epoch-rows (s .args .kind) (s .args .epoch) ++ (rows-at ++ close-row)))
+  begins : PutsOn (now (s .args .out)) (s .args .at) all (now (s .args .out)) (s .args .at) (row-of (start (s .args .kind)) (pos (s .args .number), tt) ∷ (epoch-rows (s .args .kind) (s .args .epoch) ++ (rows-at ++ close-row)))
   unfolding one-map
   begins = leads-self
 
   force-is : toZ w32 (ofZ w32 (s .args .in-force)) ≡ s .args .in-force
   force-is = toZ-ofZ (s .fits .in-force)
 
-started : (c : tie.After-put-start) → let s = c .before .before .before in Leads (now (s .args .out)) (s .args .at) (all s) (c .put-start .last .0) (c .put-start .result) (epoch-rows (s .args .kind) (s .args .epoch) ++ (rows-at s ++ close-row s))
+started : (c : tie.After-put-start) → let s = c .before .before .before in PutsOn (now (s .args .out)) (s .args .at) (all s) (c .put-start .last .0) (c .put-start .result) (epoch-rows (s .args .kind) (s .args .epoch) ++ (rows-at s ++ close-row s))
 started c = leads-next (begins (c .before .before .before)) (c .put-start .ensures)
 
-dated : (c : tie.After-put-epoch) → let s = c .before .before .before .before .before .before .before in Leads (now (s .args .out)) (s .args .at) (all s) (c .put-epoch .last .0) (c .put-epoch .result) (rows-at s ++ close-row s)
+dated : (c : tie.After-put-epoch) → let s = c .before .before .before .before .before .before .before in PutsOn (now (s .args .out)) (s .args .at) (all s) (c .put-epoch .last .0) (c .put-epoch .result) (rows-at s ++ close-row s)
 dated c = leads-on _ _ (started (c .before .before .before .before)) (c .put-epoch .ensures)
 
-filled : (c : tie.After-put-blocks) → let s = c .before .before .before .before .before .before .before .before .before .before .before in Leads (now (s .args .out)) (s .args .at) (all s) (c .put-blocks .last .0) (c .put-blocks .result) (close-row s)
+filled : (c : tie.After-put-blocks) → let s = c .before .before .before .before .before .before .before .before .before .before .before in PutsOn (now (s .args .out)) (s .args .at) (all s) (c .put-blocks .last .0) (c .put-blocks .result) (close-row s)
 filled c =
     let s = c .before .before .before .before .before .before .before .before .before .before .before in
     leads-on _ _ (dated (c .before .before .before .before)) (rw (force-is s) at (c .put-blocks .ensures))

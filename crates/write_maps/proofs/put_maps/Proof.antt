@@ -16,7 +16,7 @@ use Rattle.mapset.specs.Areas.{Areas, blocks, six}
 use Rattle.layout.specs.Labels.{file-end}
 use Rattle.layout.specs.Layout.{per-map}
 use Rattle.canonical.specs.Canon.{row-of}
-use Rattle.write_line.specs.Put.{Leads}
+use Rattle.write_line.specs.Put.{PutsOn}
 use Rattle.write_line.proofs.PutLaws.{room-front, leads-self, leads-on}
 use Rattle.write_maps.specs.KindRows.{area-rows, area-force, all-rows}
 use Rattle.write_map.specs.Ready.{PutTo}
@@ -70,7 +70,7 @@ module _ (c : tie.After-put-kind) where
   tec : PutTo (now (s p1 .args .out)) (s p1 .args .at) (area-rows (s p1 .args .header) (a (s p1)) K.Tec (negsuc 0)) (k1 (s p1)) (c .put-kind .last .0) (c .put-kind .result)
   tec = area-put (s p1 .args .header) (a (s p1)) (s p1 .pre .long) K.Tec (negsuc 0) (negsuc 0) 0 refl refl (c .put-kind .ensures)
 
-  lead1 : Leads (now (s p1 .args .out)) (s p1 .args .at) (all-rows (s p1 .args .header) (a (s p1))) (c .put-kind .last .0) (c .put-kind .result .at) (others (s p1))
+  lead1 : PutsOn (now (s p1 .args .out)) (s p1 .args .at) (all-rows (s p1 .args .header) (a (s p1))) (c .put-kind .last .0) (c .put-kind .result .at) (others (s p1))
   lead1 = leads-on (area-rows (s p1 .args .header) (a (s p1)) K.Tec (negsuc 0)) (others (s p1)) leads-self (tec .put)
 
 force1 : (c : tie.After-struct-told) → toZ w32 (ofZ w32 (c .before .before .before .before .put-kind .result .exponent)) ≡ k1 (s (p1 (c .before .before .before .before)))
@@ -87,7 +87,7 @@ module _ (c : tie.After-put-kind2) where
   rms : PutTo (c1 .put-kind .last .0) (c1 .put-kind .result .at) (area-rows (s p2 .args .header) (a (s p2)) K.Rms (k1 (s p2))) (k2 (s p2)) (c .put-kind2 .last .0) (c .put-kind2 .result)
   rms = area-put (s p2 .args .header) (a (s p2)) (s p2 .pre .long) K.Rms (k1 (s p2)) _ _ (force1 (c .before)) (all-is p2) (c .put-kind2 .ensures)
 
-  lead2 : Leads (now (s p2 .args .out)) (s p2 .args .at) (all-rows (s p2 .args .header) (a (s p2))) (c .put-kind2 .last .0) (c .put-kind2 .result .at) (heights (s p2))
+  lead2 : PutsOn (now (s p2 .args .out)) (s p2 .args .at) (all-rows (s p2 .args .header) (a (s p2))) (c .put-kind2 .last .0) (c .put-kind2 .result .at) (heights (s p2))
   lead2 = leads-on (area-rows (s p2 .args .header) (a (s p2)) K.Rms (k1 (s p2))) (heights (s p2)) (lead1 c1) (rms .put)
 
 force2 : (c : tie.After-struct-told2) → toZ w32 (ofZ w32 (c .before .before .before .before .put-kind2 .result .exponent)) ≡ k2 (s (p2 (c .before .before .before .before)))
@@ -104,7 +104,7 @@ module _ (c : tie.After-put-kind3) where
   height : PutTo (c2 .put-kind2 .last .0) (c2 .put-kind2 .result .at) (area-rows (s p3 .args .header) (a (s p3)) K.Height (k2 (s p3))) (area-force (s p3 .args .header) (a (s p3)) K.Height (k2 (s p3))) (c .put-kind3 .last .0) (c .put-kind3 .result)
   height = area-put (s p3 .args .header) (a (s p3)) (s p3 .pre .long) K.Height (k2 (s p3)) _ _ (force2 (c .before)) (two-is p3) (c .put-kind3 .ensures)
 
-  lead3 : Leads (now (s p3 .args .out)) (s p3 .args .at) (all-rows (s p3 .args .header) (a (s p3))) (c .put-kind3 .last .0) (c .put-kind3 .result .at) (last-row (s p3))
+  lead3 : PutsOn (now (s p3 .args .out)) (s p3 .args .at) (all-rows (s p3 .args .header) (a (s p3))) (c .put-kind3 .last .0) (c .put-kind3 .result .at) (last-row (s p3))
   lead3 = leads-on (area-rows (s p3 .args .header) (a (s p3)) K.Height (k2 (s p3))) (last-row (s p3)) (lead2 c2) (height .put)
 
 cast-maps : tie.Need-cast-maps

@@ -10,7 +10,7 @@ use Rattle.layout.specs.Labels.{header-end}
 use Rattle.areas.specs.Nesting.{nested}
 use Rattle.valid.proofs.Whole.{sound-long}
 use Rattle.canonical.specs.Canon.{row-of, version-row, order, head-rows, canon-rows}
-use Rattle.write_line.specs.Put.{Leads}
+use Rattle.write_line.specs.Put.{PutsOn}
 use Rattle.write_line.proofs.PutLaws.{room-front, leads-self, leads-on}
 use Rattle.write_maps.specs.KindRows.{all-rows}
 use Rattle.write_map.proofs.SlotLaws.{leads-same}
@@ -26,11 +26,11 @@ module _ (s : tie.Start) where
   abbrev head-of : List (List ℕ)
   head-of = version-row (s .args .header .version) ∷ head-rows order (says (s .args .header) (s .args .texts)) (row-of header-end tt ∷ [])
 
-  begins : Leads (now (s .args .out)) (s .args .at) (canon-rows (nested (s .args .header) (s .args .texts) a)) (now (s .args .out)) (s .args .at) (head-of ++ all-rows (s .args .header) a)
+  begins : PutsOn (now (s .args .out)) (s .args .at) (canon-rows (nested (s .args .header) (s .args .texts) a)) (now (s .args .out)) (s .args .at) (head-of ++ all-rows (s .args .header) a)
   begins = leads-same leads-self (canon-are (s .args .header) a (sound-long (s .args .header) (s .args .texts) a (s .pre .0 .sound)) (s .pre .0 .sound .room .epochs) (s .args .texts))
 
 headed : (c : tie.After-put-header) → let s = c .before .before .before .before .before in
-    Leads (now (s .args .out)) (s .args .at) (canon-rows (nested (s .args .header) (s .args .texts) (a s))) (c .put-header .last .0) (c .put-header .result) (all-rows (s .args .header) (a s))
+    PutsOn (now (s .args .out)) (s .args .at) (canon-rows (nested (s .args .header) (s .args .texts) (a s))) (c .put-header .last .0) (c .put-header .result) (all-rows (s .args .header) (a s))
 headed c = let s = c .before .before .before .before .before in leads-on (head-of s) (all-rows (s .args .header) (a s)) (begins s) (c .put-header .ensures)
 
 put-header-requires : tie.Need-put-header-requires
