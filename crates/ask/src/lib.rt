@@ -4,13 +4,13 @@ ghost use Rattle.kit.specs.Range.{within?};
 ghost use Rattle.kit.specs.Truth.{truth};
 ghost use Rattle.mapset.specs.Areas.{six};
 ghost use Rattle.ask.specs.Ask.{layout, question, Answers, told};
+pub use ask_nodes::MilliKm;
+pub use ask_nodes::MilliTecu;
+use ask_nodes::Shape;
 use mapset::Header;
 use mapset::Texts;
 use mapset::Times;
 use mapset::axes;
-pub use ask_nodes::MilliKm;
-pub use ask_nodes::MilliTecu;
-use ask_nodes::Shape;
 use sun::Pair;
 
 mod sun;
