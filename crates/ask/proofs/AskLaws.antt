@@ -21,13 +21,17 @@ use Rattle.ask_spans.specs.Spans.{Regular, Spanned}
 use Rattle.ask_spans.proofs.TimeLaws.{regular, last-epoch, rises-to, shares-within, shares-small}
 use Rattle.ask_nodes.specs.Value.{kind-of}
 use Rattle.ask_sums.specs.Mean.{Valued, spread, weight, mean}
-use Rattle.ask.specs.Ask.{Question, Told, in-told, Guard, go, Known, epochs, Served, InTime, Inside, area, shape, asked, Rounded, Answers}
+use Rattle.ask.specs.Ask.{Question, Told, refused, in-told, Guard, stop, go, Known, epochs, Served, InTime, Inside, area, shape, asked, Rounded, Answers}
 use Rattle.ask_sums.specs.Sums.{Summable}
 use Rattle.ask.proofs.MeanLaws.{mean-is}
 use Rattle.ask.proofs.ReachLaws.{latitude-step, longitude-step, some-weight, summable}
 use Rattle.ask.specs.Sun.{in-time, unit-of, moved, lon-at, Cells}
 use Rattle.ask_cells.specs.declared.Cell.{Cell}
 use Rattle.ask_spans.specs.declared.Shares.{Shares}
+
+-- number n is due where P does not hold
+pub due : {P : Type 0} {R : Told → Type 0} {a : Told} (n : ℕ) → a ≡ refused n → ¬ P → Guard P n R a
+due n e h = rw e (stop h)
 
 starts : (first : ℕ) (es : List ℕ) → StartsAt first es → (1 ≤ length es) × (getD es 0 0 ≡ first)
 starts first [] h = absurd h

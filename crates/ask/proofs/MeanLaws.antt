@@ -2,16 +2,18 @@
 use mathlib.Core.Path.{_≡_, refl}
 use mathlib.Core.List.{List}
 use mathlib.Core.Option.{Option}
-use Prim.Native.Nat.{ℕ, zero, suc, _≤_, _<_}
-use native.Mathlib.Omega.{arith}
-use lib.IntN.{ℤ}
+use Prim.Native.Nat.{ℕ, _<_}
+use native.Mathlib.Nat.{zero-add}
+use lib.IntN.{ℤ, pos, +ℤ-idl}
 use Rattle.kit.proofs.AnswerLaws.{pick-elim}
 use Rattle.mapset.specs.declared.Kind.{Kind}
+use Rattle.mapset.specs.declared.Kind.the-variants.{Tec as tec, Rms as rms, Height as height}
 use Rattle.ask_round.specs.Round.{rounded}
 use Rattle.ask_round.proofs.RoundLaws.{round-nearest}
-use Rattle.ask_nodes.specs.Value.{kind-of}
 use Rattle.ask_sums.specs.Mean.{Term, Valued, valued?, mean, weighted, weight}
-use Rattle.ask.specs.Ask.{tecu, km, in-unit, in-told, Guard, stop, go, Rounded}
+use Rattle.ask_sums.specs.Sums.{in-sum, add-all}
+use Rattle.ask_sums.proofs.SumLaws.{valued-sum, lacking-sum}
+use Rattle.ask.specs.Ask.{in-unit, in-told, Guard, stop, go, Rounded, told-sum}
 
 -- the computed mean is the one that the rules give
 pub mean-is : (k : Kind) (ts : List Term) → 0 < weight ts → Guard (Valued ts) 22 (Rounded k ts) (in-told k (mean ts))
@@ -21,13 +23,15 @@ mean-is k ts h =
     (λ a. go a (rounded (weighted ts) (weight ts), (round-nearest (weighted ts) (weight ts) h, refl)))
     (λ n. stop n)
 
--- in the kind's unit
-pub tecu-unit : (kind : ℕ) (v : ℤ) → kind < 2 → tecu v ≡ in-unit (kind-of kind) v
-tecu-unit zero v h = refl
-tecu-unit (suc zero) v h = refl
-tecu-unit (suc (suc k)) v h = absurd (omega arith)
+-- a sum node by node comes to it, in the kind's unit
+told-in : (k : Kind) (t : ℤ) (u : ℕ) → told-sum (in-sum k t u) ≡ in-unit k (rounded t u)
+told-in tec t u = refl
+told-in rms t u = refl
+told-in height t u = refl
 
-pub km-unit : (kind : ℕ) (v : ℤ) → 2 ≤ kind → km v ≡ in-unit (kind-of kind) v
-km-unit zero v h = absurd (omega arith)
-km-unit (suc zero) v h = absurd (omega arith)
-km-unit (suc (suc k)) v h = refl
+pub sum-told : (k : Kind) (ts : List Term) → told-sum (add-all k (in-sum k (pos 0) 0) ts) ≡ in-told k (mean ts)
+unfolding mean
+sum-told k ts =
+    pick-elim (λ (o : Option ℤ). told-sum (add-all k (in-sum k (pos 0) 0) ts) ≡ in-told k o) (valued? ts)
+    (λ a. rw (valued-sum k ts a (pos 0) 0, +ℤ-idl (weighted ts), zero-add) (told-in k _ _))
+    (λ n. rw (lacking-sum k ts n (pos 0) 0) refl)

@@ -1,5 +1,5 @@
--- Questions with their answers, worked out by hand from 01, as rows of one table: the order of the refusals, whole turns, the grid's east end, and
--- which map is the nearest.
+-- Questions with their answers, worked out by hand from 01, as rows of one table: the order of the refusals, whole turns, the grid's east end,
+-- which map is the nearest, and the one rounding.
 use mathlib.Core.Path.{_≡_, ap}
 use mathlib.Core.Bool.{false}
 use mathlib.Core.Logic.{inl, inr}
@@ -46,6 +46,10 @@ unfoldable held : Areas
 held =
     six (pos 100 ∷ pos 200 ∷ pos 300 ∷ pos 400 ∷ pos 500 ∷ pos 600 ∷ pos 700 ∷ pos 9999 ∷ []) [] [] (replicate 12 (negsuc 0)) (0 ∷ 3600 ∷ []) (0 ∷ 0 ∷ [])
 
+-- the same grid and epochs, in thousandths of a TECU: 1 at 1.0, 0.0 in the first map, all others 0
+unfoldable fine : Areas
+fine = six (pos 1 ∷ replicate 7 (pos 0)) [] [] (replicate 12 (negsuc 2)) (0 ∷ 3600 ∷ []) (0 ∷ 0 ∷ [])
+
 -- TEC of two maps; and of a header that no text has
 abbrev ask : (kind method layer : ℕ) (lat lon : ℤ) (second : ℕ) → Question
 ask = question (header 2) texts held
@@ -76,10 +80,12 @@ rows =
     ∷ (ask 0 0 0 (pos 100) (pos 0) 1800, gives (tecu (pos 10000)))
     ∷ (ask 0 0 0 (pos 100) (pos 0) 1801, gives (tecu (pos 50000)))
     ∷ (ask 0 1 0 (pos 100) (pos 0) 1800, gives (tecu (pos 30000)))
+    -- rounded once: between two columns the first map gives 1/2 and the second 0, halfway between them 1/4; rounded in each map, 1 and 0, it would be 1
+    ∷ (question (header 2) texts fine 0 1 0 (pos 100) (pos 50) 1800, gives (tecu (pos 0)))
     ∷ []
 
 pub reckonings : All (λ (r : Row). Answers (r .0) (says (r .1))) rows
-unfolding rows header held texts axis absent truth sound? dec-by sound-says? ×-dec ⊎-dec ¬-dec all-dec pick header? version? texts? written? printable? within? times? model? grid? axis? end? step? together? between? ×₃-dec ×₄-dec multiple? le? lt? int? count? systems? system? dimension? limits? epochs? starts? runs? run? follows? marks? lengths? nowhere? present? ℕ-discrete decLe decLt known? timely? same-told strip? closed? goes-round? after rounded mean valued? weighted weight terms spread corners value worth is-value?
+unfolding rows header held fine texts axis absent truth sound? dec-by sound-says? ×-dec ⊎-dec ¬-dec all-dec pick header? version? texts? written? printable? within? times? model? grid? axis? end? step? together? between? ×₃-dec ×₄-dec multiple? le? lt? int? count? systems? system? dimension? limits? epochs? starts? runs? run? follows? marks? lengths? nowhere? present? ℕ-discrete decLe decLt known? timely? same-told strip? closed? goes-round? after rounded mean valued? weighted weight terms spread corners value worth is-value?
 reckonings = all-answer rows tt
 
 -- ---- 24 (02, Ask 3): DLON of 6.0, epochs 7,201 s apart, a grid that ends a column too early; 5.0 and 7,200 s are served (`SunSample`)

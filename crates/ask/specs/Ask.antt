@@ -12,6 +12,7 @@ use Rattle.mapset.specs.declared.Kind.{Kind}
 use Rattle.mapset.specs.declared.Kind.the-variants.{Tec as tec, Rms as rms, Height as height}
 use Rattle.mapset.specs.declared.Header.{Header}
 use Rattle.mapset.specs.declared.Texts.{Texts}
+use Rattle.ask_round.specs.Round.{rounded}
 use Rattle.ask_cells.specs.Place.{InCell100}
 use Rattle.ask_spans.specs.Time.{Uses}
 use Rattle.ask_nodes.specs.Value.{kind-of}
@@ -21,6 +22,8 @@ use Rattle.ask_cells.specs.declared.Cell.{Cell}
 use Rattle.ask_spans.specs.declared.Shares.{Shares}
 use Rattle.ask_nodes.specs.declared.Weighed.{Weighed}
 use Rattle.ask_nodes.specs.declared.Shape.{Shape}
+use Rattle.ask_sums.specs.declared.Sum.{Sum}
+use Rattle.ask_sums.specs.declared.Sum.the-variants as S
 use Rattle.ask.specs.declared.Why.{Why}
 use Rattle.ask.specs.declared.Why.the-variants as W
 use Rattle.ask.specs.declared.Asked.{Asked}
@@ -143,6 +146,12 @@ abbrev pub told : Asked → Told
 told (A.Tecu v) = tecu (v .0)
 told (A.Km v) = km (v .0)
 told (A.Refused w) = refused (number w)
+
+-- what a sum comes to
+abbrev pub told-sum : Sum → Told
+told-sum S.Lacks = refused 22
+told-sum (S.Tecu t u) = tecu (rounded t u)
+told-sum (S.Km t u) = km (rounded t u)
 
 abbrev pub question : Header → Texts → Areas → ℕ → ℕ → ℕ → ℤ → ℤ → ℕ → Question
 question header texts areas kind method layer lat lon second =

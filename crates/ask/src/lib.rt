@@ -1,16 +1,20 @@
 // The value at a place and second.
 ghost use mathlib.Core.Path.{_≡_};
+ghost use native.Mathlib.Decide.{decLt};
+ghost use Rattle.kit.specs.Answer.{×-dec};
 ghost use Rattle.kit.specs.Range.{within?};
 ghost use Rattle.kit.specs.Truth.{truth};
 ghost use Rattle.mapset.specs.Areas.{six};
+ghost use Rattle.mapset.specs.Grid.{layers};
 ghost use Rattle.ask.specs.Ask.{layout, question, Answers, told};
+pub use ask_nodes::MilliKm;
+pub use ask_nodes::MilliTecu;
+use ask_nodes::Shape;
+use mapset::Grid;
 use mapset::Header;
 use mapset::Texts;
 use mapset::Times;
 use mapset::axes;
-pub use ask_nodes::MilliKm;
-pub use ask_nodes::MilliTecu;
-use ask_nodes::Shape;
 use sun::Pair;
 
 mod sun;
@@ -32,10 +36,22 @@ pub enum Asked {
     Refused(Why),
 }
 
+fn is_known(kind: u64, method: u64) -> bool
+    ensures { λ r. ⌜ r ≡ truth (×-dec (decLt kind 3) (decLt method 4)) ⌝ }
+{
+    (kind < 3) & (method < 4)
+}
+
 fn in_time(times: Times, second: u64) -> bool
     ensures { λ r. ⌜ r ≡ truth (within? (times .first) (times .last) second) ⌝ }
 {
     (times.first <= second) & (second <= times.last)
+}
+
+fn has_layer(g: Grid, layer: u64) -> bool
+    ensures { λ r. ⌜ r ≡ truth (decLt layer (layers g)) ⌝ }
+{
+    layer < axes::nodes(g.heights)
 }
 
 fn shape_of(header: Header, kind: u64, layer: u64) -> Shape
@@ -69,10 +85,7 @@ pub fn ask(
 ) -> Asked
     ensures { λ r. ⌜ Answers (question header texts (six (now (tec .entry)) (now (rms .entry)) (now (height .entry)) (now (exponents .entry)) (now (epochs .entry)) (now (marks .entry))) kind method layer lat lon second) (told r) ⌝ }
 {
-    if 3 <= kind {
-        return Asked::Refused(Why::Unknown);
-    }
-    if 4 <= method {
+    if !is_known(kind, method) {
         return Asked::Refused(Why::Unknown);
     }
     if !sound::sound(header, texts, tec, rms, height, exponents, epochs, marks) {
@@ -85,10 +98,10 @@ pub fn ask(
     if !in_time(header.times, second) {
         return Asked::Refused(Why::OutOfTime);
     }
-    let s = shape_of(header, kind, layer);
-    if s.layers <= layer {
+    if !has_layer(header.grid, layer) {
         return Asked::Refused(Why::OutOfPlace);
     }
+    let s = shape_of(header, kind, layer);
     let shares = ask_spans::shares_of(&epochs[..maps], second, sun::maps_by(method));
     match sun::cells_at(
         header.grid,

@@ -9,9 +9,9 @@ ghost use Rattle.ask.specs.Sun.{in-time, unit-of, moved, lon-at, Serves}
 ghost use Rattle.ask.specs.Turned.{CanAsk, PairFound};
 use ask_cells::Cell;
 use ask_cells::Found;
+use ask_spans::Shares;
 use mapset::Axis;
 use mapset::Grid;
-use ask_spans::Shares;
 
 // The cells of the two maps.
 pub enum Pair {

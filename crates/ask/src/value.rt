@@ -1,10 +1,11 @@
 // The weighted mean of the nodes, rounded once, in the unit of its kind.
 ghost use mathlib.Core.Path.{_≡_};
 ghost use Prim.Native.Nat.{_<_};
+ghost use Rattle.ask_round.specs.Round.{rounded};
 ghost use Rattle.ask_nodes.specs.Value.{kind-of};
 ghost use Rattle.ask_sums.specs.Mean.{spread, terms, weight, mean};
-ghost use Rattle.ask_sums.specs.Sums.{Summable, Ready, summed};
-ghost use Rattle.ask.specs.Ask.{in-told, of-kind, told};
+ghost use Rattle.ask_sums.specs.Sums.{Summable, Fits, Ready};
+ghost use Rattle.ask.specs.Ask.{in-told, of-kind, told, told-sum};
 use super::Asked;
 use super::Why;
 use ask_cells::Cell;
@@ -14,21 +15,23 @@ use ask_nodes::Shape;
 use ask_spans::Shares;
 use ask_sums::Sum;
 
-// What a sum comes to, in the kind's unit.
-fn mean_of(kind: u64, sum: Sum) -> Asked
+// The one rounding.
+fn nearest(total: i64, weights: u64) -> i32
+    requires { ⌜ Fits total weights 0 × (0 < weights) ⌝ }
+    ensures { λ r. ⌜ r ≡ rounded total weights ⌝ }
+{
+    ask_round::round_half_away(total, weights) as i32
+}
+
+// What a sum comes to, in its unit.
+fn mean_of(sum: Sum) -> Asked
     requires { ⌜ Ready sum ⌝ }
-    ensures { λ r. ⌜ told r ≡ in-told (kind-of kind) (summed sum) ⌝ }
+    ensures { λ r. ⌜ told r ≡ told-sum sum ⌝ }
 {
     match sum {
+        Sum::Tecu(total, weights) => Asked::Tecu(MilliTecu(nearest(total, weights))),
+        Sum::Km(total, weights) => Asked::Km(MilliKm(nearest(total, weights))),
         Sum::Lacks => Asked::Refused(Why::NoValue),
-        Sum::Of(total, weights) => {
-            let mean = ask_round::round_half_away(total, weights) as i32;
-            if kind < 2 {
-                Asked::Tecu(MilliTecu(mean))
-            } else {
-                Asked::Km(MilliKm(mean))
-            }
-        }
     }
 }
 
@@ -44,10 +47,7 @@ fn value_of(
     requires { ⌜ Summable (now values) (now exponents) (now marks) s shares first second × (0 < weight (terms s (now values) (now exponents) (now marks) (spread shares first second))) ⌝ }
     ensures { λ r. ⌜ told r ≡ in-told (kind-of (s .kind)) (mean (terms s (now (values .entry)) (now (exponents .entry)) (now (marks .entry)) (spread shares first second))) ⌝ }
 {
-    mean_of(
-        s.kind,
-        ask_sums::sum_of(shares, first, second, s, values, exponents, marks),
-    )
+    mean_of(ask_sums::sum_of(shares, first, second, s, values, exponents, marks))
 }
 
 // The value in the area of the kind that is asked for.

@@ -1,4 +1,4 @@
--- A sum node by node is the sum of the list, and what it comes to is the mean.
+-- A sum node by node is the sum of the list, in the kind's unit.
 use mathlib.Core.Path.{_≡_, refl, sym, ap, ap₂, _∙_}
 use mathlib.Core.Logic.{inl, inr, ⊎-elim}
 use mathlib.Core.List.{List, [], _∷_, _++_}
@@ -6,24 +6,25 @@ use mathlib.Core.Option.{Option, none, some}
 use Prim.Native.Nat.{ℕ, zero, suc, _+_, _-_, _≤_, _<_}
 use native.Mathlib.Nat.{mul-le-mul, le-refl, zero-add, add-assoc}
 use native.Mathlib.Omega.{arith}
-use lib.IntN.{ℤ, pos, _+ℤ_, _*ℤ_, +ℤ-idr, +ℤ-idl, +ℤ-assoc, zero-*ℤ}
+use lib.IntN.{ℤ, pos, natAbs, _+ℤ_, _*ℤ_, +ℤ-idr, +ℤ-idl, +ℤ-assoc, zero-*ℤ}
 use lib.ListN.{length, getD, drop}
 use lib.Seq.{drop-cons}
 use native.Mathlib.Numerals.{add-one}
 use Rattle.kit.proofs.Parts.{abs-add-scaled}
 use Rattle.kit.specs.Answer.{All}
-use Rattle.kit.proofs.AnswerLaws.{pick-elim}
 use Rattle.mapset.specs.declared.Kind.{Kind}
-use Rattle.ask_nodes.specs.Value.{value}
+use Rattle.mapset.specs.declared.Kind.the-variants.{Tec as tec, Rms as rms, Height as height}
+use Rattle.ask_nodes.specs.Value.{kind-of, value}
 use Rattle.ask_nodes.specs.Nodes.{in-node, Small, or-zero, corner, bare}
 use Rattle.ask_nodes.proofs.NodeLaws.{small-value, bare-node}
-use Rattle.ask_sums.specs.Mean.{Term, Valued, valued?, mean, corners, spread, terms, weighted, weight}
-use Rattle.ask_sums.specs.Sums.{add-value, add-all, Room, Ready, summed}
+use Rattle.ask_sums.specs.Mean.{Term, Valued, valued?, corners, spread, terms, weighted, weight}
+use Rattle.ask_sums.specs.Sums.{in-sum, add-node, add-value, add-all, Fits, Room, Ready}
 use Rattle.ask_cells.specs.declared.Cell.{Cell}
 use Rattle.ask_spans.specs.declared.Shares.{Shares}
 use Rattle.ask_nodes.specs.declared.Shape.{Shape}
 use Rattle.ask_nodes.specs.declared.Weighed.{Weighed}
 use Rattle.ask_nodes.specs.declared.Node.{Node}
+use Rattle.ask_nodes.specs.declared.Node.the-variants as N
 use Rattle.ask_sums.specs.declared.Sum.{Sum}
 use Rattle.ask_sums.specs.declared.Sum.the-variants as S
 
@@ -32,66 +33,76 @@ pub small-node : {n : Node} (k : Kind) (o : Option ℤ) → n ≡ in-node k o �
 small-node k o e h = rw (ap bare e ∙ bare-node k o) h
 
 -- ---- one node more
-pub add-weightless : (s : Sum) (w : ℕ) (o : Option ℤ) → w ≡ 0 → s ≡ add-value s w o
-add-weightless s zero o e = refl
-add-weightless s (suc w) o e = absurd (omega arith)
+pub add-weightless : (k : Kind) (s : Sum) (w : ℕ) (o : Option ℤ) → w ≡ 0 → s ≡ add-value k s w o
+add-weightless k s zero o e = refl
+add-weightless k s (suc w) o e = absurd (omega arith)
 
-pub add-lacks : (w : ℕ) (o : Option ℤ) → add-value S.Lacks w o ≡ S.Lacks
-add-lacks zero o = refl
-add-lacks (suc w) o = refl
+pub add-needed : (k : Kind) (s : Sum) (w : ℕ) (o : Option ℤ) → 0 < w → add-node s w (in-node k o) ≡ add-value k s w o
+add-needed k s zero o h = absurd (omega arith)
+add-needed k s (suc w) o h = refl
 
-pub add-none : (t : ℤ) (u w : ℕ) → 0 < w → add-value (S.Of t u) w none ≡ S.Lacks
-add-none t u zero h = absurd (omega arith)
-add-none t u (suc w) h = refl
+add-lacks : (k : Kind) (w : ℕ) (o : Option ℤ) → add-value k S.Lacks w o ≡ S.Lacks
+add-lacks k zero o = refl
+add-lacks k (suc w) o = refl
 
-pub add-some : (t : ℤ) (u w : ℕ) (v : ℤ) → 0 < w → add-value (S.Of t u) w (some v) ≡ S.Of (t +ℤ pos w *ℤ v) (u + w)
-add-some t u zero v h = absurd (omega arith)
-add-some t u (suc w) v h = refl
+add-none : (k : Kind) (t : ℤ) (u w : ℕ) → add-value k (in-sum k t u) (suc w) none ≡ S.Lacks
+add-none tec t u w = refl
+add-none rms t u w = refl
+add-none height t u w = refl
+
+-- the unit stays
+add-some : (k : Kind) (t : ℤ) (u w : ℕ) (v : ℤ) → add-value k (in-sum k t u) (suc w) (some v) ≡ in-sum k (t +ℤ pos (suc w) *ℤ v) (u + suc w)
+add-some tec t u w v = refl
+add-some rms t u w v = refl
+add-some height t u w v = refl
 
 -- ---- there is room for the rest
-pub room-add : (s : Sum) (w : ℕ) (o : Option ℤ) (k : ℕ) → Room s (w + k) → Small o → Room (add-value s w o) k
-room-add S.Lacks zero o k h r = omega arith
-room-add S.Lacks (suc w) o k h r = omega arith
-room-add (S.Of t u) zero o k h r = omega arith
-room-add (S.Of t u) (suc w) none k h r = omega arith
-room-add (S.Of t u) (suc w) (some v) k h r = (omega (arith, abs-add-scaled t (suc w) v, mul-le-mul (le-refl (suc w)) r), omega arith)
+fits-add : (t : ℤ) (u w : ℕ) (v : ℤ) (k : ℕ) → Fits t u (w + k) → natAbs v ≤ 99_999_000 → Fits (t +ℤ pos w *ℤ v) (u + w) k
+fits-add t u w v k h r = (omega (arith, abs-add-scaled t w v, mul-le-mul (le-refl w) r), omega arith)
+
+room-node : (s : Sum) (w : ℕ) (n : Node) (k : ℕ) → Room s (w + k) → Small (bare n) → Room (add-node s w n) k
+room-node S.Lacks w n k h r = omega arith
+room-node (S.Tecu t u) w N.Nothing k h r = omega arith
+room-node (S.Tecu t u) w (N.Tecu v) k h r = fits-add t u w (v .0) k h r
+room-node (S.Tecu t u) w (N.Km v) k h r = omega arith
+room-node (S.Km t u) w N.Nothing k h r = omega arith
+room-node (S.Km t u) w (N.Tecu v) k h r = omega arith
+room-node (S.Km t u) w (N.Km v) k h r = fits-add t u w (v .0) k h r
+
+pub room-add : (kind : Kind) (s : Sum) (w : ℕ) (o : Option ℤ) (k : ℕ) → Room s (w + k) → Small o → Room (add-value kind s w o) k
+room-add kind s zero o k h r = rw (zero-add k) at h
+room-add kind s (suc w) o k h r = room-node s (suc w) (in-node kind o) k h (rw (bare-node kind o) r)
 
 pub room-less : (s : Sum) (w k : ℕ) → Room s (w + k) → Room s w
 room-less S.Lacks w k h = omega arith
-room-less (S.Of t u) w k h = omega arith
+room-less (S.Tecu t u) w k h = omega arith
+room-less (S.Km t u) w k h = omega arith
 
 -- ---- the whole list
-all-lacks : (ts : List Term) → add-all S.Lacks ts ≡ S.Lacks
+all-lacks : (k : Kind) (ts : List Term) → add-all k S.Lacks ts ≡ S.Lacks
 unfolding add-all
-all-lacks [] = refl
-all-lacks (t ∷ ts) = rw (add-lacks (t .0) (t .1)) (all-lacks ts)
+all-lacks k [] = refl
+all-lacks k (t ∷ ts) = rw (add-lacks k (t .0) (t .1)) (all-lacks k ts)
 
-valued-sum : (ts : List Term) → Valued ts → (t : ℤ) (u : ℕ) → add-all (S.Of t u) ts ≡ S.Of (t +ℤ weighted ts) (u + weight ts)
+pub valued-sum : (k : Kind) (ts : List Term) → Valued ts → (t : ℤ) (u : ℕ) → add-all k (in-sum k t u) ts ≡ in-sum k (t +ℤ weighted ts) (u + weight ts)
 unfolding add-all weighted weight
-valued-sum [] a t u = ap₂ S.Of (sym (+ℤ-idr t)) (omega arith)
-valued-sum ((zero, o) ∷ ts) a t u = rw (zero-*ℤ (or-zero o), +ℤ-idl (weighted ts), zero-add) (valued-sum ts (a .1) t u)
-valued-sum ((suc w, none) ∷ ts) a t u = absurd (⊎-elim (λ e. omega arith) (λ i. i) (a .0))
-valued-sum ((suc w, some v) ∷ ts) a t u = rw (← +ℤ-assoc t (pos (suc w) *ℤ v) (weighted ts), ← add-assoc u (suc w) (weight ts)) (valued-sum ts (a .1) (t +ℤ pos (suc w) *ℤ v) (u + suc w))
+valued-sum k [] a t u = ap₂ (in-sum k) (sym (+ℤ-idr t)) (omega arith)
+valued-sum k ((zero, o) ∷ ts) a t u = rw (zero-*ℤ (or-zero o), +ℤ-idl (weighted ts), zero-add) (valued-sum k ts (a .1) t u)
+valued-sum k ((suc w, none) ∷ ts) a t u = absurd (⊎-elim (λ e. omega arith) (λ i. i) (a .0))
+valued-sum k ((suc w, some v) ∷ ts) a t u = rw (add-some k t u w v, ← +ℤ-assoc t (pos (suc w) *ℤ v) (weighted ts), ← add-assoc u (suc w) (weight ts)) (valued-sum k ts (a .1) (t +ℤ pos (suc w) *ℤ v) (u + suc w))
 
 -- a list that has a needed node without a value lacks it, whatever the sum
-lacking-sum : (ts : List Term) → ¬ Valued ts → (t : ℤ) (u : ℕ) → add-all (S.Of t u) ts ≡ S.Lacks
+pub lacking-sum : (k : Kind) (ts : List Term) → ¬ Valued ts → (t : ℤ) (u : ℕ) → add-all k (in-sum k t u) ts ≡ S.Lacks
 unfolding add-all
-lacking-sum [] n t u = absurd (n tt)
-lacking-sum ((zero, o) ∷ ts) n t u = lacking-sum ts (λ a. n (inl refl, a)) t u
-lacking-sum ((suc w, none) ∷ ts) n t u = all-lacks ts
-lacking-sum ((suc w, some v) ∷ ts) n t u = lacking-sum ts (λ a. n (inr tt, a)) (t +ℤ pos (suc w) *ℤ v) (u + suc w)
+lacking-sum k [] n t u = absurd (n tt)
+lacking-sum k ((zero, o) ∷ ts) n t u = lacking-sum k ts (λ a. n (inl refl, a)) t u
+lacking-sum k ((suc w, none) ∷ ts) n t u = rw (add-none k t u w) (all-lacks k ts)
+lacking-sum k ((suc w, some v) ∷ ts) n t u = rw (add-some k t u w v) (lacking-sum k ts (λ a. n (inr tt, a)) (t +ℤ pos (suc w) *ℤ v) (u + suc w))
 
-pub summed-mean : (ts : List Term) → summed (add-all (S.Of (pos 0) 0) ts) ≡ mean ts
-unfolding mean
-summed-mean ts =
-    pick-elim (λ (o : Option ℤ). summed (add-all (S.Of (pos 0) 0) ts) ≡ o) (valued? ts)
-    (λ a. rw (valued-sum ts a (pos 0) 0, +ℤ-idl (weighted ts), zero-add) refl)
-    (λ n. rw (lacking-sum ts n (pos 0) 0) refl)
-
-room-all : (s : Sum) (ts : List Term) → Room s (weight ts) → All (λ (t : Term). Small (t .1)) ts → Room (add-all s ts) 0
+room-all : (k : Kind) (s : Sum) (ts : List Term) → Room s (weight ts) → All (λ (t : Term). Small (t .1)) ts → Room (add-all k s ts) 0
 unfolding add-all weight
-room-all s [] h a = rw (zero-add 0) h
-room-all s (t ∷ ts) h a = room-all (add-value s (t .0) (t .1)) ts (room-add s (t .0) (t .1) (weight ts) h (a .0)) (a .1)
+room-all k s [] h a = rw (zero-add 0) h
+room-all k s (t ∷ ts) h a = room-all k (add-value k s (t .0) (t .1)) ts (room-add k s (t .0) (t .1) (weight ts) h (a .0)) (a .1)
 
 -- ---- the list from an index on
 module _ (s : Shape) (vs ks : List ℤ) (ms : List ℕ) (ns : List Weighed) (d : Weighed) (k : ℕ) (h : k < length ns) where
@@ -106,11 +117,11 @@ module _ (s : Shape) (vs ks : List ℤ) (ms : List ℕ) (ns : List Weighed) (d :
   unfolding weight
   this-room t r = room-less t (this .weight) (weight (terms s vs ks ms (drop (k + 1) ns))) (rw split at r)
 
-  pub next-room : (t : Sum) → Room t (weight (terms s vs ks ms (drop k ns))) → Room (add-value t (this .weight) (value s vs ks ms this)) (weight (terms s vs ks ms (drop (k + 1) ns)))
+  pub next-room : (t : Sum) → Room t (weight (terms s vs ks ms (drop k ns))) → Room (add-value (kind-of (s .kind)) t (this .weight) (value s vs ks ms this)) (weight (terms s vs ks ms (drop (k + 1) ns)))
   unfolding weight
-  next-room t r = room-add t (this .weight) (value s vs ks ms this) (weight (terms s vs ks ms (drop (k + 1) ns))) (rw split at r) (small-value s vs ks ms this)
+  next-room t r = room-add (kind-of (s .kind)) t (this .weight) (value s vs ks ms this) (weight (terms s vs ks ms (drop (k + 1) ns))) (rw split at r) (small-value s vs ks ms this)
 
-  pub next-sum : (t : Sum) → add-all (add-value t (this .weight) (value s vs ks ms this)) (terms s vs ks ms (drop (k + 1) ns)) ≡ add-all t (terms s vs ks ms (drop k ns))
+  pub next-sum : (t : Sum) → add-all (kind-of (s .kind)) (add-value (kind-of (s .kind)) t (this .weight) (value s vs ks ms this)) (terms s vs ks ms (drop (k + 1) ns)) ≡ add-all (kind-of (s .kind)) t (terms s vs ks ms (drop k ns))
   unfolding add-all
   next-sum t = rw split refl
 
@@ -145,15 +156,36 @@ unfolding terms
 small-terms s vs ks ms [] = tt
 small-terms s vs ks ms (n ∷ ns) = (small-value s vs ks ms n, small-terms s vs ks ms ns)
 
-ready-sum : (ts : List Term) → 0 < weight ts → weight ts ≤ 64_800_000_000 → All (λ (t : Term). Small (t .1)) ts → Ready (add-all (S.Of (pos 0) 0) ts)
-ready-sum ts h w a = by (valued? ts) (room-all (S.Of (pos 0) 0) ts (omega arith, omega arith) a)
-  where
-    by : Dec (Valued ts) → Room (add-all (S.Of (pos 0) 0) ts) 0 → Ready (add-all (S.Of (pos 0) 0) ts)
-    by (yes v) r =
-        let e = valued-sum ts v (pos 0) 0 in
-        let k : Room (S.Of (pos 0 +ℤ weighted ts) (0 + weight ts)) 0 = rw e at r in
-        rw e (k .0, omega arith, omega arith)
-    by (no n) r = rw (lacking-sum ts n (pos 0) 0) tt
+pub start-room : (k : Kind) (w : ℕ) → w ≤ 64_800_000_000 → Room (in-sum k (pos 0) 0) w
+start-room tec w h = omega arith
+start-room rms w h = omega arith
+start-room height w h = omega arith
 
-pub ready-terms : (s : Shape) (vs ks : List ℤ) (ms : List ℕ) (ns : List Weighed) → 0 < weight (terms s vs ks ms ns) → weight (terms s vs ks ms ns) ≤ 64_800_000_000 → Ready (add-all (S.Of (pos 0) 0) (terms s vs ks ms ns))
-ready-terms s vs ks ms ns h w = ready-sum (terms s vs ks ms ns) h w (small-terms s vs ks ms ns)
+ready-in : (k : Kind) (t : ℤ) (u : ℕ) → Room (in-sum k t u) 0 → 0 < u → Ready (in-sum k t u)
+ready-in tec t u r h = (r, h)
+ready-in rms t u r h = (r, h)
+ready-in height t u r h = (r, h)
+
+ready-sum : (k : Kind) (ts : List Term) → 0 < weight ts → weight ts ≤ 64_800_000_000 → All (λ (t : Term). Small (t .1)) ts → Ready (add-all k (in-sum k (pos 0) 0) ts)
+ready-sum k ts h w a = by (valued? ts) (room-all k (in-sum k (pos 0) 0) ts (start-room k (weight ts) w) a)
+  where
+    by : Dec (Valued ts) → Room (add-all k (in-sum k (pos 0) 0) ts) 0 → Ready (add-all k (in-sum k (pos 0) 0) ts)
+    by (yes v) r =
+        let e = valued-sum k ts v (pos 0) 0 in
+        let f : Room (in-sum k (pos 0 +ℤ weighted ts) (0 + weight ts)) 0 = rw e at r in
+        rw e (ready-in k _ _ f (omega arith))
+    by (no n) r = rw (lacking-sum k ts n (pos 0) 0) tt
+
+pub ready-terms : (s : Shape) (vs ks : List ℤ) (ms : List ℕ) (ns : List Weighed) → 0 < weight (terms s vs ks ms ns) → weight (terms s vs ks ms ns) ≤ 64_800_000_000 → Ready (add-all (kind-of (s .kind)) (in-sum (kind-of (s .kind)) (pos 0) 0) (terms s vs ks ms ns))
+ready-terms s vs ks ms ns h w = ready-sum (kind-of (s .kind)) (terms s vs ks ms ns) h w (small-terms s vs ks ms ns)
+
+-- ---- the sum of no nodes
+pub tecu-sum : (kind : ℕ) → kind < 2 → S.Tecu (pos 0) 0 ≡ in-sum (kind-of kind) (pos 0) 0
+tecu-sum zero h = refl
+tecu-sum (suc zero) h = refl
+tecu-sum (suc (suc k)) h = absurd (omega arith)
+
+pub km-sum : (kind : ℕ) → 2 ≤ kind → S.Km (pos 0) 0 ≡ in-sum (kind-of kind) (pos 0) 0
+km-sum zero h = absurd (omega arith)
+km-sum (suc zero) h = absurd (omega arith)
+km-sum (suc (suc k)) h = refl

@@ -6,14 +6,16 @@ use mathlib.Core.Option.{Option, none, some}
 use Prim.Native.Nat.{ℕ, zero, suc, _+_, _*_, _≤_, _<_}
 use lib.IntN.{ℤ, pos, natAbs, _+ℤ_, _*ℤ_}
 use Rattle.kit.specs.Answer.{All}
-use Rattle.ask_round.specs.Round.{rounded}
-use Rattle.ask_nodes.specs.Nodes.{Reached, Small, bare}
+use Rattle.mapset.specs.declared.Kind.{Kind}
+use Rattle.mapset.specs.declared.Kind.the-variants.{Tec as tec, Rms as rms, Height as height}
+use Rattle.ask_nodes.specs.Nodes.{Reached, Small, in-node, bare}
 use Rattle.ask_sums.specs.Mean.{spread, Term, terms, weight}
 use Rattle.ask_cells.specs.declared.Cell.{Cell}
 use Rattle.ask_spans.specs.declared.Shares.{Shares}
 use Rattle.ask_nodes.specs.declared.Weighed.{Weighed}
 use Rattle.ask_nodes.specs.declared.Shape.{Shape}
 use Rattle.ask_nodes.specs.declared.Node.{Node}
+use Rattle.ask_nodes.specs.declared.Node.the-variants as N
 use Rattle.ask_sums.specs.declared.Sum.{Sum}
 use Rattle.ask_sums.specs.declared.Sum.the-variants as S
 
@@ -40,32 +42,46 @@ pub record Summable (values exponents : List ℤ) (marks : List ℕ) (s : Shape)
   pub weights : weight (terms s values exponents marks (spread h first second)) ≤ 64_800_000_000
 
 -- ---- sums
-abbrev pub add-value : Sum → ℕ → Option ℤ → Sum
-add-value s zero o = s
-add-value S.Lacks (suc w) o = S.Lacks
-add-value (S.Of t u) (suc w) none = S.Lacks
-add-value (S.Of t u) (suc w) (some v) = S.Of (t +ℤ pos (suc w) *ℤ v) (u + suc w)
 
-abbrev pub add-term : Sum → ℕ → Node → Sum
-add-term s w n = add-value s w (bare n)
+-- in the kind's unit
+abbrev pub in-sum : Kind → ℤ → ℕ → Sum
+in-sum tec t u = S.Tecu t u
+in-sum rms t u = S.Tecu t u
+in-sum height t u = S.Km t u
 
-unfoldable pub add-all : Sum → List Term → Sum
-add-all s [] = s
-add-all s (t ∷ ts) = add-all (add-value s (t .0) (t .1)) ts
+-- a node more: in the same unit, else the sum has no value
+abbrev pub add-node : Sum → ℕ → Node → Sum
+add-node S.Lacks w n = S.Lacks
+add-node (S.Tecu t u) w N.Nothing = S.Lacks
+add-node (S.Tecu t u) w (N.Tecu v) = S.Tecu (t +ℤ pos w *ℤ v .0) (u + w)
+add-node (S.Tecu t u) w (N.Km v) = S.Lacks
+add-node (S.Km t u) w N.Nothing = S.Lacks
+add-node (S.Km t u) w (N.Tecu v) = S.Lacks
+add-node (S.Km t u) w (N.Km v) = S.Km (t +ℤ pos w *ℤ v .0) (u + w)
+
+-- a node of a kind with its weight: needed where that is not zero
+abbrev pub add-value : Kind → Sum → ℕ → Option ℤ → Sum
+add-value k s zero o = s
+add-value k s (suc w) o = add-node s (suc w) (in-node k o)
+
+unfoldable pub add-all : Kind → Sum → List Term → Sum
+add-all k s [] = s
+add-all k s (t ∷ ts) = add-all k (add-value k s (t .0) (t .1)) ts
 
 -- the sum is no larger than its weight allows, and there is room for the weight w
+abbrev pub Fits : ℤ → ℕ → ℕ → Type 0
+Fits t u w = (natAbs t ≤ u * 99_999_000) × (u + w ≤ 64_800_000_000)
+
 abbrev pub Room : Sum → ℕ → Type 0
 Room S.Lacks w = w ≤ 64_800_000_000
-Room (S.Of t u) w = (natAbs t ≤ u * 99_999_000) × (u + w ≤ 64_800_000_000)
+Room (S.Tecu t u) w = Fits t u w
+Room (S.Km t u) w = Fits t u w
 
 abbrev pub InRange : Node → Type 0
 InRange n = Small (bare n)
 
+-- a sum that has weight
 abbrev pub Ready : Sum → Type 0
 Ready S.Lacks = Unit {0}
-Ready (S.Of t u) = (natAbs t ≤ u * 99_999_000) × (0 < u) × (u ≤ 64_800_000_000)
-
--- what a sum comes to
-abbrev pub summed : Sum → Option ℤ
-summed S.Lacks = none
-summed (S.Of t u) = some (rounded t u)
+Ready (S.Tecu t u) = Fits t u 0 × (0 < u)
+Ready (S.Km t u) = Fits t u 0 × (0 < u)

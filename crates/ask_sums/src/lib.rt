@@ -1,51 +1,75 @@
 // The nodes that a question looks at with their weights, and the weighted sum.
 ghost use mathlib.Core.Path.{_≡_};
-ghost use Prim.Native.Nat.{_+_, _*_, _≤_, _<_};
-ghost use lib.IntN.{pos, natAbs, _+ℤ_, _*ℤ_};
+ghost use Prim.Native.Nat.{_*_, _≤_, _<_};
+ghost use lib.IntN.{pos};
 ghost use lib.ListN.{getD};
 ghost use Rattle.ask_nodes.specs.Nodes.{corner};
-ghost use Rattle.ask_nodes.specs.Value.{value};
+ghost use Rattle.ask_nodes.specs.Value.{kind-of, value};
 ghost use Rattle.ask_sums.specs.Mean.{corners, spread, terms};
-ghost use Rattle.ask_sums.specs.Sums.{Reaches, Shared, Summable, Room, InRange, add-value, add-term, add-all};
+ghost use Rattle.ask_sums.specs.Sums.{Reaches, Shared, Summable, Room, InRange, in-sum, add-node, add-value, add-all};
 use ask_cells::Cell;
 use ask_nodes::Node;
 use ask_nodes::Shape;
 use ask_nodes::Weighed;
 use ask_spans::Shares;
 
-// What the nodes so far come to: the weighted sum and the sum of the weights, or that a needed node has no value.
+// What the nodes so far come to: the weighted sum in thousandths of its unit and the sum of the weights, or that a needed node has no
+// value. A unit is never added to the other.
 pub enum Sum {
-    Of(i64, u64),
+    Tecu(i64, u64),
+    Km(i64, u64),
     Lacks,
 }
 
-// The sum with weight times v.
-fn plus(total: i64, weights: u64, weight: u64, v: i32) -> Sum
-    requires { ⌜ Room (Sum.Of total weights) weight × (natAbs v ≤ 99_999_000) ⌝ }
-    ensures { λ r. ⌜ r ≡ Sum.Of (total +ℤ pos weight *ℤ v) (weights + weight) ⌝ }
+// The sum of no nodes, in the kind's unit.
+fn empty(kind: u64) -> Sum
+    ensures { λ r. ⌜ r ≡ in-sum (kind-of kind) (pos 0) 0 ⌝ }
 {
-    Sum::Of(ask_round::mul_add(total, weight, v), weights + weight)
+    if kind < 2 {
+        Sum::Tecu(0, 0)
+    } else {
+        Sum::Km(0, 0)
+    }
+}
+
+fn add_tecu(total: i64, weights: u64, weight: u64, n: Node) -> Sum
+    requires { ⌜ Room (Sum.Tecu total weights) weight × InRange n ⌝ }
+    ensures { λ r. ⌜ r ≡ add-node (Sum.Tecu total weights) weight n ⌝ }
+{
+    match n {
+        Node::Tecu(v) => Sum::Tecu(ask_round::mul_add(total, weight, v.0), weights + weight),
+        Node::Km(v) => Sum::Lacks,
+        Node::Nothing => Sum::Lacks,
+    }
+}
+
+fn add_km(total: i64, weights: u64, weight: u64, n: Node) -> Sum
+    requires { ⌜ Room (Sum.Km total weights) weight × InRange n ⌝ }
+    ensures { λ r. ⌜ r ≡ add-node (Sum.Km total weights) weight n ⌝ }
+{
+    match n {
+        Node::Tecu(v) => Sum::Lacks,
+        Node::Km(v) => Sum::Km(ask_round::mul_add(total, weight, v.0), weights + weight),
+        Node::Nothing => Sum::Lacks,
+    }
 }
 
 // The sum with a needed node.
 fn add(sum: Sum, weight: u64, n: Node) -> Sum
-    requires { ⌜ Room sum weight × InRange n × (0 < weight) ⌝ }
-    ensures { λ r. ⌜ r ≡ add-term sum weight n ⌝ }
+    requires { ⌜ Room sum weight × InRange n ⌝ }
+    ensures { λ r. ⌜ r ≡ add-node sum weight n ⌝ }
 {
     match sum {
+        Sum::Tecu(total, weights) => add_tecu(total, weights, weight, n),
+        Sum::Km(total, weights) => add_km(total, weights, weight, n),
         Sum::Lacks => Sum::Lacks,
-        Sum::Of(total, weights) => match n {
-            Node::Nothing => Sum::Lacks,
-            Node::Tecu(v) => plus(total, weights, weight, v.0),
-            Node::Km(v) => plus(total, weights, weight, v.0),
-        },
     }
 }
 
 // The sum with a node, which is looked at where its weight is not zero.
 fn term(sum: Sum, n: Weighed, s: Shape, values: &[i32], exponents: &[i32], marks: &[u8]) -> Sum
     requires { ⌜ Room sum (n .weight) × Reaches (now values) (now exponents) (now marks) s n ⌝ }
-    ensures { λ r. ⌜ r ≡ add-value sum (n .weight) (value s (now (values .entry)) (now (exponents .entry)) (now (marks .entry)) n) ⌝ }
+    ensures { λ r. ⌜ r ≡ add-value (kind-of (s .kind)) sum (n .weight) (value s (now (values .entry)) (now (exponents .entry)) (now (marks .entry)) n) ⌝ }
 {
     if n.weight == 0 {
         return sum;
@@ -112,9 +136,9 @@ pub fn sum_of(
     marks: &[u8],
 ) -> Sum
     requires { ⌜ Summable (now values) (now exponents) (now marks) s shares first second ⌝ }
-    ensures { λ r. ⌜ r ≡ add-all (Sum.Of (pos 0) 0) (terms s (now (values .entry)) (now (exponents .entry)) (now (marks .entry)) (spread shares first second)) ⌝ }
+    ensures { λ r. ⌜ r ≡ add-all (kind-of (s .kind)) (in-sum (kind-of (s .kind)) (pos 0) 0) (terms s (now (values .entry)) (now (exponents .entry)) (now (marks .entry)) (spread shares first second)) ⌝ }
 {
-    let mut sum = Sum::Of(0, 0);
+    let mut sum = empty(s.kind);
     let mut k: u64 = 0;
     while k < 8 {
         sum = term(

@@ -1,4 +1,5 @@
 -- `ask_sums::sum_of` meets its contract.
+use borrow.Author.Needs.{needs}
 use mathlib.Core.Path.{_≡_, refl, ap, _∙_}
 use native.Mathlib.Omega.{arith}
 use Prim.Native.Nat.{_-_, _≤_, _<_}
@@ -6,11 +7,10 @@ use lib.IntN.{pos}
 use lib.ListN.{length, drop, getD, drop-of-length-le}
 use denote.Ref.{now}
 use Rattle.kit.proofs.ListLaws.{all-in}
-use Rattle.ask_nodes.specs.Value.{value}
+use Rattle.ask_nodes.specs.Value.{kind-of, value}
 use Rattle.ask_sums.specs.Mean.{spread, terms, weight}
-use Rattle.ask_sums.specs.Sums.{Reaches, Room, add-value, add-all}
-use Rattle.ask_sums.proofs.SumLaws.{this-room, next-room, next-sum, eight-nodes}
-use Rattle.ask_sums.specs.declared.Sum.the-variants as S
+use Rattle.ask_sums.specs.Sums.{Reaches, Room, in-sum, add-value, add-all}
+use Rattle.ask_sums.proofs.SumLaws.{this-room, next-room, next-sum, start-room, eight-nodes}
 use Rattle.ask_nodes.specs.declared.Weighed.{Weighed}
 use Rattle.ask_nodes.specs.Nodes.{corner}
 use Rattle.ask_sums.proofs.sum_of.Statement.{statement}
@@ -19,21 +19,24 @@ use Rattle.ask_sums.proofs.sum_of.Tie as tie
 abbrev Inv-loop : tie.InvT-loop
 Inv-loop shares first second s values exponents marks sum₀ k₀ sum k =
     (k ≤ 8) × Room sum (weight (terms s values exponents marks (drop k (spread shares first second))))
-    × (add-all sum (terms s values exponents marks (drop k (spread shares first second))) ≡ add-all (S.Of (pos 0) 0) (terms s values exponents marks (spread shares first second)))
+    × (add-all (kind-of (s .kind)) sum (terms s values exponents marks (drop k (spread shares first second))) ≡ add-all (kind-of (s .kind)) (in-sum (kind-of (s .kind)) (pos 0) 0) (terms s values exponents marks (spread shares first second)))
 
 abbrev μ-loop : tie.MeasureT-loop
 μ-loop shares first second s values exponents marks sum₀ k₀ sum k = 8 - k
 
 loop-holds : tie.Need-loop-holds Inv-loop μ-loop
-loop-holds c = (omega arith, (omega arith, omega (arith, c .before .pre .weights)), refl)
+loop-holds c = rw (c .empty .ensures) (omega arith, start-room (kind-of (c .before .before .args .s .kind)) _ (c .before .before .pre .weights), refl)
+
+empty-requires : tie.Need-empty-requires Inv-loop μ-loop
+empty-requires c κs = search needs
 
 nth-node-requires : tie.Need-nth-node-requires Inv-loop μ-loop
-nth-node-requires c κs = let p = c .before .before .before .pre in (p .early, p .late, p .map, omega arith)
+nth-node-requires c κs = let p = c .before .before .before .before .pre in (p .early, p .late, p .map, omega arith)
 
 term-requires : tie.Need-term-requires Inv-loop μ-loop
 term-requires c κs =
     let l = c .before .before in
-    let s = l .before .before in
+    let s = l .before .before .before in
     let a = s .args in
     let h : l .loop .k < length (spread (a .shares) (a .first) (a .second)) = omega (arith, eight-nodes (a .shares) (a .first) (a .second)) in
     rw (c .nth-node .ensures) (
@@ -50,12 +53,12 @@ loop-less c = omega arith
 loop-again : tie.Need-loop-again Inv-loop μ-loop
 loop-again c =
     let l = c .before .before .before in
-    let s = l .before .before in
+    let s = l .before .before .before in
     let a = s .args in
     let ns = spread (a .shares) (a .first) (a .second) in
     let h : l .loop .k < length ns = omega (arith, eight-nodes (a .shares) (a .first) (a .second)) in
-    let t : c .term .result ≡ add-value (l .loop .sum) (getD ns (l .loop .k) (corner 0 0 0 0) .weight) (value (a .s) (now (a .values)) (now (a .exponents)) (now (a .marks)) (getD ns (l .loop .k) (corner 0 0 0 0))) =
-    c .term .ensures ∙ ap (λ (n : Weighed). add-value (l .loop .sum) (n .weight) (value (a .s) (now (a .values)) (now (a .exponents)) (now (a .marks)) n)) (c .before .nth-node .ensures) in (
+    let t : c .term .result ≡ add-value (kind-of (a .s .kind)) (l .loop .sum) (getD ns (l .loop .k) (corner 0 0 0 0) .weight) (value (a .s) (now (a .values)) (now (a .exponents)) (now (a .marks)) (getD ns (l .loop .k) (corner 0 0 0 0))) =
+    c .term .ensures ∙ ap (λ (n : Weighed). add-value (kind-of (a .s .kind)) (l .loop .sum) (n .weight) (value (a .s) (now (a .values)) (now (a .exponents)) (now (a .marks)) n)) (c .before .nth-node .ensures) in (
       omega arith,
       rw t (next-room (a .s) (now (a .values)) (now (a .exponents)) (now (a .marks)) ns (corner 0 0 0 0) (l .loop .k) h (l .loop .sum) (l .loop .inv .1)),
       rw t (next-sum (a .s) (now (a .values)) (now (a .exponents)) (now (a .marks)) ns (corner 0 0 0 0) (l .loop .k) h (l .loop .sum)) ∙ l .loop .inv .2,
@@ -65,7 +68,7 @@ returns : tie.Need-returns Inv-loop μ-loop
 unfolding add-all terms
 returns c =
     let l = c .before in
-    let a = l .before .before .args in
+    let a = l .before .before .before .args in
     let e : length (spread (a .shares) (a .first) (a .second)) ≤ l .loop .k = omega (arith, eight-nodes (a .shares) (a .first) (a .second)) in
     rw (drop-of-length-le (spread (a .shares) (a .first) (a .second)) e) at (l .loop .inv .2)
 
@@ -75,6 +78,7 @@ sum-of-spec =
     (tie.spec
     Inv-loop
     μ-loop
+    empty-requires
     loop-holds
     nth-node-requires
     term-requires

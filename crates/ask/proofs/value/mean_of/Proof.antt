@@ -1,70 +1,59 @@
 -- `ask::value::mean_of` meets its contract.
 use borrow.Author.Needs.{needs}
 use mathlib.Core.Path.{_≡_, refl, ap, _∙_}
-use native.Mathlib.Omega.{arith}
-use Prim.Native.Nat.{ℕ}
 use lib.IntN.{ℤ}
 use mir.Syntax.{w32, w64}
-use mir.Val.{toZ, ofZ, SFits}
-use mir.Facts.{toZ-ofZ}
-use Rattle.kit.proofs.Parts.{size-fits}
+use mir.Val.{toZ, ofZ}
 use Rattle.ask_round.specs.Round.{rounded}
-use Rattle.ask_round.proofs.RoundLaws.{round-size}
-use Rattle.ask_sums.specs.Sums.{Ready}
-use Rattle.ask.proofs.MeanLaws.{tecu-unit, km-unit}
-use Rattle.ask_sums.specs.declared.Sum.the-variants as S
+use Rattle.ask.specs.Ask.{tecu, km}
 use Rattle.ask.proofs.value.mean_of.Statement.{statement}
 use Rattle.ask.proofs.value.mean_of.Tie as tie
 
-module _ (c : tie.After-known-told) where
-  abbrev total : ℤ
-  total = c .before .sum .given .0 .0
+back-tecu : (k : tie.After-known-told) → toZ w64 (ofZ w64 (k .before .sum .given .0 .0)) ≡ k .before .sum .given .0 .0
+back-tecu k = search needs
 
-  abbrev weights : ℕ
-  weights = c .before .sum .given .0 .1 .0
+nearest-requires : tie.Need-nearest-requires
+nearest-requires c κs = rw (back-tecu c) (rw (c .before .sum .given .1) at (c .before .before .before .pre))
 
-  back : toZ w64 (ofZ w64 total) ≡ total
-  back = search needs
+returns : tie.Need-returns
+returns c =
+    let k = c .before in
+    let r : toZ w32 (ofZ w32 (c .nearest .result)) ≡ c .nearest .result = search needs in
+    rw (k .before .sum .given .1) (ap tecu (r ∙ c .nearest .ensures ∙ ap (λ (z : ℤ). rounded z (k .before .sum .given .0 .1 .0)) (back-tecu k)))
 
-  is-ready : Ready (S.Of total weights)
-  is-ready = rw (c .before .sum .given .1) at (c .before .before .before .pre)
+back-km : (k : tie.After-known-told2) → toZ w64 (ofZ w64 (k .before .sum2 .given .0 .0)) ≡ k .before .sum2 .given .0 .0
+back-km k = search needs
 
-module _ (c : tie.After-round-half-away) where
-  there : toZ w64 (ofZ w64 (c .round-half-away .result)) ≡ rounded (total (c .before)) (weights (c .before))
-  there = (search needs) ∙ c .round-half-away .ensures ∙ ap (λ (z : ℤ). rounded z (weights (c .before))) (back (c .before))
+nearest-requires-2 : tie.Need-nearest-requires-2
+nearest-requires-2 c κs = rw (back-km c) (rw (c .before .sum2 .given .1) at (c .before .before .before .pre))
 
-  small : SFits w32 (rounded (total (c .before)) (weights (c .before)))
-  small = size-fits w32 _ (omega (arith, round-size (total (c .before)) (weights (c .before)) 99_999_000 (is-ready (c .before) .1) (is-ready (c .before) .0)))
+returns-2 : tie.Need-returns-2
+returns-2 c =
+    let k = c .before in
+    let r : toZ w32 (ofZ w32 (c .nearest2 .result)) ≡ c .nearest2 .result = search needs in
+    rw (k .before .sum2 .given .1) (ap km (r ∙ c .nearest2 .ensures ∙ ap (λ (z : ℤ). rounded z (k .before .sum2 .given .0 .1 .0)) (back-km k)))
 
-enum-told : tie.Need-enum-told
-enum-told c = search needs
+returns-3 : tie.Need-returns-3
+returns-3 c = rw (c .enum-told .given .1) refl
 
 enum-known-sum : tie.Need-enum-known-sum
 enum-known-sum c = search needs
 
-round-half-away-requires : tie.Need-round-half-away-requires
-round-half-away-requires c κs = rw (back c) (omega (arith, is-ready c))
+enum-known-sum-2 : tie.Need-enum-known-sum-2
+enum-known-sum-2 c = search needs
 
-cast-mean : tie.Need-cast-mean
-cast-mean c = rw (there c) (small c)
-
-returns : tie.Need-returns
-returns c = rw (c .enum-told .given .1) refl
-
-returns-2 : tie.Need-returns-2
-returns-2 c = rw (c .before .before .before .sum .given .1, there (c .before), toZ-ofZ (small (c .before))) (tecu-unit _ _ (c .if1 .taken))
-
-returns-3 : tie.Need-returns-3
-returns-3 c = rw (c .before .before .before .sum .given .1, there (c .before), toZ-ofZ (small (c .before))) (km-unit _ _ (c .if1 .left))
+enum-told : tie.Need-enum-told
+enum-told c = search needs
 
 pub mean-of-spec : {M : Type 1} → statement M
 mean-of-spec =
     tie.close
     (tie.spec
-    enum-told
     enum-known-sum
-    round-half-away-requires
-    cast-mean
+    nearest-requires
+    enum-known-sum-2
+    nearest-requires-2
+    enum-told
     returns
     returns-2
     returns-3)

@@ -4,9 +4,9 @@ use mathlib.Core.Path.{ap, _∙_}
 use denote.Ref.{now}
 use Rattle.ask_nodes.specs.Value.{kind-of}
 use Rattle.ask_sums.specs.Mean.{spread, terms}
-use Rattle.ask.specs.Ask.{in-told}
-use Rattle.ask_sums.specs.Sums.{summed}
-use Rattle.ask_sums.proofs.SumLaws.{ready-terms, summed-mean}
+use Rattle.ask.specs.Ask.{told-sum}
+use Rattle.ask_sums.proofs.SumLaws.{ready-terms}
+use Rattle.ask.proofs.MeanLaws.{sum-told}
 use Rattle.ask.proofs.value.value_of.Statement.{statement}
 use Rattle.ask.proofs.value.value_of.Tie as tie
 
@@ -22,7 +22,7 @@ mean-of-requires c κs =
 returns : tie.Need-returns
 returns c =
     let a = c .before .before .before .args in
-    c .mean-of .ensures ∙ ap (in-told (kind-of (a .s .kind))) (ap summed (c .before .sum-of .ensures) ∙ summed-mean (terms (a .s) (now (a .values)) (now (a .exponents)) (now (a .marks)) (spread (a .shares) (a .first) (a .second))))
+    c .mean-of .ensures ∙ ap told-sum (c .before .sum-of .ensures) ∙ sum-told (kind-of (a .s .kind)) (terms (a .s) (now (a .values)) (now (a .exponents)) (now (a .marks)) (spread (a .shares) (a .first) (a .second)))
 
 pub value-of-spec : {M : Type 1} → statement M
 value-of-spec = tie.close (tie.spec sum-of-requires mean-of-requires returns)
