@@ -1,7 +1,7 @@
 // What the program prints of a text: its canonical text, or one line that says why not.
 ghost use mathlib.Core.Path.{_≡_};
 ghost use Prim.Native.Nat.{_≤_};
-ghost use lib.ListN.{length};
+ghost use lib.ListN.{length, take};
 ghost use Rattle.mapset.specs.Areas.{six};
 ghost use Rattle.write_text.specs.Write.{told};
 ghost use Rattle.program_line.specs.Lines.{Begins};
@@ -86,9 +86,10 @@ fn put_answer(
     }
 }
 
-// What is to be printed of a text: so many bytes of out.
+// What is to be printed of a text, the first n bytes of a buffer that has one byte more than a text may have: so many bytes of out.
 pub fn answer(
-    text: &[u8],
+    buffer: &[u8],
+    n: usize,
     tec: &mut [i32],
     rms: &mut [i32],
     height: &mut [i32],
@@ -97,12 +98,12 @@ pub fn answer(
     marks: &mut [u8],
     out: &mut [u8],
 ) -> usize
-    requires { ⌜ Had (six (now tec) (now rms) (now height) (now exponents) (now epochs) (now marks)) × (length (now out) ≡ 65536) ⌝ }
-    ensures { λ r. ⌜ Begins (now (out .exit)) r (printed (now (text .entry))) ⌝ }
+    requires { ⌜ Had (six (now tec) (now rms) (now height) (now exponents) (now epochs) (now marks)) × ((length (now out) ≡ 65536) × ((length (now buffer) ≡ 32769) × (n ≤ 32769))) ⌝ }
+    ensures { λ r. ⌜ Begins (now (out .exit)) r (printed (take n (now (buffer .entry)))) ⌝ }
 {
-    if MOST < text.len() {
+    if MOST < n {
         return program_line::put(out, 0, b"text too big\n");
     }
-    let read = read_text::read_text(text, tec, rms, height, exponents, epochs, marks);
+    let read = read_text::read_text(&buffer[..n], tec, rms, height, exponents, epochs, marks);
     put_answer(read, tec, rms, height, exponents, epochs, marks, out)
 }

@@ -133,7 +133,7 @@ pub fn prefill(
     ensures { λ _. ⌜ now (marks .exit) ≡ fill 0 (size .maps) (now (marks .entry)) ⌝ }
 {
     let n = size.maps;
-    let all = 3 * (n * size.blocks);
+    let all = 3 * (size.maps * size.blocks);
     clear_front(rms, r, 9999);
     clear_front(height, t, 9999);
     clear_front(exponents, all, -1);

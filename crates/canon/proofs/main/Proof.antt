@@ -1,51 +1,34 @@
 -- `canon::main` is safe and ends.
-use mathlib.Core.Path.{sym}
-use lib.Seq.{length-take-le}
+use native.Mathlib.Omega.{arith}
+use Rattle.canon.specs.Input.{Within}
 use borrow.Author.Needs.{needs}
 use Rattle.canon.proofs.main.Statement.{statement}
 use Rattle.canon.proofs.main.Tie as tie
 
-slice-aggregate-read-full : tie.Need-slice-aggregate-read-full
-slice-aggregate-read-full c = search needs
+slice-aggregate-read-input : tie.Need-slice-aggregate-read-input
+slice-aggregate-read-input c = search needs
 
-read-full-requires : tie.Need-read-full-requires
-read-full-requires c κs = search needs
+read-input-requires : tie.Need-read-input-requires
+read-input-requires c κs = search needs
 
-array-share-prefix-text : tie.Need-array-share-prefix-text
-array-share-prefix-text c = search needs
+enum-known-input : tie.Need-enum-known-input
+enum-known-input c = search needs
 
-slice-aggregate-answer : tie.Need-slice-aggregate-answer
-slice-aggregate-answer c = search needs
+slice-aggregate-print-answer : tie.Need-slice-aggregate-print-answer
+slice-aggregate-print-answer c = search needs
 
-slice-aggregate-answer-2 : tie.Need-slice-aggregate-answer-2
-slice-aggregate-answer-2 c = search needs
+print-answer-requires : tie.Need-print-answer-requires
+print-answer-requires c κs =
+    let i = c .before .before in
+    let r = i .before .before .before in
+    let w : Within (r .read-input .result) (r .read-input .last .0) = r .read-input .ensures in
+    (search needs, omega (arith, rw (i .input .given .1) at w))
 
-slice-aggregate-answer-3 : tie.Need-slice-aggregate-answer-3
-slice-aggregate-answer-3 c = search needs
-
-slice-aggregate-answer-4 : tie.Need-slice-aggregate-answer-4
-slice-aggregate-answer-4 c = search needs
-
-slice-aggregate-answer-5 : tie.Need-slice-aggregate-answer-5
-slice-aggregate-answer-5 c = search needs
-
-slice-aggregate-answer-6 : tie.Need-slice-aggregate-answer-6
-slice-aggregate-answer-6 c = search needs
-
-slice-aggregate-answer-7 : tie.Need-slice-aggregate-answer-7
-slice-aggregate-answer-7 c = search needs
-
-slice-aggregate-answer-8 : tie.Need-slice-aggregate-answer-8
-slice-aggregate-answer-8 c = search needs
-
-answer-requires : tie.Need-answer-requires
-answer-requires c κs = search needs
-
-array-share-prefix-out : tie.Need-array-share-prefix-out
-array-share-prefix-out c = search needs
+enum-told : tie.Need-enum-told
+enum-told c = search needs
 
 slice-aggregate-write-all : tie.Need-slice-aggregate-write-all
-slice-aggregate-write-all c = sym (length-take-le _ _ (c .before .before .before .before .before .before .before .before .answer .ensures .within))
+slice-aggregate-write-all c = search needs
 
 write-all-requires : tie.Need-write-all-requires
 write-all-requires c κs = search needs
@@ -53,23 +36,20 @@ write-all-requires c κs = search needs
 returns : tie.Need-returns
 returns c = search needs
 
+returns-2 : tie.Need-returns-2
+returns-2 c = search needs
+
 pub main-spec : {M : Type 1} → statement M
 main-spec =
     tie.close
     (tie.spec
-    slice-aggregate-read-full
-    read-full-requires
-    array-share-prefix-text
-    slice-aggregate-answer
-    slice-aggregate-answer-2
-    slice-aggregate-answer-3
-    slice-aggregate-answer-4
-    slice-aggregate-answer-5
-    slice-aggregate-answer-6
-    slice-aggregate-answer-7
-    slice-aggregate-answer-8
-    answer-requires
-    array-share-prefix-out
+    slice-aggregate-read-input
+    read-input-requires
+    enum-known-input
+    slice-aggregate-print-answer
+    print-answer-requires
+    enum-told
     slice-aggregate-write-all
     write-all-requires
-    returns)
+    returns
+    returns-2)

@@ -1,6 +1,7 @@
 use mathlib.Core.Path.{_≡_, sym, ap, _∙_}
 use Prim.Native.Nat.{_-_, _%_}
 use native.Mathlib.Omega.{arith}
+use lib.IntN.{ℤ}
 use mir.Facts.{toZ-ofZ}
 use borrow.Author.Tests.{not-true, not-false}
 use Rattle.kit.specs.Integer.{int?}
@@ -16,7 +17,10 @@ use Rattle.index_block.proofs.agrees.Tie as tie
 
 row-is : (c : tie.After-row-agrees) → let a = c .before .before .args in
     c .row-agrees .result ≡ truth (int? (a .latitude) (node (a .header .grid .latitudes) ((per-map (a .header) - (c .before .per-map .result - a .d)) % rows (a .header .grid))))
-row-is c = rw (toZ-ofZ (c .before .before .fits .latitude)) at (c .row-agrees .ensures)
+row-is c =
+    let a = c .before .before .args in
+    c .row-agrees .ensures
+    ∙ ap (λ (x : ℤ). truth (int? x (node (a .header .grid .latitudes) ((per-map (a .header) - (c .before .per-map .result - a .d)) % rows (a .header .grid))))) (toZ-ofZ (c .before .before .fits .latitude))
 
 column-is : (c : tie.After-differs) → let a = c .before .before .before .before .args in c .differs .result ≡ differing (a .header .grid .longitudes) (a .first) (a .last) (a .step)
 column-is c = let f = c .before .before .before .before .fits in rw (toZ-ofZ (f .first), toZ-ofZ (f .last), toZ-ofZ (f .step)) at (c .differs .ensures)

@@ -12,6 +12,13 @@ use borrow.Author.Needs.{needs}
 use Rattle.join_areas.proofs.join_kind.Statement.{statement}
 use Rattle.join_areas.proofs.join_kind.Tie as tie
 
+returns : tie.Need-returns
+returns c =
+    let s = c .before .before .before .before .before .before .before .before .before in
+    let a = s .args in
+    c .before .join-values .ensures
+    ∙ (λ i. front (values-of-two (c .before .before .before .before .has2 .ensures i || c .before .before .before .before .before .before .has .ensures i) (c .before .before .before .has3 .ensures i) (c .before .before .before .before .before .before .has .ensures i) (kept (a .early .now) * a .width) (length (a .late .now) * a .width) (a .a .now) (a .b .now)) (a .out .now))
+
 sub-k : tie.Need-sub-k
 sub-k c = search needs
 
@@ -41,13 +48,6 @@ join-values-requires c κs =
 
 same-length : tie.Need-same-length
 same-length c = search needs
-
-returns : tie.Need-returns
-returns c =
-    let s = c .before .before .before .before .before .before .before .before .before in
-    let a = s .args in
-    c .before .join-values .ensures
-    ∙ (λ i. front (values-of-two (c .before .before .before .before .has2 .ensures i || c .before .before .before .before .before .before .has .ensures i) (c .before .before .before .has3 .ensures i) (c .before .before .before .before .before .before .has .ensures i) (kept (a .early .now) * a .width) (length (a .late .now) * a .width) (a .a .now) (a .b .now)) (a .out .now))
 
 pub join-kind-spec : {M : Type 1} → statement M
 join-kind-spec =

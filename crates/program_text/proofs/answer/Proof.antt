@@ -1,5 +1,10 @@
 -- `program_text::answer` meets its contract.
+use mathlib.Core.Path.{_≡_, sym}
+use mathlib.Core.List.{List}
 use native.Mathlib.Omega.{arith}
+use Prim.Native.Nat.{ℕ}
+use lib.ListN.{length, take}
+use lib.Seq.{length-take-le}
 use denote.Ref.{now}
 use Rattle.mapset.specs.Areas.{Areas, six}
 use Rattle.program_line.specs.Lines.{big-line}
@@ -14,6 +19,12 @@ lent s = six (now (s .args .tec)) (now (s .args .rms)) (now (s .args .height)) (
 
 abbrev left : tie.After-read-text → Areas
 left p = six (p .read-text .last .1 .0) (p .read-text .last .1 .1 .0) (p .read-text .last .1 .1 .1 .0) (p .read-text .last .1 .1 .1 .1 .0) (p .read-text .last .1 .1 .1 .1 .1 .0) (p .read-text .last .1 .1 .1 .1 .1 .1 .0)
+
+abbrev text : tie.Start → List ℕ
+text s = take (s .args .n) (now (s .args .buffer))
+
+text-size : (s : tie.Start) → length (text s) ≡ s .args .n
+text-size s = length-take-le _ _ (omega (arith, s .pre .1 .1 .0, s .pre .1 .1 .1))
 
 slice-aggregate-put : tie.Need-slice-aggregate-put
 slice-aggregate-put c = search needs
@@ -30,13 +41,19 @@ returns c =
     let p = c .before .before in
     let i = p .before .before .before in
     let s = i .before .before .before .before .before in
-    rw (printed-big (now (s .args .text)) (i .if1 .taken)) (begins (p .put .ensures) (omega (arith, s .pre .1, p .put .ensures .moved)))
+    rw (printed-big (text s) (omega (arith, i .if1 .taken, text-size s))) (begins (p .put .ensures) (omega (arith, s .pre .1 .0, p .put .ensures .moved)))
+
+slice-aggregate-read-text : tie.Need-slice-aggregate-read-text
+slice-aggregate-read-text c = sym (text-size (c .before .before .before .before .before .before))
 
 read-text-requires : tie.Need-read-text-requires
 read-text-requires c κs = search needs
 
 put-answer-requires : tie.Need-put-answer-requires
-put-answer-requires c κs = search needs
+put-answer-requires c κs =
+    let t = c .before .before .before .before .before .before .before .before .before .before .before .before .before .before .before in
+    let s = t .before .before .before .before .before .before .before .before .before .before .before .before .before in
+    omega (arith, s .pre .1 .0)
 
 same-length-2 : tie.Need-same-length-2
 same-length-2 c = search needs
@@ -63,10 +80,10 @@ returns-2 : tie.Need-returns-2
 returns-2 c =
     let p = c .before .before in
     let r = p .before .before .before .before .before .before .before .before .before .before .before .before .before .before .before .before in
-    let i = r .before .before .before .before .before .before .before in
+    let i = r .before .before .before .before .before .before .before .before in
     let s = i .before .before .before .before .before in
-    let e = read-printed (now (s .args .text)) (lent s) (r .read-text .result) (left r) (r .read-text .ensures) (s .pre .0) in
-    rw (printed-read (now (s .args .text)) (i .if1 .left)) (rw (s .pre .1, e) at (p .put-answer .ensures))
+    let e = read-printed (text s) (lent s) (r .read-text .result) (left r) (r .read-text .ensures) (s .pre .0) in
+    rw (printed-read (text s) (omega (arith, i .if1 .left, text-size s))) (rw (s .pre .1 .0, e) at (p .put-answer .ensures))
 
 pub answer-spec : {M : Type 1} → statement M
 answer-spec =
@@ -76,6 +93,7 @@ answer-spec =
     put-requires
     same-length
     returns
+    slice-aggregate-read-text
     read-text-requires
     put-answer-requires
     same-length-2

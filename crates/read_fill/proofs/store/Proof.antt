@@ -12,6 +12,24 @@ use Rattle.read_fill.proofs.store.Tie as tie
 exponent-of : (c : tie.After-known-told3) → toZ w32 (ofZ w32 (c .before .event3 .given .0 .1 .1 .1 .0)) ≡ c .before .event3 .given .0 .1 .1 .1 .0
 exponent-of c = search needs
 
+returns-5 : tie.Need-returns-5
+returns-5 c =
+    let b = c .before .before .before .before .before .before .before .before .before .before .before .before .before .before .before .before in
+    let a = b .args in
+    let v = c .before .before .before .before .before .before .before .before .before .before .before .event3 .given in
+    let e = exponent-of (c .before .before .before .before .before .before .before .before .before .before) in
+    let u = c .before .put-block2 .ensures in
+    (stores-rms (a .size .maps) (a .size .blocks) (a .size .columns) _ (a .tec .now) (a .rms .now) (a .height .now) (a .exponents .now) (a .epochs .now) (a .marks .now) (v .1) e (c .before .before .before .before .before .before .before .before .put-exponent .ensures) (c .before .before .before .before .before .before .block-place .ensures) (c .before .before .before .enum-told3 .given .1) (u .1), goes-past _ _ _ (v .1) (u .0))
+
+returns-6 : tie.Need-returns-6
+returns-6 c =
+    let b = c .before .before .before .before .before .before .before .before .before .before .before .before .before .before .before .before in
+    let a = b .args in
+    let v = c .before .before .before .before .before .before .before .before .before .before .before .event3 .given in
+    let e = exponent-of (c .before .before .before .before .before .before .before .before .before .before) in
+    let u = c .before .put-block3 .ensures in
+    (stores-height (a .size .maps) (a .size .blocks) (a .size .columns) _ (a .tec .now) (a .rms .now) (a .height .now) (a .exponents .now) (a .epochs .now) (a .marks .now) (v .1) e (c .before .before .before .before .before .before .before .before .put-exponent .ensures) (c .before .before .before .before .before .before .block-place .ensures) (c .before .before .before .enum-told4 .given .1) (u .1), goes-past _ _ _ (v .1) (u .0))
+
 enum-told : tie.Need-enum-told
 enum-told c = search needs
 
@@ -124,29 +142,11 @@ same-length-5 c = search needs
 same-length-6 : tie.Need-same-length-6
 same-length-6 c = search needs
 
-returns-5 : tie.Need-returns-5
-returns-5 c =
-    let b = c .before .before .before .before .before .before .before .before .before .before .before .before .before .before .before .before in
-    let a = b .args in
-    let v = c .before .before .before .before .before .before .before .before .before .before .before .event3 .given in
-    let e = exponent-of (c .before .before .before .before .before .before .before .before .before .before) in
-    let u = c .before .put-block2 .ensures in
-    (stores-rms (a .size .maps) (a .size .blocks) (a .size .columns) _ (a .tec .now) (a .rms .now) (a .height .now) (a .exponents .now) (a .epochs .now) (a .marks .now) (v .1) e (c .before .before .before .before .before .before .before .before .put-exponent .ensures) (c .before .before .before .before .before .before .block-place .ensures) (c .before .before .before .enum-told3 .given .1) (u .1), goes-past _ _ _ (v .1) (u .0))
-
 same-length-7 : tie.Need-same-length-7
 same-length-7 c = search needs
 
 same-length-8 : tie.Need-same-length-8
 same-length-8 c = search needs
-
-returns-6 : tie.Need-returns-6
-returns-6 c =
-    let b = c .before .before .before .before .before .before .before .before .before .before .before .before .before .before .before .before in
-    let a = b .args in
-    let v = c .before .before .before .before .before .before .before .before .before .before .before .event3 .given in
-    let e = exponent-of (c .before .before .before .before .before .before .before .before .before .before) in
-    let u = c .before .put-block3 .ensures in
-    (stores-height (a .size .maps) (a .size .blocks) (a .size .columns) _ (a .tec .now) (a .rms .now) (a .height .now) (a .exponents .now) (a .epochs .now) (a .marks .now) (v .1) e (c .before .before .before .before .before .before .before .before .put-exponent .ensures) (c .before .before .before .before .before .before .block-place .ensures) (c .before .before .before .enum-told4 .given .1) (u .1), goes-past _ _ _ (v .1) (u .0))
 
 pub store-spec : {M : Type 1} → statement M
 store-spec =

@@ -7,6 +7,20 @@ use borrow.Author.Needs.{needs}
 use Rattle.read_stores.proofs.prefill.Statement.{statement}
 use Rattle.read_stores.proofs.prefill.Tie as tie
 
+returns : tie.Need-returns
+returns c =
+    let b = c .before .before .before .before .before .before .before .before .before .before .before .before .before .before .before in
+    let a = b .args in (
+      c .before .before .before .before .before .before .before .before .before .before .before .clear-front .ensures,
+      (
+        c .before .before .before .before .before .before .before .before .clear-front2 .ensures,
+        (
+          c .before .before .before .before .before .clear-front3 .ensures,
+          ap (λ (t : List ℕ). t ++ drop (a .size .maps) (a .marks .now)) (c .before .before .clear-marks .ensures ∙ ap (λ j. replicate j 0) (length-take-le (a .size .maps) (a .marks .now) (b .pre .3))),
+        ),
+      ),
+    )
+
 mul-all : tie.Need-mul-all
 mul-all c = search needs
 
@@ -42,20 +56,6 @@ same-length-3 c = search needs
 
 same-length-4 : tie.Need-same-length-4
 same-length-4 c = search needs
-
-returns : tie.Need-returns
-returns c =
-    let b = c .before .before .before .before .before .before .before .before .before .before .before .before .before .before .before in
-    let a = b .args in (
-      c .before .before .before .before .before .before .before .before .before .before .before .clear-front .ensures,
-      (
-        c .before .before .before .before .before .before .before .before .clear-front2 .ensures,
-        (
-          c .before .before .before .before .before .clear-front3 .ensures,
-          ap (λ (t : List ℕ). t ++ drop (a .size .maps) (a .marks .now)) (c .before .before .clear-marks .ensures ∙ ap (λ j. replicate j 0) (length-take-le (a .size .maps) (a .marks .now) (b .pre .3))),
-        ),
-      ),
-    )
 
 pub prefill-spec : {M : Type 1} → statement M
 prefill-spec =

@@ -57,6 +57,22 @@ cast-maps c = search needs
 per-map-requires : tie.Need-per-map-requires
 per-map-requires c κs = search needs
 
+returns : tie.Need-returns
+unfolding rest? exponent?
+returns c =
+    let n = c .before .before .before .before .before .before .before .before in
+    let h = s n .args .header in
+    let a : Areas = lent (s n) in
+    let t = of-kind? h a K.Tec in
+    let r = of-kind? h a K.Rms in
+    let u = of-kind? h a K.Height in
+    let e = all-dec exponent? (needed h a .exponents) in
+    let e0 = exponents-told h a (s n .pre) (rw (all-is n) at (c .before .before .before .before .before .before .all-between .ensures)) in
+    both e (×-dec t (×-dec r u)) e0
+    (both t (×-dec r u) (kind-answer n K.Tec 0 refl (c .before .before .before .before .kind-fits .ensures))
+    (both r u (kind-answer n K.Rms _ (all-is n) (c .before .before .kind-fits2 .ensures))
+    (kind-answer n K.Height _ (ap₂ (λ (x y : ℕ). x + y) (all-is n) (all-is n)) (c .kind-fits3 .ensures))))
+
 nodes-requires : tie.Need-nodes-requires
 nodes-requires c κs = search needs
 
@@ -92,22 +108,6 @@ add-kind-fits c = let n = c .before .before .before .before .before .before .bef
 
 kind-fits-requires-3 : tie.Need-kind-fits-requires-3
 kind-fits-requires-3 c κs = let n = c .before .before .before .before .before .before .before in kind-ready n K.Height _ (ap₂ (λ (x y : ℕ). x + y) (all-is n) (all-is n))
-
-returns : tie.Need-returns
-unfolding rest? exponent?
-returns c =
-    let n = c .before .before .before .before .before .before .before .before in
-    let h = s n .args .header in
-    let a : Areas = lent (s n) in
-    let t = of-kind? h a K.Tec in
-    let r = of-kind? h a K.Rms in
-    let u = of-kind? h a K.Height in
-    let e = all-dec exponent? (needed h a .exponents) in
-    let e0 = exponents-told h a (s n .pre) (rw (all-is n) at (c .before .before .before .before .before .before .all-between .ensures)) in
-    both e (×-dec t (×-dec r u)) e0
-    (both t (×-dec r u) (kind-answer n K.Tec 0 refl (c .before .before .before .before .kind-fits .ensures))
-    (both r u (kind-answer n K.Rms _ (all-is n) (c .before .before .kind-fits2 .ensures))
-    (kind-answer n K.Height _ (ap₂ (λ (x y : ℕ). x + y) (all-is n) (all-is n)) (c .kind-fits3 .ensures))))
 
 pub rest-fits-spec : {M : Type 1} → statement M
 rest-fits-spec =
