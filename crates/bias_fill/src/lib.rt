@@ -9,12 +9,12 @@ ghost use Rattle.layout.specs.Text.{pad};
 ghost use Rattle.biases.specs.Read.{satellite-of, station-of};
 ghost use Rattle.bias_fill.specs.Flat.{four, three, lent};
 ghost use Rattle.bias_fill.specs.Filled as filled;
-use biases::Place;
-use biases::Satellite;
-use biases::Station;
 use bias_line::SatelliteSaid;
 use bias_line::StationSaid;
 use bias_scan::Turn;
+use biases::Place;
+use biases::Satellite;
+use biases::Station;
 
 // Where the scan stands: the place, where the next line starts, the lines passed, how many of both are stored, and whether it is over.
 pub struct Fill {

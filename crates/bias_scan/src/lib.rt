@@ -11,12 +11,12 @@ ghost use Rattle.bias_scan.specs.Walk.{first, walked};
 ghost use Rattle.bias_scan.specs.Turns as turns;
 ghost use Rattle.bias_scan.specs.Marks as marks;
 ghost use Rattle.bias_scan.specs.Judged as judged;
+use bias_line::SatelliteSaid;
+use bias_line::StationSaid;
 use biases::Place;
 use biases::Role;
 use biases::Satellite;
 use biases::Station;
-use bias_line::SatelliteSaid;
-use bias_line::StationSaid;
 use read_lines::NextRow;
 
 // What the next row is: refused with 01's number, line and column; END OF HEADER; a row that is skipped, with the place after it, where

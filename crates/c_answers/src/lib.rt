@@ -20,9 +20,9 @@ ghost use Rattle.c_answers.specs.AskExported.{told-number as ask-number,
 ghost use Rattle.c_answers.specs.DelayExported.{told-number as delay-number, told-record};
 ghost use Rattle.c_answers.specs.MoveExported.{told-number as move-number, told-moved};
 ghost use Rattle.c_answers.specs.JoinExported.{why-number, why-place, answer-number, answer-header, answer-texts, answer-place, Small as SmallJoined};
-use ask_delay::AskedDelay;
 use ask::Asked;
 use ask::Why;
+use ask_delay::AskedDelay;
 use calendar::When;
 use delay::Delay;
 use delay::Delayed;

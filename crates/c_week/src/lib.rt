@@ -7,13 +7,13 @@ ghost use Rattle.week.specs.Sane.{SmallWeek, SmallAnswer};
 ghost use Rattle.c_week.specs.WeekNumbers.{week-numbers, range-of, tally-at, week-at};
 ghost use Rattle.c_week.specs.WeekNumbers as numbers;
 ghost use Rattle.c_week.specs.WeekExported.{week-short, why-number, why-place, told-number, told-week, told-place};
-use week_tally::Range;
-use week_tally::Tally;
 use week::Added;
 use week::KmTally;
 use week::TecuTally;
 use week::Week;
 use week::Why;
+use week_tally::Range;
+use week_tally::Tally;
 
 // ---- The week that numbers stand for
 

@@ -16,10 +16,10 @@ use super::Onward;
 use super::Passed;
 use head_state::Next;
 use head_state::State;
-use read_lines::NextRow;
+use head_version::Versioned;
 use mapset::Texts;
 use mapset::Version;
-use head_version::Versioned;
+use read_lines::NextRow;
 
 // What a row leads to, by what it does to the header: the next line starts at `next`, after n lines.
 fn led_to(turn: Next, exponent: i32, next: usize, n: u64) -> Onward

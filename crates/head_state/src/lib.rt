@@ -19,6 +19,8 @@ ghost use Rattle.head_said.specs.Records.{toldHeard, entry, first-of};
 ghost use Rattle.head_said.specs.Tables.{kind-of, Numbers};
 ghost use Rattle.head_state.specs.Got.{any-version, slots-of, value-in, told, kept};
 use forms::Found;
+use head_said::Heard;
+use head_said::Value;
 use mapset::Axis;
 use mapset::Counted;
 use mapset::Grid;
@@ -28,8 +30,6 @@ use mapset::System;
 use mapset::Systems;
 use mapset::Times;
 use mapset::Version;
-use head_said::Heard;
-use head_said::Value;
 
 // What was got of a header so far, by the places of its records in 01's list; whether an aux block is open; the exponent in force.
 pub struct State {

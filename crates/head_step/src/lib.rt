@@ -17,14 +17,14 @@ ghost use Rattle.head_state.specs.Got.{slots-of, went, gone, told, stepped};
 ghost use Rattle.head_said.specs.Tables.{action, place-at};
 ghost use Rattle.head_step.specs.Step.{ended-in, fresh, exponent-in, system-at, by-letter, acted};
 use forms::Found;
+use head_said::Two;
+use head_said::content;
 use head_state::Next;
 use head_state::State;
 use head_state::Stepped;
 use maps_records::One;
 use mapset::Version;
 use mapset::axes;
-use head_said::Two;
-use head_said::content;
 
 // What is done at each label: 0 misplaced, 1 skipped, 2 EXPONENT, 3 a record of the header, 4 SYS, 5 an aux block is opened, 6 END OF HEADER.
 const ACTIONS: [u8; 32] = [

@@ -9,9 +9,9 @@ ghost use Rattle.layout.specs.Labels.{codes};
 ghost use Rattle.layout.specs.Names.{holds, place-of};
 ghost use Rattle.reading.specs.Read.{versioned, version-of};
 ghost use Rattle.head_version.specs.Told.{toldVersioned};
+use head_said::content;
 use maps_records::One;
 use mapset::Version;
-use head_said::content;
 
 // What the version record says, or its refusal.
 pub enum Versioned {

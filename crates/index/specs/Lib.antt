@@ -7,4 +7,5 @@ pub mod Index
 pub mod Found
 -- the index that is made of a text
 pub mod Made
+
 -- a small text and its index

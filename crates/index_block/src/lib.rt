@@ -13,9 +13,9 @@ ghost use Rattle.layout.specs.Layout.{per-map};
 ghost use Rattle.index.specs.Found.{agrees?};
 ghost use Rattle.index_block.specs.Hits.{values-from, block-from, spot-of, Stepped, Hits, Opening as OpensAs};
 use maps_agree::grid;
-use read_lines::Line;
 use maps_records::Opening;
 use mapset::Header;
+use read_lines::Line;
 use read_values::Cells;
 
 // One line of a block's values: blank, up to where; a row, where it ends and where the next line starts; or no line of values.

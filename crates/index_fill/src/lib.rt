@@ -9,11 +9,11 @@ ghost use Rattle.index.specs.Index.{entries};
 ghost use Rattle.index.specs.Made.{placed-from};
 ghost use Rattle.read_events.specs.Brings.{due};
 ghost use Rattle.index_fill.specs.Enter.{Passes, Walks, Begins, Kept, enters, Turned, Steady, entered-from, Entered, entered, cleared};
+use mapset::Kind;
+use mapset::Size;
 use read_events::Event;
 use read_events::State;
 use read_lines::Line;
-use mapset::Kind;
-use mapset::Size;
 
 // ---- The header
 

@@ -5,10 +5,10 @@ ghost use Rattle.index_text.specs.Making.{made, comes};
 ghost use Rattle.index_node.specs.Told.{Finds, HandsBack};
 ghost use Rattle.c_index.specs.Crossed.{NodeCrosses, BlockCrosses};
 ghost use Rattle.c_index.specs.IndexExported.{crossed, index-crossed};
+use index_node::Reply;
 use mapset::Header;
 use mapset::Texts;
 use read_outcome::ReadOut;
-use index_node::Reply;
 
 // A text's index into three lent areas, with its header record and texts; or the reason why not.
 pub fn make_index(

@@ -8,13 +8,13 @@ ghost use Rattle.reading.specs.Feed.{split, feed};
 ghost use Rattle.reading.specs.Maps.{run};
 ghost use Rattle.maps_bounds.specs.Steps.{force-of};
 ghost use Rattle.maps.specs.Turns.{told, ended-with, After, Turned, Fits, Keeps};
-use read_blocks::Block;
-use read_lines::NextRow;
 use maps_bounds::Move;
 use maps_bounds::Next;
 use maps_bounds::Past;
 use maps_bounds::Push;
 use mapset::Header;
+use read_blocks::Block;
+use read_lines::NextRow;
 use reading::Place;
 
 // The maps as they are judged: accepted, and whether some RMS and some height map stands; or a refusal's number, line and column.

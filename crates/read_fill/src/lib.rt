@@ -11,11 +11,11 @@ ghost use Rattle.read_events.specs.Brings.{tells, due};
 ghost use Rattle.read_fill.specs.Rows.{rows-from, Valued};
 ghost use Rattle.read_fill.specs.Filled.{Readable, Enough, Filled};
 ghost use Rattle.read_fill.specs.Scan.{Turned, Resumes, Resumed};
+use mapset::Kind;
+use mapset::Size;
 use read_events::Event;
 use read_events::State;
 use read_lines::NextRow;
-use mapset::Kind;
-use mapset::Size;
 
 // A block's values, from the line that starts at `at` on; where the line behind them starts.
 fn put_block(text: &[u8], at: usize, from: usize, columns: usize, area: &mut [i32]) -> usize

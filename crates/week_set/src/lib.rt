@@ -17,7 +17,10 @@ fn blocks_tally(kind: u64, columns: usize, values: &[i32], exponents: &[i32]) ->
     let mut j: usize = 0;
     while j < exponents.len() {
         let end = at + columns;
-        t = week_tally::join(t, week_tally::tally_of(kind, &values[at..end], exponents[j]));
+        t = week_tally::join(
+            t,
+            week_tally::tally_of(kind, &values[at..end], exponents[j]),
+        );
         at = end;
         j += 1;
     }
