@@ -68,19 +68,27 @@ fn epoch_in(line: &[u8]) -> u64
 
 // ---- What a row brings, and where it leads
 
+// A map begins: the exponent stays in force, across maps and kinds.
+fn begun(s: State, kind: Kind, number: usize) -> State
+    ensures { λ r. ⌜ told r ≡ now-of kind number 0 (s .exponent) (s .tecs) ⌝ }
+{
+    let exponent = s.exponent;
+    State {
+        kind,
+        number,
+        done: 0,
+        exponent,
+        tecs: s.tecs,
+    }
+}
+
 fn start_tec(s: State) -> Brought
     requires { ⌜ s .tecs < 9223372036854775808 ⌝ }
     ensures { λ r. ⌜ Goes (on-start (told s) Kind.Tec []) r ⌝ }
 {
     Brought {
         event: Event::Nothing,
-        state: State {
-            kind: Kind::Tec,
-            number: s.tecs + 1,
-            done: 0,
-            exponent: s.exponent,
-            tecs: s.tecs,
-        },
+        state: begun(s, Kind::Tec, s.tecs + 1),
     }
 }
 
@@ -91,13 +99,7 @@ fn start_other(s: State, line: &[u8], kind: Kind) -> Brought
     let i = number_in(line);
     Brought {
         event: Event::Marked(kind, i),
-        state: State {
-            kind,
-            number: i,
-            done: 0,
-            exponent: s.exponent,
-            tecs: s.tecs,
-        },
+        state: begun(s, kind, i),
     }
 }
 

@@ -1,6 +1,7 @@
-use mathlib.Core.Path.{_≡_}
-use mir.Syntax.{w32}
-use mir.Val.{toZ, ofZ}
+use mathlib.Core.Path.{refl, sym, ap, _∙_}
+use mathlib.Core.List.{[], _∷_}
+use Rattle.areas.specs.Events as event
+use Rattle.areas.specs.Scan.{Now, goes}
 use Rattle.read_events.proofs.RowLaws.{started}
 use borrow.Author.Needs.{needs}
 use Rattle.read_events.proofs.start_other.Statement.{statement}
@@ -9,11 +10,15 @@ use Rattle.read_events.proofs.start_other.Tie as tie
 number-in-requires : tie.Need-number-in-requires
 number-in-requires c κs = search needs
 
+begun-requires : tie.Need-begun-requires
+begun-requires c κs = search needs
+
 returns : tie.Need-returns
 returns c =
-    let a = c .before .before .before .args in
-    let e : toZ w32 (ofZ w32 (a .s .exponent)) ≡ a .s .exponent = search needs in
-    started (a .s) (a .kind) (c .before .before .before .pre .1) _ (c .before .number-in .ensures) e
+    let s = c .before .before .before in
+    let a = s .args in
+    let i = c .before .number-in .result in
+    λ C rs. started (a .s) (a .kind) (s .pre .1) _ (c .before .number-in .ensures) refl C rs ∙ ap (λ (z : Now). goes (event.marked (a .kind) i ∷ []) z) (sym (c .begun .ensures))
 
 pub start-other-spec : {M : Type 1} → statement M
-start-other-spec = tie.close (tie.spec number-in-requires returns)
+start-other-spec = tie.close (tie.spec number-in-requires begun-requires returns)
