@@ -23,7 +23,9 @@ pub fn ask(
     lon: i32,
     second: u64,
 ) -> Asked
-    ensures { λ r. ⌜ Answers (question header texts (six (now (tec .entry)) (now (rms .entry)) (now (height .entry)) (now (exponents .entry)) (now (epochs .entry)) (now (marks .entry))) kind method layer lat lon second) (told r) ⌝ }
+    ensures outcome { λ r. ⌜ Answers (question header texts
+        (six (now (tec .entry)) (now (rms .entry)) (now (height .entry)) (now (exponents .entry)) (now (epochs .entry)) (now (marks .entry)))
+        kind method layer lat lon second) (told r) ⌝ }
 {
     ask::ask(
         header,
@@ -62,7 +64,9 @@ pub extern "C" fn ionex_ask(
     second: u64,
     value: &mut [i32],
 ) -> u64
-    ensures { λ r. ⌜ AskCrosses (now (header .entry)) (now (texts .entry)) (asks (now (header .entry)) (now (texts .entry)) (six (now (tec .entry)) (now (rms .entry)) (now (height .entry)) (now (exponents .entry)) (now (epochs .entry)) (now (marks .entry))) kind method layer lat lon second) (now (value .entry)) r (now (value .exit)) ⌝ }
+    ensures outcome { λ r. ⌜ AskCrosses (now (header .entry)) (now (texts .entry)) (asks (now (header .entry)) (now (texts .entry))
+        (six (now (tec .entry)) (now (rms .entry)) (now (height .entry)) (now (exponents .entry)) (now (epochs .entry)) (now (marks .entry)))
+        kind method layer lat lon second) (now (value .entry)) r (now (value .exit)) ⌝ }
 {
     let short = c_answers::too_short(header.len(), texts.len(), value.len(), 1);
     if 0 < short {

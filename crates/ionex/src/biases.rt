@@ -7,7 +7,7 @@ use bias_text::Biased;
 
 // A text's biases into three lent areas: four numbers for each satellite, three numbers and 20 bytes for each station; or the reason why not.
 pub fn biases(text: &[u8], satellites: &mut [i32], stations: &mut [i32], names: &mut [u8]) -> Biased
-    ensures { λ r. ⌜ comes r (lent (now (satellites .exit)) (now (stations .exit)) (now (names .exit)))
+    ensures outcome { λ r. ⌜ comes r (lent (now (satellites .exit)) (now (stations .exit)) (now (names .exit)))
         ≡ outcome (now (text .entry)) (lent (now (satellites .entry)) (now (stations .entry)) (now (names .entry))) ⌝ }
 {
     bias_text::read_biases(text, satellites, stations, names)
@@ -23,7 +23,7 @@ pub extern "C" fn ionex_biases(
     counts: &mut [u64],
     place: &mut [u64],
 ) -> u64
-    ensures { λ r. ⌜ crossed r (lent (now (satellites .exit)) (now (stations .exit)) (now (names .exit))) (now (counts .exit)) (now (place .exit))
+    ensures outcome { λ r. ⌜ crossed r (lent (now (satellites .exit)) (now (stations .exit)) (now (names .exit))) (now (counts .exit)) (now (place .exit))
         ≡ biases-crossed (now (text .entry)) (lent (now (satellites .entry)) (now (stations .entry)) (now (names .entry))) (now (counts .entry)) (now (place .entry)) ⌝ }
 {
     if counts.len() < 2 {

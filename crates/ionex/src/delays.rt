@@ -13,7 +13,7 @@ use mapset::Texts;
 
 // The delay of so many thousandths of a TECU at a carrier in hertz; or 25.
 pub fn tecu_delay(x: MilliTecu, carrier: f64) -> Delayed
-    ensures { λ r. ⌜ Delays x carrier (told-delay r) ⌝ }
+    ensures outcome { λ r. ⌜ Delays x carrier (told-delay r) ⌝ }
 {
     delay::delay_of(x, carrier)
 }
@@ -36,7 +36,9 @@ pub fn ask_delay(
     second: u64,
     carrier: f64,
 ) -> AskedDelay
-    ensures { λ r. ⌜ AskDelays (question header texts (six (now (tec .entry)) (now (rms .entry)) (now (height .entry)) (now (exponents .entry)) (now (epochs .entry)) (now (marks .entry))) kind method layer lat lon second) carrier (told-asked r) ⌝ }
+    ensures outcome { λ r. ⌜ AskDelays (question header texts
+        (six (now (tec .entry)) (now (rms .entry)) (now (height .entry)) (now (exponents .entry)) (now (epochs .entry)) (now (marks .entry)))
+        kind method layer lat lon second) carrier (told-asked r) ⌝ }
 {
     ask_delay::ask_delay(
         header,
@@ -60,7 +62,7 @@ pub fn ask_delay(
 // The delay of an answer in thousandths of a TECU: 0, with carrier, TECU and metres; or 25.
 #[no_mangle]
 pub extern "C" fn ionex_tecu_delay(x: i32, carrier: f64, out: &mut [f64]) -> u64
-    ensures { λ r. ⌜ TecuDelayCrosses x carrier (now (out .entry)) r (now (out .exit)) ⌝ }
+    ensures outcome { λ r. ⌜ TecuDelayCrosses x carrier (now (out .entry)) r (now (out .exit)) ⌝ }
 {
     if out.len() < 3 {
         return 103;
@@ -89,7 +91,9 @@ pub extern "C" fn ionex_delay(
     carrier: f64,
     out: &mut [f64],
 ) -> u64
-    ensures { λ r. ⌜ DelayCrosses (now (header .entry)) (now (texts .entry)) (asks (now (header .entry)) (now (texts .entry)) (six (now (tec .entry)) (now (rms .entry)) (now (height .entry)) (now (exponents .entry)) (now (epochs .entry)) (now (marks .entry))) kind method layer lat lon second) carrier (now (out .entry)) r (now (out .exit)) ⌝ }
+    ensures outcome { λ r. ⌜ DelayCrosses (now (header .entry)) (now (texts .entry)) (asks (now (header .entry)) (now (texts .entry))
+        (six (now (tec .entry)) (now (rms .entry)) (now (height .entry)) (now (exponents .entry)) (now (epochs .entry)) (now (marks .entry)))
+        kind method layer lat lon second) carrier (now (out .entry)) r (now (out .exit)) ⌝ }
 {
     let short = c_answers::too_short(header.len(), texts.len(), out.len(), 3);
     if 0 < short {

@@ -17,7 +17,7 @@ pub fn make_index(
     exponents: &mut [i32],
     marks: &mut [u8],
 ) -> ReadOut
-    ensures { λ r. ⌜ comes r (entries (now (positions .exit)) (now (exponents .exit)) (now (marks .exit)))
+    ensures outcome { λ r. ⌜ comes r (entries (now (positions .exit)) (now (exponents .exit)) (now (marks .exit)))
         ≡ made (now (text .entry)) (entries (now (positions .entry)) (now (exponents .entry)) (now (marks .entry))) ⌝ }
 {
     index_text::make_index(text, positions, exponents, marks)
@@ -37,7 +37,7 @@ pub fn indexed_node(
     row: u64,
     column: u64,
 ) -> Reply
-    ensures { λ r. ⌜ Finds (index header texts (entries (now (positions .entry)) (now (exponents .entry)) (now (marks .entry)))) (now (text .entry)) (node kind map layer row column) r ⌝ }
+    ensures outcome { λ r. ⌜ Finds (index header texts (entries (now (positions .entry)) (now (exponents .entry)) (now (marks .entry)))) (now (text .entry)) (node kind map layer row column) r ⌝ }
 {
     index_node::find_node(
         text,
@@ -68,7 +68,7 @@ pub fn indexed_block<'a>(
     row: u64,
     column: u64,
 ) -> &'a [u8]
-    ensures { λ r. ⌜ HandsBack (index header texts (entries (now (positions .entry)) (now (exponents .entry)) (now (marks .entry)))) (now (text .entry)) (node kind map layer row column) (now r) ⌝ }
+    ensures outcome { λ r. ⌜ HandsBack (index header texts (entries (now (positions .entry)) (now (exponents .entry)) (now (marks .entry)))) (now (text .entry)) (node kind map layer row column) (now r) ⌝ }
 {
     index_node::find_block(
         text,
@@ -96,7 +96,7 @@ pub extern "C" fn ionex_index(
     texts: &mut [u8],
     place: &mut [u64],
 ) -> u64
-    ensures { λ r. ⌜ crossed r (entries (now (positions .exit)) (now (exponents .exit)) (now (marks .exit))) (now (header .exit)) (now (texts .exit)) (now (place .exit))
+    ensures outcome { λ r. ⌜ crossed r (entries (now (positions .exit)) (now (exponents .exit)) (now (marks .exit))) (now (header .exit)) (now (texts .exit)) (now (place .exit))
         ≡ index-crossed (now (text .entry)) (entries (now (positions .entry)) (now (exponents .entry)) (now (marks .entry))) (now (header .entry)) (now (texts .entry)) (now (place .entry)) ⌝ }
 {
     let short = c_answers::too_short(header.len(), texts.len(), place.len(), 2);
@@ -123,7 +123,9 @@ pub extern "C" fn ionex_indexed_node(
     column: u64,
     value: &mut [i32],
 ) -> u64
-    ensures { λ r. ⌜ NodeCrosses (now (header .entry)) (now (texts .entry)) (entries (now (positions .entry)) (now (exponents .entry)) (now (marks .entry))) (now (text .entry)) (node kind map layer row column) (now (value .entry)) r (now (value .exit)) ⌝ }
+    ensures outcome { λ r. ⌜ NodeCrosses (now (header .entry)) (now (texts .entry))
+        (entries (now (positions .entry)) (now (exponents .entry)) (now (marks .entry)))
+        (now (text .entry)) (node kind map layer row column) (now (value .entry)) r (now (value .exit)) ⌝ }
 {
     let short = c_answers::too_short(header.len(), texts.len(), value.len(), 2);
     if 0 < short {
@@ -163,7 +165,9 @@ pub extern "C" fn ionex_indexed_block(
     column: u64,
     bounds: &mut [u64],
 ) -> u64
-    ensures { λ r. ⌜ BlockCrosses (now (header .entry)) (now (texts .entry)) (entries (now (positions .entry)) (now (exponents .entry)) (now (marks .entry))) (now (text .entry)) (node kind map layer row column) (now (bounds .entry)) r (now (bounds .exit)) ⌝ }
+    ensures outcome { λ r. ⌜ BlockCrosses (now (header .entry)) (now (texts .entry))
+        (entries (now (positions .entry)) (now (exponents .entry)) (now (marks .entry)))
+        (now (text .entry)) (node kind map layer row column) (now (bounds .entry)) r (now (bounds .exit)) ⌝ }
 {
     let short = c_answers::too_short(header.len(), texts.len(), bounds.len(), 2);
     if 0 < short {

@@ -34,8 +34,13 @@ pub fn join(
     epochs: &mut [u64],
     marks: &mut [u8],
 ) -> Joining
-    ensures { λ r. ⌜ comes r ltexts (six (now (tec .exit)) (now (rms .exit)) (now (height .exit)) (now (exponents .exit)) (now (epochs .exit)) (now (marks .exit)))
-        ≡ came (join-into (lent-of early etexts (six (now (atec .entry)) (now (arms .entry)) (now (aheight .entry)) (now (aexponents .entry)) (now (aepochs .entry)) (now (amarks .entry)))) (lent-of late ltexts (six (now (btec .entry)) (now (brms .entry)) (now (bheight .entry)) (now (bexponents .entry)) (now (bepochs .entry)) (now (bmarks .entry)))) (six (now (tec .entry)) (now (rms .entry)) (now (height .entry)) (now (exponents .entry)) (now (epochs .entry)) (now (marks .entry)))) (six (now (tec .entry)) (now (rms .entry)) (now (height .entry)) (now (exponents .entry)) (now (epochs .entry)) (now (marks .entry))) ⌝ }
+    ensures outcome { λ r. ⌜ comes r ltexts (six (now (tec .exit)) (now (rms .exit)) (now (height .exit)) (now (exponents .exit)) (now (epochs .exit)) (now (marks .exit)))
+        ≡ came (join-into (lent-of early etexts
+        (six (now (atec .entry)) (now (arms .entry)) (now (aheight .entry)) (now (aexponents .entry)) (now (aepochs .entry)) (now (amarks .entry))))
+        (lent-of late ltexts
+        (six (now (btec .entry)) (now (brms .entry)) (now (bheight .entry)) (now (bexponents .entry)) (now (bepochs .entry)) (now (bmarks .entry))))
+        (six (now (tec .entry)) (now (rms .entry)) (now (height .entry)) (now (exponents .entry)) (now (epochs .entry)) (now (marks .entry))))
+        (six (now (tec .entry)) (now (rms .entry)) (now (height .entry)) (now (exponents .entry)) (now (epochs .entry)) (now (marks .entry))) ⌝ }
 {
     join_areas::join_sets(
         early,
@@ -92,8 +97,15 @@ pub extern "C" fn ionex_join(
     texts: &mut [u8],
     place: &mut [u64],
 ) -> u64
-    ensures { λ r. ⌜ crossed r (six (now (tec .exit)) (now (rms .exit)) (now (height .exit)) (now (exponents .exit)) (now (epochs .exit)) (now (marks .exit))) (now (header .exit)) (now (texts .exit)) (now (place .exit))
-        ≡ join-crossed (now (aheader .entry)) (now (atexts .entry)) (six (now (atec .entry)) (now (arms .entry)) (now (aheight .entry)) (now (aexponents .entry)) (now (aepochs .entry)) (now (amarks .entry))) (now (bheader .entry)) (now (btexts .entry)) (six (now (btec .entry)) (now (brms .entry)) (now (bheight .entry)) (now (bexponents .entry)) (now (bepochs .entry)) (now (bmarks .entry))) (six (now (tec .entry)) (now (rms .entry)) (now (height .entry)) (now (exponents .entry)) (now (epochs .entry)) (now (marks .entry))) (now (header .entry)) (now (texts .entry)) (now (place .entry)) ⌝ }
+    ensures outcome { λ r. ⌜ crossed r
+        (six (now (tec .exit)) (now (rms .exit)) (now (height .exit)) (now (exponents .exit)) (now (epochs .exit)) (now (marks .exit)))
+        (now (header .exit)) (now (texts .exit)) (now (place .exit))
+        ≡ join-crossed (now (aheader .entry)) (now (atexts .entry))
+        (six (now (atec .entry)) (now (arms .entry)) (now (aheight .entry)) (now (aexponents .entry)) (now (aepochs .entry)) (now (amarks .entry)))
+        (now (bheader .entry)) (now (btexts .entry))
+        (six (now (btec .entry)) (now (brms .entry)) (now (bheight .entry)) (now (bexponents .entry)) (now (bepochs .entry)) (now (bmarks .entry)))
+        (six (now (tec .entry)) (now (rms .entry)) (now (height .entry)) (now (exponents .entry)) (now (epochs .entry)) (now (marks .entry)))
+        (now (header .entry)) (now (texts .entry)) (now (place .entry)) ⌝ }
 {
     let headers = c_answers::shortest(aheader.len(), bheader.len(), header.len());
     let bytes = c_answers::shortest(atexts.len(), btexts.len(), texts.len());

@@ -7,7 +7,7 @@ use calendar::When;
 
 // A second for a second: the date of the one, moved, is the date of the other.
 fn moved_second(second: u64, by: i64) -> When
-    ensures { λ r. ⌜ The (Moves second by) (toldWhen r) ⌝ }
+    ensures outcome { λ r. ⌜ The (Moves second by) (toldWhen r) ⌝ }
 {
     match Epoch::at_second(second) {
         Found::Refused => When::Refused,
@@ -21,7 +21,7 @@ fn moved_second(second: u64, by: i64) -> When
 // An epoch moved by so many seconds: 0, with the epoch; or 7 where it or the result lies outside 1900 to 2199.
 #[no_mangle]
 pub extern "C" fn ionex_moved(second: u64, by: i64, moved: &mut [u64]) -> u64
-    ensures { λ r. ⌜ MoveCrosses second by (now (moved .entry)) r (now (moved .exit)) ⌝ }
+    ensures outcome { λ r. ⌜ MoveCrosses second by (now (moved .entry)) r (now (moved .exit)) ⌝ }
 {
     if moved.len() < 1 {
         return 103;

@@ -18,7 +18,7 @@ pub fn read(
     epochs: &mut [u64],
     marks: &mut [u8],
 ) -> ReadOut
-    ensures { λ r. ⌜ comes r (six (now (tec .exit)) (now (rms .exit)) (now (height .exit)) (now (exponents .exit)) (now (epochs .exit)) (now (marks .exit)))
+    ensures outcome { λ r. ⌜ comes r (six (now (tec .exit)) (now (rms .exit)) (now (height .exit)) (now (exponents .exit)) (now (epochs .exit)) (now (marks .exit)))
         ≡ outcome (now (text .entry)) (six (now (tec .entry)) (now (rms .entry)) (now (height .entry)) (now (exponents .entry)) (now (epochs .entry)) (now (marks .entry))) ⌝ }
 {
     read_text::read_text(text, tec, rms, height, exponents, epochs, marks)
@@ -38,8 +38,12 @@ pub extern "C" fn ionex_read(
     texts: &mut [u8],
     place: &mut [u64],
 ) -> u64
-    ensures { λ r. ⌜ crossed r (six (now (tec .exit)) (now (rms .exit)) (now (height .exit)) (now (exponents .exit)) (now (epochs .exit)) (now (marks .exit))) (now (header .exit)) (now (texts .exit)) (now (place .exit))
-        ≡ read-crossed (now (text .entry)) (six (now (tec .entry)) (now (rms .entry)) (now (height .entry)) (now (exponents .entry)) (now (epochs .entry)) (now (marks .entry))) (now (header .entry)) (now (texts .entry)) (now (place .entry)) ⌝ }
+    ensures outcome { λ r. ⌜ crossed r
+        (six (now (tec .exit)) (now (rms .exit)) (now (height .exit)) (now (exponents .exit)) (now (epochs .exit)) (now (marks .exit)))
+        (now (header .exit)) (now (texts .exit)) (now (place .exit))
+        ≡ read-crossed (now (text .entry))
+        (six (now (tec .entry)) (now (rms .entry)) (now (height .entry)) (now (exponents .entry)) (now (epochs .entry)) (now (marks .entry)))
+        (now (header .entry)) (now (texts .entry)) (now (place .entry)) ⌝ }
 {
     let short = c_answers::too_short(header.len(), texts.len(), place.len(), 2);
     if 0 < short {
@@ -51,7 +55,7 @@ pub extern "C" fn ionex_read(
 
 // What each of the six areas needs for a text, or the reason why it is refused.
 pub fn needs(text: &[u8]) -> Measured
-    ensures { λ r. ⌜ Measures (now (text .entry)) r ⌝ }
+    ensures outcome { λ r. ⌜ Measures (now (text .entry)) r ⌝ }
 {
     read_measure::measure(text)
 }
@@ -59,7 +63,7 @@ pub fn needs(text: &[u8]) -> Measured
 // What a text needs: 0, with the six needs; or 01's number, with its place.
 #[no_mangle]
 pub extern "C" fn ionex_needs(text: &[u8], needs: &mut [u64], place: &mut [u64]) -> u64
-    ensures { λ r. ⌜ NeedsCross (now (text .entry)) (now (needs .entry)) (now (place .entry)) r (now (needs .exit)) (now (place .exit)) ⌝ }
+    ensures outcome { λ r. ⌜ NeedsCross (now (text .entry)) (now (needs .entry)) (now (place .entry)) r (now (needs .exit)) (now (place .exit)) ⌝ }
 {
     if needs.len() < 6 {
         return 103;

@@ -22,7 +22,9 @@ pub fn add(
     marks: &[u8],
     rows: &mut [i64],
 ) -> Added
-    ensures { λ r. ⌜ comes r (now (rows .exit)) ≡ outcome week (given-as header texts (six (now (tec .entry)) (now (rms .entry)) (now (height .entry)) (now (exponents .entry)) (now (epochs .entry)) (now (marks .entry))) (now (rows .entry))) ⌝ }
+    ensures outcome { λ r. ⌜ comes r (now (rows .exit)) ≡ outcome week (given-as header texts
+        (six (now (tec .entry)) (now (rms .entry)) (now (height .entry)) (now (exponents .entry)) (now (epochs .entry)) (now (marks .entry)))
+        (now (rows .entry))) ⌝ }
 {
     week::add(
         week,
@@ -53,8 +55,10 @@ pub extern "C" fn ionex_week_add(
     rows: &mut [i64],
     place: &mut [u64],
 ) -> u64
-    ensures { λ r. ⌜ crossed r (now (week .exit)) (now (rows .exit)) (now (place .exit))
-        ≡ week-crossed (now (week .entry)) (now (header .entry)) (now (texts .entry)) (six (now (tec .entry)) (now (rms .entry)) (now (height .entry)) (now (exponents .entry)) (now (epochs .entry)) (now (marks .entry))) (now (rows .entry)) (now (place .entry)) ⌝ }
+    ensures outcome { λ r. ⌜ crossed r (now (week .exit)) (now (rows .exit)) (now (place .exit))
+        ≡ week-crossed (now (week .entry)) (now (header .entry)) (now (texts .entry))
+        (six (now (tec .entry)) (now (rms .entry)) (now (height .entry)) (now (exponents .entry)) (now (epochs .entry)) (now (marks .entry)))
+        (now (rows .entry)) (now (place .entry)) ⌝ }
 {
     let short = c_week::too_short(header.len(), texts.len(), week.len(), place.len());
     if 0 < short {

@@ -21,7 +21,9 @@ pub fn write(
     marks: &[u8],
     out: &mut [u8],
 ) -> Written
-    ensures { λ r. ⌜ _≡_ {A = Told × List ℕ} (told r, now (out .exit)) (written header texts (six (now (tec .entry)) (now (rms .entry)) (now (height .entry)) (now (exponents .entry)) (now (epochs .entry)) (now (marks .entry))) (now (out .entry))) ⌝ }
+    ensures outcome { λ r. ⌜ _≡_ {A = Told × List ℕ} (told r, now (out .exit)) (written header texts
+        (six (now (tec .entry)) (now (rms .entry)) (now (height .entry)) (now (exponents .entry)) (now (epochs .entry)) (now (marks .entry)))
+        (now (out .entry))) ⌝ }
 {
     write_text::write_text(
         header,
@@ -50,7 +52,9 @@ pub extern "C" fn ionex_write(
     out: &mut [u8],
     count: &mut [u64],
 ) -> u64
-    ensures { λ r. ⌜ crossed r (now (out .exit)) (now (count .exit)) ≡ write-crossed (now (header .entry)) (now (texts .entry)) (six (now (tec .entry)) (now (rms .entry)) (now (height .entry)) (now (exponents .entry)) (now (epochs .entry)) (now (marks .entry))) (now (out .entry)) (now (count .entry)) ⌝ }
+    ensures outcome { λ r. ⌜ crossed r (now (out .exit)) (now (count .exit)) ≡ write-crossed (now (header .entry)) (now (texts .entry))
+        (six (now (tec .entry)) (now (rms .entry)) (now (height .entry)) (now (exponents .entry)) (now (epochs .entry)) (now (marks .entry)))
+        (now (out .entry)) (now (count .entry)) ⌝ }
 {
     let short = c_answers::too_short(header.len(), texts.len(), count.len(), 1);
     if 0 < short {
