@@ -1,3 +1,4 @@
+-- each number in words, so that another one is seen to differ
 use mathlib.Core.Path.{refl}
 use borrow.Author.Needs.{needs}
 use Rattle.c_answers.proofs.put_why.Statement.{statement}
@@ -22,16 +23,16 @@ put-pair-requires : tie.Need-put-pair-requires
 put-pair-requires c κs = search needs
 
 returns : tie.Need-returns
-returns c = search needs
+returns c = rw (c .enum-told .given .1) (refl, refl)
 
 returns-2 : tie.Need-returns-2
-returns-2 c = search needs
+returns-2 c = rw (c .enum-told2 .given .1) (refl, refl)
 
 returns-3 : tie.Need-returns-3
-returns-3 c = search needs
+returns-3 c = rw (c .enum-told3 .given .1) (refl, refl)
 
 returns-4 : tie.Need-returns-4
-returns-4 c = search needs
+returns-4 c = rw (c .enum-told4 .given .1) (refl, refl)
 
 same-length : tie.Need-same-length
 same-length c = search needs

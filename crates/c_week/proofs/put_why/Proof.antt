@@ -1,4 +1,4 @@
--- `c_week::put_why` meets its contract.
+-- `c_week::put_why` meets its contract, each number in words, so that another one is seen to differ.
 use borrow.Author.Needs.{needs}
 use mathlib.Core.Path.{refl}
 use mathlib.Core.List.{[], _∷_}
@@ -22,10 +22,10 @@ slice-write-place-2 : tie.Need-slice-write-place-2
 slice-write-place-2 c = search needs
 
 returns : tie.Need-returns
-returns c = search needs
+returns c = rw (c .enum-told .given .1) (refl, refl)
 
 returns-2 : tie.Need-returns-2
-returns-2 c = search needs
+returns-2 c = rw (c .enum-told2 .given .1) (refl, refl)
 
 same-length : tie.Need-same-length
 same-length c = search needs
