@@ -33,7 +33,7 @@ static const char *words(enum ionex_answer answer)
     case IONEX_BAD_BYTE: return "a byte that is not printable ASCII";
     case IONEX_NOT_IONEX: return "no version record first, or a version, type or code that is not accepted";
     case IONEX_UNKNOWN_LABEL: return "an unknown label";
-    case IONEX_MISPLACED: return "a record where it may not stand, or a second time";
+    case IONEX_MISPLACED: return "a record where it may not stand, or once too often";
     case IONEX_ILL_FORMED: return "a field that is ill-formed, or a byte where blanks belong";
     case IONEX_OUT_OF_RANGE: return "a value outside what is accepted";
     case IONEX_DISAGREES: return "a value that disagrees with the header or an earlier record";

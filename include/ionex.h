@@ -14,7 +14,8 @@
  * Everything else may be anything at all: every text, number and length has an answer.
  *
  * STACK. ionex_read, ionex_needs, ionex_index and ionex_biases take less than 16 KiB, each other call less than 4 KiB,
- * whatever it is given: none calls itself. Nothing is allocated; of the C library memcpy and memset are called, no more.
+ * whatever it is given: none calls itself. tests/stack.c measures it. Nothing is allocated; of the C library memcpy and
+ * memset are called, no more.
  *
  * TIME. Every epoch is in seconds from 1900-01-01 00:00:00, in universal time (UT) as document 001 has its maps, and
  * each day has 86,400 seconds. A clock in GPS time runs ahead of it by the leap seconds that have come since 1980, 18
@@ -45,7 +46,7 @@ enum ionex_answer {
     IONEX_BAD_BYTE = 2,      /* a byte that is not printable ASCII (32 to 126) */
     IONEX_NOT_IONEX = 3,     /* no version record first, or not version 1.0 or 1.1, type I and a code of that version */
     IONEX_UNKNOWN_LABEL = 4, /* columns 61 to 80 hold no label of IONEX */
-    IONEX_MISPLACED = 5,     /* a record where it may not stand, or a second time */
+    IONEX_MISPLACED = 5,     /* a record where it may not stand, or once too often */
     IONEX_ILL_FORMED = 6,    /* no number in a number's field, or a byte where blanks belong */
     IONEX_OUT_OF_RANGE = 7,  /* a value that is not accepted */
     IONEX_DISAGREES = 8,     /* disagrees with the header or an earlier record */
@@ -87,7 +88,7 @@ enum ionex_answer {
                         * block's lines are cut or ill-formed */
 
     /* A small area of the call's own is too short. Told first, in this order, before anything else is looked at,
-     * and then nothing is written. */
+     * and then nothing is written. So is a program that was built with a header file of before IONEX_DESCRIPTIONS. */
     IONEX_SHORT_HEADER = 101, /* fewer than IONEX_HEADER numbers of header */
     IONEX_SHORT_TEXTS = 102,  /* fewer than IONEX_TEXTS bytes of texts */
     IONEX_SHORT_RESULT = 103  /* no room for place, needs, count, value, bounds, record, moved, counts or week */
@@ -142,7 +143,9 @@ enum ionex_header {
     IONEX_SATELLITES = 22, /* # OF SATELLITES */
     IONEX_SYSTEMS = 23,    /* SYS / #STA / #SAT of G R E C J I S: three numbers each, see below */
 
-    IONEX_HEADER = 44 /* how many numbers there are */
+    IONEX_DESCRIPTIONS = 44, /* how many DESCRIPTION lines there are, 0 to 20; see IONEX_DESCRIPTION_LINE below */
+
+    IONEX_HEADER = 45 /* how many numbers there are */
 };
 
 enum ionex_code {
@@ -166,13 +169,19 @@ enum ionex_code {
 
 /* Places in the texts, IONEX_TEXTS bytes: printable, padded with blanks, no ending 0. */
 enum ionex_texts {
-    IONEX_PROGRAM = 0,      /* 20 bytes: the program that made the file */
-    IONEX_RUN_BY = 20,      /* 20 bytes: the agency */
-    IONEX_DATE = 40,        /* 20 bytes: date and time of making */
-    IONEX_MAPPING = 60,     /*  4 bytes: MAPPING FUNCTION */
-    IONEX_OBSERVABLES = 64, /* 60 bytes: OBSERVABLES USED */
-    IONEX_TEXTS = 124       /* how many bytes there are */
+    IONEX_PROGRAM = 0,       /* 20 bytes: the program that made the file */
+    IONEX_RUN_BY = 20,       /* 20 bytes: the agency */
+    IONEX_DATE = 40,         /* 20 bytes: date and time of making */
+    IONEX_MAPPING = 60,      /*  4 bytes: MAPPING FUNCTION */
+    IONEX_OBSERVABLES = 64,  /* 60 bytes: OBSERVABLES USED */
+    IONEX_DESCRIPTION = 124, /* 20 lines of 60 bytes: the DESCRIPTION lines in the text's order, blank ones too; those behind
+                              * the last of header[IONEX_DESCRIPTIONS] are blank, and a call that is given others answers 31 */
+    IONEX_TEXTS = 1324       /* how many bytes there are */
 };
+
+/* Where the k-th DESCRIPTION line (k from 0) stands in the texts: IONEX_DESCRIPTION_BYTES bytes. */
+#define IONEX_DESCRIPTION_BYTES 60
+#define IONEX_DESCRIPTION_LINE(k) (IONEX_DESCRIPTION + IONEX_DESCRIPTION_BYTES * (k))
 
 /*
  * Reads an IONEX text into the six areas.
@@ -219,8 +228,8 @@ uint64_t ionex_needs(const uint8_t *text, size_t text_len,
                      uint64_t *place, size_t place_len); /* 2 numbers, else 103 */
 
 /*
- * Writes a map set as canonical text: the one text that says the same in a fixed order and spacing. What a reading skips
- * is not in it: DESCRIPTION and COMMENT records and aux blocks.
+ * Writes a map set as canonical text: the one text that says the same in a fixed order and spacing. DESCRIPTION lines come
+ * behind PGM / RUN BY / DATE. What a reading skips is not in it: COMMENT records and aux blocks.
  *
  *   0    count[0] bytes of text stand in front of out; the bytes behind them are as found.
  *   30   out is too short; count[0] is the bytes needed.
@@ -321,7 +330,7 @@ uint64_t ionex_delay(const int64_t *header, size_t header_len, /* IONEX_HEADER n
 /*
  * Joins two map sets of which the earlier one's last epoch is the later one's first. The shared map comes once, from the
  * later set, with its RMS and height maps. The header is the later set's, with the earlier first epoch and n of both;
- * INTERVAL is kept where both are equal and else 0. The texts are the later set's.
+ * INTERVAL is kept where both are equal and else 0. The texts are the later set's, its DESCRIPTION lines too.
  *
  *   0            the joined set stands in front of the six areas, of header and of texts; place is as found. It is a
  *                valid map set: it can be asked, written, and joined again.

@@ -37,6 +37,43 @@ static uint64_t ask(enum ionex_kind kind)
     return ionex_ask(SET, kind, IONEX_BETWEEN, 0, -1000, 0, epochs[0], AREA(value));
 }
 
+static int blank(size_t from, size_t to)
+{
+    while (from < to && texts[from] == ' ')
+        from++;
+    return from == to;
+}
+
+/* A caller that was built before there were descriptions lends 44 numbers and 124 bytes: nothing is written. */
+static void old_lengths(size_t length)
+{
+    int64_t numbers[44], numbers_before[44];
+    uint8_t words[124], words_before[124];
+    int32_t left[8], left_before[8];
+    memset(numbers, 7, sizeof numbers);
+    memset(words, 7, sizeof words);
+    memset(left, 7, sizeof left);
+    memcpy(numbers_before, numbers, sizeof numbers);
+    memcpy(words_before, words, sizeof words);
+    memcpy(left_before, left, sizeof left);
+    memset(out, 7, sizeof out);
+    place[0] = place[1] = count[0] = 99;
+    value[0] = 99;
+    must(ionex_read(text, length, AREA(left), AREA(rms), AREA(height), AREA(exponents), AREA(epochs), AREA(marks),
+                    AREA(numbers), AREA(words), AREA(place)) == IONEX_SHORT_HEADER, "an old header, read");
+    must(ionex_read(text, length, AREA(left), AREA(rms), AREA(height), AREA(exponents), AREA(epochs), AREA(marks),
+                    AREA(header), AREA(words), AREA(place)) == IONEX_SHORT_TEXTS, "old texts, read");
+    must(ionex_write(header, 44, texts, 124, AREA(tec), AREA(rms), AREA(height), AREA(exponents), AREA(epochs),
+                     AREA(marks), AREA(out), AREA(count)) == IONEX_SHORT_HEADER, "an old header, written");
+    must(ionex_write(AREA(header), texts, 124, AREA(tec), AREA(rms), AREA(height), AREA(exponents), AREA(epochs),
+                     AREA(marks), AREA(out), AREA(count)) == IONEX_SHORT_TEXTS, "old texts, written");
+    must(ionex_ask(header, 44, texts, 124, AREA(tec), AREA(rms), AREA(height), AREA(exponents), AREA(epochs), AREA(marks),
+                   IONEX_KIND_TEC, IONEX_BETWEEN, 0, -1000, 0, epochs[0], AREA(value)) == IONEX_SHORT_HEADER, "asked");
+    must(memcmp(numbers, numbers_before, sizeof numbers) == 0 && memcmp(words, words_before, sizeof words) == 0 &&
+         memcmp(left, left_before, sizeof left) == 0, "nothing is written to old lengths");
+    must(out[0] == 7 && place[0] == 99 && place[1] == 99 && count[0] == 99 && value[0] == 99, "nor anywhere else");
+}
+
 int main(int argc, char **argv)
 {
     if (argc != 3)
@@ -67,8 +104,12 @@ int main(int argc, char **argv)
     must(header[IONEX_HAS_SYSTEM(1)] == 0, "system R");
     must(memcmp(texts + IONEX_PROGRAM, " p ", 3) == 0 && texts[IONEX_RUN_BY + 1] == 'a', "program and agency");
     must(texts[IONEX_DATE + 1] == 'd' && memcmp(texts + IONEX_MAPPING, "NONE", 4) == 0, "date and mapping");
-    must(texts[IONEX_OBSERVABLES] == ' ' && texts[IONEX_TEXTS - 1] == ' ', "observables");
+    must(texts[IONEX_OBSERVABLES] == ' ' && texts[IONEX_OBSERVABLES + 59] == ' ', "observables");
+    must(header[IONEX_DESCRIPTIONS] == 1 && memcmp(texts + IONEX_DESCRIPTION, "a description ", 14) == 0, "a description");
+    must(blank(IONEX_DESCRIPTION_LINE(0) + 13, IONEX_DESCRIPTION_LINE(20)), "blanks behind it");
+    must(IONEX_DESCRIPTION_LINE(20) == IONEX_TEXTS, "room for twenty");
     must(marks[0] == 2 && marks[1] == 1 && epochs[0] == 3155673599, "marks and epochs");
+    old_lengths(length);
 
     must(ionex_write(SET, out, 10, AREA(count)) == IONEX_SHORT_OUTPUT && count[0] == need, "a short output");
     must(ionex_write(SET, AREA(out), AREA(count)) == IONEX_DONE && count[0] == need, "writing");
@@ -94,6 +135,15 @@ int main(int argc, char **argv)
     texts[IONEX_DATE] = 127;
     must(ask(IONEX_KIND_TEC) == IONEX_NO_MAP_SET, "asking looks at the texts");
     texts[IONEX_DATE] = ' ';
+    texts[IONEX_DESCRIPTION_LINE(1)] = 'x';
+    must(ionex_write(SET, AREA(out), AREA(count)) == IONEX_NO_MAP_SET, "a byte behind the last description, written");
+    must(ask(IONEX_KIND_TEC) == IONEX_NO_MAP_SET, "a byte behind the last description, asked");
+    header[IONEX_DESCRIPTIONS] = 2;
+    must(ask(IONEX_KIND_TEC) == IONEX_DONE, "a second description");
+    header[IONEX_DESCRIPTIONS] = 21;
+    must(ask(IONEX_KIND_TEC) == IONEX_NO_MAP_SET, "a twenty-first description");
+    header[IONEX_DESCRIPTIONS] = 1;
+    texts[IONEX_DESCRIPTION_LINE(1)] = ' ';
 
     double record[IONEX_RECORD] = {-1, -1, -1};
     must(ionex_tecu_delay(1000, 0, AREA(record)) == IONEX_UNSERVED_CARRIER && record[0] == -1, "no carrier");

@@ -2,7 +2,7 @@
 
 use second::header::exponent_fits;
 use second::maps::{self, value_fits, Kind, KINDS, NO_VALUE};
-use second::{Axis, Given, Header, Question, View};
+use second::{Axis, Given, Header, Question, Texts, View};
 
 /// Two neighbouring lines or maps, and the share of each.
 #[derive(Clone, Copy)]
@@ -186,10 +186,24 @@ pub fn blocks(header: &Header) -> usize {
     (header.heights.count() * header.latitudes.count()) as usize
 }
 
+/// Every byte can be printed, and behind the last description all is blank; looked at without a branch for each byte.
+fn texts_fit(texts: &Texts, header: &Header) -> bool {
+    let printable = |bytes: &[u8]| bytes.iter().fold(true, |ok, b| ok & (32..=126).contains(b));
+    let lines = texts.descriptions.as_flattened();
+    let behind = &lines[60 * header.descriptions as usize..];
+    printable(&texts.program)
+        && printable(&texts.agency)
+        && printable(&texts.date)
+        && printable(&texts.mapping)
+        && printable(&texts.observables)
+        && printable(lines)
+        && behind.iter().fold(true, |ok, &b| ok & (b == b' '))
+}
+
 /// The header, the texts, lengths, marks and epochs.
 pub fn fits(given: &Given) -> bool {
     let (header, view) = (given.header, &given.areas);
-    if !header.is_valid() || !given.texts.is_valid() {
+    if !header.is_valid() || !texts_fit(given.texts, header) {
         return false;
     }
     let maps = header.maps as usize;

@@ -53,6 +53,15 @@ pub fn with_biases(stations: usize) -> String {
     global(false).replacen(END_OF_HEADER, &(block + END_OF_HEADER), 1)
 }
 
+/// The file of TEC maps with so many COMMENT lines in its header.
+pub fn with_comments(lines: usize) -> String {
+    let mut remarks = String::new();
+    for line in 0..lines {
+        record(&mut remarks, &format!("remark {line}"), "COMMENT");
+    }
+    global(false).replacen(END_OF_HEADER, &(remarks + END_OF_HEADER), 1)
+}
+
 const TITLE: &str = "DIFFERENTIAL CODE BIASES";
 const END_OF_HEADER: &str =
     "                                                            END OF HEADER";

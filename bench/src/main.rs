@@ -1,5 +1,5 @@
 //! Times the library beside plain Rust that makes the same checks: reading two global files, asking, writing,
-//! and joining; and the library alone: an epoch moved, and the biases of a header.
+//! and joining; and the library alone: an epoch moved, the biases of a header, and its COMMENT lines.
 //! The last line is `ratio X`: the library's time over the plain reader's for the file of TEC maps.
 
 #![forbid(unsafe_code)]
@@ -42,6 +42,7 @@ fn main() {
     report_joining(&both, &files::of_day(2, true));
     report_biases(300);
     report_biases(2000);
+    report_comments(100_000);
     println!("ratio {ratio:.2}");
 }
 
@@ -261,4 +262,21 @@ fn report_biases(stations: usize) {
     }
     let [biases, needs] = best.map(micros);
     println!("biases of 32 satellites and {stations} stations: {biases:.0} us, the text's needs {needs:.0} us");
+}
+
+/// What each of so many COMMENT lines costs, by the needs of the text with them and without.
+fn report_comments(lines: usize) {
+    let texts = [files::global(false), files::with_comments(lines)];
+    let mut best = [Duration::MAX; 2];
+    for _ in 0..ASKING_ROUNDS {
+        for (best, text) in best.iter_mut().zip(&texts) {
+            let answer = timed(best, || {
+                Archive.needs(black_box(text.as_bytes()), &mut [0; 6], &mut [0; 2])
+            });
+            assert_eq!(answer, 0);
+        }
+    }
+    let [without, with] = best.map(micros);
+    let each = (with - without) * 1000.0 / lines as f64;
+    println!("one of {lines} COMMENT lines in the header: library {each:.0} ns");
 }

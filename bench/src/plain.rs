@@ -333,7 +333,13 @@ impl Reader {
             return Ok(());
         }
         match label {
-            Label::Description | Label::Comment => {}
+            Label::Comment => {}
+            Label::Description => {
+                let at = self.header.descriptions as usize;
+                check(at < header::DESCRIPTIONS, 5, 61)?;
+                self.texts.descriptions[at].copy_from_slice(body);
+                self.header.descriptions += 1;
+            }
             Label::Exponent => self.exponent = fitting(body, header::exponent_fits)? as i32,
             Label::Stations => {
                 check(!self.header.stations.stands, 5, 61)?;

@@ -5,7 +5,7 @@ use crate::status::Stop;
 use ionex::{Index, IndexAreas, HEADER, TEXTS};
 
 const MAGIC: &[u8; 8] = b"IONEXIDX";
-const VERSION: u32 = 1;
+const VERSION: u32 = 2;
 
 /// Magic, version and two counts; the header's numbers and texts; and at the end the checksum.
 const HEAD: usize = 8 + 4 + 8 + 8;
@@ -63,21 +63,26 @@ fn counts(bytes: &[u8]) -> Result<(usize, usize), String> {
     if !bytes.starts_with(MAGIC) {
         return Err("not an index file: it does not begin with IONEXIDX".to_string());
     }
-    if bytes.len() < FIXED + SUM {
-        let least = FIXED + SUM;
-        return Err(format!(
+    let least = FIXED + SUM;
+    let cut = || {
+        format!(
             "an index file that is cut: {} of at least {least} bytes",
             bytes.len()
-        ));
-    }
-    let version = number(&bytes[8..12], u32::from_le_bytes);
+        )
+    };
+    // Before the length, for a whole file of another version may be shorter.
+    let version = bytes.get(8..12).ok_or_else(cut)?;
+    let version = number(version, u32::from_le_bytes);
     if version != VERSION {
         return Err(format!(
-            "an index file of version {version}, and only version {VERSION} is read"
+            "an index file of version {version}, and only version {VERSION} is read: make it again by `ionex index`"
         ));
     }
+    if bytes.len() < least {
+        return Err(cut());
+    }
     let [entries, marks] = [12, 20].map(|at| number(&bytes[at..at + 8], u64::from_le_bytes));
-    let long = (FIXED + SUM) as u128 + 12 * u128::from(entries) + u128::from(marks);
+    let long = least as u128 + 12 * u128::from(entries) + u128::from(marks);
     let found = bytes.len() as u128;
     if found < long {
         return Err(format!(
@@ -115,16 +120,17 @@ mod tests {
             marks: vec![1, 2],
         });
         let written = bytes(&index);
-        assert_eq!(written.len(), 504 + 12 + 2 + 4);
+        assert_eq!(written.len(), 1712 + 12 + 2 + 4);
         assert_eq!(
             &written[..28],
-            b"IONEXIDX\x01\0\0\0\x01\0\0\0\0\0\0\0\x02\0\0\0\0\0\0\0"
+            b"IONEXIDX\x02\0\0\0\x01\0\0\0\0\0\0\0\x02\0\0\0\0\0\0\0"
         );
         assert_eq!(written[28..36], [0xff; 8]);
         assert_eq!(written[44..52], [1, 0, 0, 0, 0, 0, 0, 0]);
-        assert_eq!(written[380..504], [b't'; 124]);
-        assert_eq!(written[504..512], [4, 3, 2, 1, 0, 0, 0, 0]);
-        assert_eq!(written[512..518], [0xfd, 0xff, 0xff, 0xff, 1, 2]);
+        assert_eq!(written[380..388], [43, 0, 0, 0, 0, 0, 0, 0]);
+        assert_eq!(written[388..1712], [b't'; 1324]);
+        assert_eq!(written[1712..1720], [4, 3, 2, 1, 0, 0, 0, 0]);
+        assert_eq!(written[1720..1726], [0xfd, 0xff, 0xff, 0xff, 1, 2]);
         assert_eq!(parts(&written).as_ref(), Ok(index.as_areas()));
     }
 }

@@ -15,6 +15,7 @@ fn examples() {
         "accepted-3d",
         "accepted-4000-values",
         "accepted-canonical",
+        "accepted-descriptions",
         "size-32768",
     ] {
         let ran = ionex(&["canon", &format!("tests/examples/{name}.inx")]);

@@ -399,11 +399,19 @@ fn what_was_expected() {
             "6 19:1",
             "3 more values of latitude 10.0 (line 18), which has 3, 16 to a line, found LAT/LON1/LON2/DLON/H",
         ),
-        // 5: out of place, or a second time
+        // 5: out of place, or once too often
         (
             damaged(|lines| lines.insert(5, record("  7200", "INTERVAL"))),
             "5 6:61",
             "INTERVAL once: it stands on line 5",
+        ),
+        (
+            damaged(|lines| {
+                lines.splice(2..2, vec![record("", "DESCRIPTION"); 20]);
+                lines.insert(24, record("one more", "DESCRIPTION"));
+            }),
+            "5 25:61",
+            "at most 20 DESCRIPTION lines: line 22 is the last",
         ),
         (without(15..=15), "5 15:61", "END OF HEADER before START OF TEC MAP"),
         (without(22..=22), "5 22:61", "END OF TEC MAP before it, for TEC map 1 (line 16)"),
@@ -439,6 +447,25 @@ fn what_was_expected() {
         let (found, expected, _) = told(&text);
         assert_eq!((found.as_str(), expected.as_str()), (place, words));
     }
+}
+
+/// The twenty-first, written out by hand.
+#[test]
+fn too_many_descriptions() {
+    let file = "tests/examples/refused-05-description.inx";
+    let ran = ionex(&["check", file]);
+    let blanks = " ".repeat(60);
+    let expected = format!(
+        "{file}:39:61: refused 5: a record where it may not stand, or once too often\n\
+         \u{20}  39 | {blanks}DESCRIPTION\n\
+         \u{20}     | {blanks}^~~~~~~~~~~\n\
+         \u{20}     = expected at most 20 DESCRIPTION lines: line 38 is the last\n\
+         \u{20}     = hint: there may be any number of COMMENT lines, which are skipped: make COMMENT of those that are too \
+         many\n"
+    );
+    assert_eq!((ran.status, ran.text()), (1, expected.as_str()));
+    let ran = ionex(&["check", "tests/examples/accepted-descriptions.inx"]);
+    assert!(ran.done().contains(": ok, 2 TEC and 1 RMS maps, 2 × 3, "));
 }
 
 /// Labels with a slip, in small letters, or in another column.

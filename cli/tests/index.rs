@@ -20,7 +20,7 @@ const KINDS: [(&str, Kind); 3] = [
 /// Where the parts of an index file begin, by docs/INDEX-FILE.md: version, header numbers, positions.
 const VERSION: usize = 8;
 const HEADER: usize = 28;
-const POSITIONS: usize = 504;
+const POSITIONS: usize = 1712;
 
 /// The index file of a file, made in a folder.
 fn index_of(folder: &Folder, file: &str) -> String {
@@ -331,35 +331,40 @@ fn wrong_index_files() {
         (example("accepted-canonical.inx"), no_index),
         (
             right[..8].to_vec(),
-            "an index file that is cut: 8 of at least 508 bytes",
+            "an index file that is cut: 8 of at least 1716 bytes",
         ),
         (
-            right[..507].to_vec(),
-            "an index file that is cut: 507 of at least 508 bytes",
+            right[..1715].to_vec(),
+            "an index file that is cut: 1715 of at least 1716 bytes",
         ),
         (
-            right[..653].to_vec(),
-            "an index file that is cut: 653 of 654 bytes",
+            right[..1861].to_vec(),
+            "an index file that is cut: 1861 of 1862 bytes",
         ),
         (
             [&right[..], b"\n"].concat(),
-            "an index file with more behind its end: 655 bytes, and it has 654",
+            "an index file with more behind its end: 1863 bytes, and it has 1862",
         ),
         (
             right.repeat(2),
-            "an index file with more behind its end: 1308 bytes, and it has 654",
+            "an index file with more behind its end: 3724 bytes, and it has 1862",
         ),
         (
             version(0),
-            "an index file of version 0, and only version 1 is read",
+            "an index file of version 0, and only version 2 is read: make it again by `ionex index`",
         ),
         (
-            version(2),
-            "an index file of version 2, and only version 1 is read",
+            version(3),
+            "an index file of version 3, and only version 2 is read: make it again by `ionex index`",
+        ),
+        // As long as a whole file of the version before, which had no descriptions.
+        (
+            version(1)[..654].to_vec(),
+            "an index file of version 1, and only version 2 is read: make it again by `ionex index`",
         ),
         (
             summed(&endless),
-            "an index file that is cut: 654 of 239807672958224171503 bytes",
+            "an index file that is cut: 1862 of 239807672958224172711 bytes",
         ),
     ];
     for (bytes, words) in cases {
@@ -382,7 +387,8 @@ fn damaged_index_files() {
     let index = index_of(&folder, CANONICAL);
     let right = std::fs::read(&index).expect("an index");
     let mut chance = Chance::new(80);
-    for at in (0..right.len()).step_by(7).chain(650..654) {
+    let end = right.len();
+    for at in (0..end).step_by(7).chain(end - 4..end) {
         let mut bytes = right.clone();
         bytes[at] ^= 1 << chance.below(8);
         let wrong = folder.file("wrong.index", &bytes);
@@ -413,6 +419,11 @@ fn index_files_of_noise() {
     let noise = with(HEADER + 8 * 6, &[0xff; 8]);
     node(&noise, CANONICAL, "tec 1 0 0 0").failed(1, invalid);
     let noise = with(POSITIONS + 12 * 12, &[4]);
+    node(&noise, CANONICAL, "tec 1 0 0 0").failed(1, invalid);
+    // A letter behind the last description, and the number of them.
+    let noise = with(POSITIONS - 1, b"x");
+    node(&noise, CANONICAL, "tec 1 0 0 0").failed(1, invalid);
+    let noise = with(HEADER + 8 * 44, &[21]);
     node(&noise, CANONICAL, "tec 1 0 0 0").failed(1, invalid);
     // The first position, and the first exponent.
     for (at, bytes) in [

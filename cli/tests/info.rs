@@ -14,6 +14,7 @@ tests/examples/accepted-2d-freedoms.inx
   program            p
   run by             a
   date               d
+  description       a description
   mapping function  NONE
   elevation cutoff  0.0 degrees
   observables
@@ -83,7 +84,7 @@ fn for_machines() {
     let ran = ionex_given(&example("accepted-canonical.inx"), &["info", "-", "--json"]);
     let expected = concat!(
         r#"{"file":"standard input","version":1.1,"code":"GNS","program":"program","run_by":"agency","#,
-        r#""date":"1-jan-00 00:00","mapping_function":"COSZ","elevation_cutoff":20.0,"observables":"carrier phase","#,
+        r#""date":"1-jan-00 00:00","descriptions":[],"mapping_function":"COSZ","elevation_cutoff":20.0,"observables":"carrier phase","#,
         r#""stations":null,"satellites":null,"systems":[],"base_radius":6371.0,"dimension":2,"#,
         r#""heights":{"first":400.0,"last":400.0,"step":0.0,"nodes":1},"#,
         r#""latitudes":{"first":10.0,"last":0.0,"step":-10.0,"nodes":2},"#,
@@ -95,6 +96,55 @@ fn for_machines() {
         "\n"
     );
     assert_eq!(ran.done(), expected);
+}
+
+/// None, one of them, and twenty: each as it stands, without the blanks at its end, blank ones too.
+#[test]
+fn descriptions() {
+    let shown = |file: &str| {
+        let ran = ionex(&["info", &format!("tests/examples/{file}.inx")]);
+        let lines = ran.done().lines().map(str::to_string);
+        let shown: Vec<String> = lines
+            .filter(|line| line.starts_with("  description"))
+            .collect();
+        shown
+    };
+    assert_eq!(shown("accepted-canonical"), [""; 0]);
+    assert_eq!(
+        shown("accepted-2d-freedoms"),
+        ["  description       a description"]
+    );
+    assert_eq!(
+        shown("001-table-3"),
+        [
+            "  description       global ionosphere maps for day 288, 1995",
+            "  description       modeled by spherical harmonics ...",
+        ]
+    );
+    let twenty = shown("accepted-descriptions");
+    assert_eq!(twenty.len(), 20);
+    assert_eq!(
+        twenty[..3],
+        [
+            "  description       the model of these maps",
+            "  description",
+            "  description         two blanks first",
+        ]
+    );
+    assert_eq!(twenty[5], format!("  description       {}", "~".repeat(60)));
+    assert_eq!(
+        twenty[8],
+        format!("  description       {}x", " ".repeat(59))
+    );
+    assert_eq!(
+        twenty[18..],
+        ["  description       nineteen", "  description"]
+    );
+    let ran = ionex(&["info", "tests/examples/accepted-descriptions.inx", "--json"]);
+    let start = r#""descriptions":["the model of these maps","","  two blanks first","the same line","the same line","~"#;
+    let end = r#""15","16","17","18","nineteen",""],"mapping_function""#;
+    assert!(ran.done().contains(start), "{}", ran.text());
+    assert!(ran.text().contains(end), "{}", ran.text());
 }
 
 #[test]

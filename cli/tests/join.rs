@@ -117,6 +117,35 @@ fn two_by_hand() {
     assert_eq!(fs::read(&late).expect("late"), expected);
 }
 
+/// Descriptions are the later file's, none where it has none.
+#[test]
+fn descriptions() {
+    let folder = Folder::new();
+    let described = |text: Vec<u8>, bodies: &[&str]| {
+        let text = String::from_utf8(text).expect("ASCII");
+        let mut lines: Vec<String> = text.lines().map(str::to_string).collect();
+        lines.splice(2..2, bodies.iter().map(|body| record(body, "DESCRIPTION")));
+        global::joined(&lines)
+    };
+    let early = small("early", 7200, &[(0, 1, None), (2, 11, None)]);
+    let late = small("late", 7200, &[(2, 101, None), (4, 111, None)]);
+    let both = small(
+        "late",
+        7200,
+        &[(0, 1, None), (2, 101, None), (4, 111, None)],
+    );
+    for (ours, theirs) in [
+        (&["old", "older"][..], &["new", "", "newer"][..]),
+        (&[], &["new"]),
+        (&["old"; 20], &[]),
+    ] {
+        let first = folder.file("early.inx", &described(early.clone(), ours));
+        let second = folder.file("late.inx", &described(late.clone(), theirs));
+        let expected = described(both.clone(), theirs);
+        assert_eq!(ionex(&["join", &first, &second]).out, expected);
+    }
+}
+
 /// An RMS map that only the dropped map had is gone; intervals that differ are 0.
 #[test]
 fn what_is_not_kept() {

@@ -143,13 +143,70 @@ fn a_global_day() {
         assert!(found.contains(&label), "{label} in {found:?}");
     }
     let image = Image::read(&fs::read(&png).expect("a PNG"));
-    assert_eq!((image.width, image.height), (1240, 124 + 473 + 84));
+    assert_eq!((image.width, image.height), (1240, 124 + 473 + 84 + 24));
+    assert_eq!(
+        found.last(),
+        Some(&"two crests that follow the Sun; the values are made up")
+    );
     // The crest lies where it is two in the afternoon, 112.5 degrees east; the far side is dark.
     let [crest, night] = [90 + 780, 90 + 300].map(|x| image.at(x, 124 + 236 - 33));
     assert!(
         crest[0] > 150 && crest[1] > 200 && night[1] < 60,
         "{crest:?} {night:?}"
     );
+}
+
+/// The file's own words stand below the map, each on its line, and a blank line leaves its room.
+#[test]
+fn descriptions_below_the_map() {
+    let folder = Folder::new();
+    let (svg, png) = (folder.path("map.svg"), folder.path("map.png"));
+    let draw = |name: &str| {
+        let file = format!("tests/examples/{name}.inx");
+        for out in [&svg, &png] {
+            assert_eq!(ionex(&["plot", &file, "-o", out]).done(), "");
+        }
+        let image = Image::read(&fs::read(&png).expect("a PNG"));
+        (fs::read_to_string(&svg).expect("an SVG"), image)
+    };
+    // None: all ends below the longitudes.
+    let (svg, image) = draw("accepted-canonical");
+    assert!(!svg.contains("monospace"));
+    assert_eq!(image.height, 124 + 600 + 84);
+
+    let (svg, image) = draw("accepted-2d-freedoms");
+    assert!(svg.contains(">a description</text>"));
+    let end = 124 + 600 + 84;
+    assert_eq!(image.height, end + 24);
+
+    // The same map as the first, and twenty lines.
+    let (svg, image) = draw("accepted-descriptions");
+    assert_eq!((image.width, image.height), (1180, end + 20 * 24));
+    let found = words(&svg);
+    let first = found
+        .iter()
+        .position(|words| *words == "the model of these maps")
+        .expect("the first");
+    assert_eq!(
+        found[first + 1..first + 4],
+        ["  two blanks first", "the same line", "the same line"]
+    );
+    assert_eq!(found[first..].len(), 17, "three lines are blank");
+    assert_eq!(found.last(), Some(&"nineteen"));
+    let ink = |line: usize, from: usize, to: usize| {
+        let rows = end + 24 * line - 2..end + 24 * (line + 1) - 2;
+        let dots = rows.flat_map(|y| (from..to).map(move |x| (x, y)));
+        dots.filter(|&(x, y)| image.at(x, y) == [0, 0, 0]).count()
+    };
+    for line in 0..20 {
+        let blank = [1, 10, 19].contains(&line);
+        assert_eq!(ink(line, 0, 1180) == 0, blank, "line {}", line + 1);
+    }
+    // Twelve pixels to a column: two blanks first, and a letter in column 60 alone.
+    assert_eq!(ink(2, 90, 90 + 24), 0);
+    assert!(ink(2, 90 + 24, 90 + 36) > 0);
+    assert_eq!(ink(8, 0, 90 + 59 * 12), 0);
+    assert!(ink(8, 90 + 59 * 12, 90 + 60 * 12) > 0);
 }
 
 #[test]

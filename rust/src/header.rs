@@ -4,8 +4,12 @@ use crate::epoch::Epoch;
 use std::fmt;
 
 /// How many numbers a header has, and how many bytes its texts.
-pub const HEADER: usize = 44;
-pub const TEXTS: usize = 124;
+pub const HEADER: usize = 45;
+pub const TEXTS: usize = 1324;
+
+/// How many DESCRIPTION lines a header has room for, and the columns of each.
+pub const DESCRIPTIONS: usize = 20;
+pub const DESCRIPTION_COLUMNS: usize = 60;
 
 /// The codes with their letters, as the archive numbers them from 0.
 const CODES: [(Code, &str); 11] = [
@@ -171,6 +175,8 @@ pub struct Header {
     pub satellites: Option<u32>,
     /// For each letter of G R E C J I S its stations and satellites, where its SYS record stands.
     pub systems: [(char, Option<(u32, u32)>); 7],
+    /// How many DESCRIPTION lines there are, 0 to 20; [`crate::MapSet::descriptions`] are they.
+    pub descriptions: usize,
 }
 
 impl Header {
@@ -203,6 +209,7 @@ impl Header {
             stations: (numbers[19] != 0).then(|| count(20)),
             satellites: (numbers[21] != 0).then(|| count(22)),
             systems: std::array::from_fn(system),
+            descriptions: numbers[44].clamp(0, DESCRIPTIONS as i64) as usize,
         }
     }
 }

@@ -5,7 +5,7 @@ use crate::header::{Header, HEADER, TEXTS};
 use crate::refusal::{Refusal, INDEX_AREAS};
 use crate::value::{Kind, Written};
 
-/// An index as the archive holds it: 44 numbers, 124 bytes of texts, and three areas. Any numbers and any lengths may stand
+/// An index as the archive holds it: 45 numbers, 1,324 bytes of texts, and three areas. Any numbers and any lengths may stand
 /// here.
 #[derive(Clone, Debug, PartialEq, Eq)]
 pub struct IndexAreas {

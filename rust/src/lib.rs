@@ -39,7 +39,7 @@ mod words;
 pub use biases::{Biases, MilliNs, Satellite, Station, System};
 pub use delay::{Carrier, Delay, Metres, Tecu};
 pub use epoch::{Date, Epoch};
-pub use header::{Axis, Code, Header, Version, HEADER, TEXTS};
+pub use header::{Axis, Code, Header, Version, DESCRIPTIONS, DESCRIPTION_COLUMNS, HEADER, TEXTS};
 pub use index::{Index, IndexAreas};
 pub use mapset::{Areas, MapSet, NO_VALUE};
 pub use place::Place;

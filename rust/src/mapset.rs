@@ -2,7 +2,7 @@
 
 use crate::epoch::Epoch;
 use crate::ffi;
-use crate::header::{Code, Header, Version, HEADER, TEXTS};
+use crate::header::{Code, Header, Version, DESCRIPTIONS, DESCRIPTION_COLUMNS, HEADER, TEXTS};
 use crate::place::Place;
 use crate::refusal::{Refusal, MAP_AREAS};
 use crate::value::{Answer, Kind, Method, Written};
@@ -10,7 +10,7 @@ use crate::value::{Answer, Kind, Method, Written};
 /// The number that says that a node has no value.
 pub const NO_VALUE: i32 = 9999;
 
-/// A map set as the archive holds it: 44 numbers, 124 bytes of texts and six areas, as include/ionex.h has them. Any
+/// A map set as the archive holds it: 45 numbers, 1,324 bytes of texts and six areas, as include/ionex.h has them. Any
 /// numbers and any lengths may stand here.
 #[derive(Clone, Debug, PartialEq, Eq)]
 pub struct Areas {
@@ -298,7 +298,24 @@ impl MapSet {
 
     /// OBSERVABLES USED.
     pub fn observables(&self) -> &str {
-        self.text(64, TEXTS)
+        self.text(64, DESCRIPTION)
+    }
+
+    /// The DESCRIPTION lines in the file's order, blank ones too; without the blanks at their ends, as all texts here.
+    ///
+    /// ```
+    /// use ionex::MapSet;
+    ///
+    /// let maps = MapSet::read(&std::fs::read("../tests/examples/001-table-3.inx")?)?;
+    /// let lines: Vec<&str> = maps.descriptions().collect();
+    /// assert_eq!(lines, ["global ionosphere maps for day 288, 1995", "modeled by spherical harmonics ..."]);
+    /// # Ok::<(), Box<dyn std::error::Error>>(())
+    /// ```
+    pub fn descriptions(&self) -> impl ExactSizeIterator<Item = &str> + DoubleEndedIterator {
+        (0..self.header.descriptions).map(|line| {
+            let start = DESCRIPTION + line * DESCRIPTION_COLUMNS;
+            self.text(start, start + DESCRIPTION_COLUMNS)
+        })
     }
 
     /// The epochs of the TEC maps.
@@ -504,9 +521,12 @@ impl MapSet {
             .saturating_mul(row)
             .saturating_add(3 * 81)
             .saturating_mul(maps);
-        all.saturating_add(40 * 81).min(LONGEST)
+        all.saturating_add((40 + DESCRIPTIONS) * 81).min(LONGEST)
     }
 }
+
+/// Where the DESCRIPTION lines stand in the texts.
+const DESCRIPTION: usize = TEXTS - DESCRIPTIONS * DESCRIPTION_COLUMNS;
 
 /// No more than this is made ready before the archive has told what it needs.
 const LONGEST: usize = 1 << 26;

@@ -8,7 +8,7 @@ const MEANINGS: [(u64, &str); 27] = [
     (2, "a byte that is not printable ASCII"),
     (3, "no version record first, or a version, type or code that is not accepted"),
     (4, "an unknown label"),
-    (5, "a record where it may not stand, or a second time"),
+    (5, "a record where it may not stand, or once too often"),
     (6, "a field that is ill-formed, or a byte where blanks belong"),
     (7, "a value outside what is accepted"),
     (8, "a value that disagrees with the header or an earlier record"),
@@ -29,8 +29,8 @@ const MEANINGS: [(u64, &str); 27] = [
     (42, "the joined set would have too many maps or values"),
     (50, "an index entry that does not fit the text"),
     (60, "more than 100 map sets"),
-    (101, "fewer than 44 header numbers"),
-    (102, "fewer than 124 bytes of texts"),
+    (101, "fewer than 45 header numbers"),
+    (102, "fewer than 1324 bytes of texts"),
     (103, "no room for the result"),
 ];
 

@@ -202,7 +202,7 @@ fn faults_of_a_block() {
     lines.extend(block(TITLE, &[satellite(good), station(heard)]));
     assert_eq!(refused(&with(&lines)), (5, Some(7), Some(61)));
     let refusal = Biases::read(&with(&lines)).unwrap_err();
-    let words = "refused 5: a record where it may not stand, or a second time, line 7, column 61";
+    let words = "refused 5: a record where it may not stand, or once too often, line 7, column 61";
     assert_eq!(refusal.to_string(), words);
 }
 

@@ -39,6 +39,42 @@ fn number(early: &MapSet, late: &MapSet) -> u64 {
     joined.map_or_else(|refusal| refusal.number(), |_| 0)
 }
 
+/// Descriptions are the later set's, also where it has fewer; one set that has them wrong is refused.
+#[test]
+fn descriptions_are_the_later_sets() {
+    let described = |set: &MapSet, lines: &[&str]| {
+        edited(set, |areas| {
+            areas.header[44] = lines.len() as i64;
+            for (line, place) in lines.iter().zip(areas.texts[124..].chunks_mut(60)) {
+                place[..line.len()].copy_from_slice(line.as_bytes());
+            }
+        })
+    };
+    let (early, late) = (
+        set(0, &[(1, None), (11, None)]),
+        set(2, &[(101, None), (111, None)]),
+    );
+    for (ours, theirs) in [
+        (&["a", "b", ""][..], &["", "c"][..]),
+        (&["a"; 20], &[]),
+        (&[], &["c"; 20]),
+    ] {
+        let (first, second) = (described(&early, ours), described(&late, theirs));
+        let both = first.join(&second).expect("joined");
+        assert_eq!(both.descriptions().collect::<Vec<_>>(), theirs);
+        assert_eq!(
+            MapSet::read(&both.write().expect("valid")).as_ref(),
+            Ok(&both)
+        );
+    }
+    let wrong = edited(&described(&early, &["a", "b"]), |areas| {
+        areas.header[44] = 1
+    });
+    assert_eq!(number(&wrong, &late), 31);
+    let wrong = edited(&described(&late, &["a"]), |areas| areas.header[44] = 21);
+    assert_eq!(number(&early, &wrong), 31);
+}
+
 /// The shared map is the later set's: the earlier one's TEC and RMS values of two o'clock are gone.
 #[test]
 fn the_shared_map_comes_from_the_later_set() {

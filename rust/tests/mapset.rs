@@ -1,8 +1,8 @@
 //! Map sets read, asked, taken apart and written, against the texts of tests/examples, whose meaning was worked out by hand.
 
 use ionex::{
-    Answer, Areas, Code, Epoch, Kind, MapSet, Method, MilliKm, MilliTecu, Place, Version, HEADER,
-    TEXTS,
+    Answer, Areas, Code, Epoch, Kind, MapSet, Method, MilliKm, MilliTecu, Place, Version,
+    DESCRIPTIONS, DESCRIPTION_COLUMNS, HEADER, TEXTS,
 };
 
 fn text(name: &str) -> Vec<u8> {
@@ -61,6 +61,80 @@ fn texts_end_at_their_last_letter() {
     );
     // Blanks in front are the file's own.
     assert_eq!(accepted("accepted-2d-freedoms.inx").program(), " p");
+}
+
+/// None, one, twenty: in the file's order, blank ones too, without the blanks at their ends.
+#[test]
+fn descriptions_are_lines() {
+    let lines = |name: &str| {
+        let maps = accepted(name);
+        assert_eq!(maps.descriptions().len(), maps.header().descriptions);
+        let lines: Vec<String> = maps.descriptions().map(str::to_string).collect();
+        lines
+    };
+    assert_eq!(lines("accepted-canonical.inx"), [""; 0]);
+    assert_eq!(lines("accepted-2d-freedoms.inx"), ["a description"]);
+    let twenty = lines("accepted-descriptions.inx");
+    assert_eq!(twenty.len(), DESCRIPTIONS);
+    assert_eq!(
+        twenty[..5],
+        [
+            "the model of these maps",
+            "",
+            "  two blanks first",
+            "the same line",
+            "the same line"
+        ]
+    );
+    assert_eq!(twenty[5], "~".repeat(DESCRIPTION_COLUMNS));
+    assert_eq!(twenty[8], format!("{:>60}", "x"));
+    assert_eq!(twenty[18..], ["nineteen", ""]);
+    // From the end too, and the columns as they stand.
+    let maps = accepted("accepted-descriptions.inx");
+    assert_eq!(maps.descriptions().rev().nth(1), Some("nineteen"));
+    let padded: String = twenty.iter().map(|line| format!("{line:<60}")).collect();
+    assert_eq!(maps.as_areas().texts[124..], *padded.as_bytes());
+}
+
+/// Number and lines of a set of areas belong together: 31 for asking and writing alike.
+#[test]
+fn descriptions_that_fit_their_number() {
+    let areas = accepted("accepted-descriptions.inx").into_areas();
+    let with = |number: i64, place: usize, byte: u8| {
+        let mut areas = areas.clone();
+        areas.header[44] = number;
+        areas.texts[124 + place] = byte;
+        let maps = MapSet::from_areas(areas);
+        let asked = maps.ask(
+            Kind::Tec,
+            Method::Between,
+            0,
+            Place::new(500, 500),
+            maps.epochs()[0],
+        );
+        let told = |refusal: ionex::Refusal| refusal.number();
+        let written = maps.write().map_err(told);
+        assert_eq!(asked.map(|_| ()).map_err(told), written.clone().map(|_| ()));
+        written
+    };
+    let blank = 19 * DESCRIPTION_COLUMNS;
+    let written = with(20, blank, b'!').expect("a valid map set");
+    let read = MapSet::read(&written).expect("a text");
+    assert_eq!(read.descriptions().last(), Some("!"));
+    // The last line is blank: nineteen of them are a set too, eighteen are not, for one is behind them.
+    let fewer = with(19, blank, b' ').expect("a valid map set");
+    assert_eq!(
+        MapSet::read(&fewer).expect("a text").header().descriptions,
+        19
+    );
+    for number in [i64::MIN, -1, 0, 1, 18, 21, i64::MAX] {
+        assert_eq!(with(number, blank, b' '), Err(31), "{number}");
+    }
+    assert_eq!(with(19, blank, b'!'), Err(31));
+    for byte in [0, 10, 31, 127, 200] {
+        assert_eq!(with(20, 0, byte), Err(31), "{byte}");
+        assert_eq!(with(20, blank + 59, byte), Err(31), "{byte}");
+    }
 }
 
 #[test]
@@ -173,6 +247,7 @@ fn canonical_text_is_written_and_read_back() {
         "accepted-3d",
         "accepted-canonical",
         "accepted-4000-values",
+        "accepted-descriptions",
     ] {
         let maps = accepted(&format!("{name}.inx"));
         let written = maps.write().expect("a valid map set");
@@ -276,6 +351,8 @@ fn any_numbers_can_be_looked_at() {
     for number in [i64::MIN, -1, 0, 1, 2, 9, 12, i64::MAX] {
         let maps = MapSet::from_areas(of(number));
         assert_eq!(maps.program(), "");
+        let lines = number.clamp(0, 20) as usize;
+        assert_eq!(maps.descriptions().collect::<Vec<_>>(), vec![""; lines]);
         assert_eq!(maps.header().version, Version::Unknown(number));
         assert_eq!(maps.value(Kind::Tec, 0, 0, 0, 0), None);
         assert_eq!(maps.write().unwrap_err().number(), 31);

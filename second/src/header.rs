@@ -14,6 +14,9 @@ pub const SYSTEMS: [u8; 7] = *b"GRECJIS";
 
 pub const FILE_TYPE: u8 = b'I';
 
+/// "up to 20 of them, 60 columns each" (02, Ask 1)
+pub const DESCRIPTIONS: usize = 20;
+
 /// First, last and step of an axis, in tenths.
 #[derive(Clone, Copy, Debug, Default, PartialEq, Eq)]
 pub struct Axis {
@@ -64,6 +67,8 @@ pub struct Header {
     pub satellites: Count,
     /// In the order of `SYSTEMS`.
     pub systems: [System; 7],
+    /// How many DESCRIPTION lines there are.
+    pub descriptions: i64,
 }
 
 /// The A fields of the header, as they stand.
@@ -74,6 +79,8 @@ pub struct Texts {
     pub date: [u8; 20],
     pub mapping: [u8; 4],
     pub observables: [u8; 60],
+    /// "in file order, blank-padded", and blank behind the last.
+    pub descriptions: [[u8; 60]; DESCRIPTIONS],
 }
 
 impl Default for Texts {
@@ -84,6 +91,7 @@ impl Default for Texts {
             date: [b' '; 20],
             mapping: [b' '; 4],
             observables: [b' '; 60],
+            descriptions: [[b' '; 60]; DESCRIPTIONS],
         }
     }
 }
@@ -131,6 +139,11 @@ pub fn dimension_fits(value: i64) -> bool {
 /// I6 holds no more than 999,999).
 pub fn count_fits(value: i64) -> bool {
     (0..=999_999).contains(&value)
+}
+
+/// How many DESCRIPTION lines there may be.
+pub fn descriptions_fit(value: i64) -> bool {
+    (0..=DESCRIPTIONS as i64).contains(&value)
 }
 
 pub fn exponent_fits(value: i64) -> bool {
@@ -249,6 +262,7 @@ impl Header {
             && radius_fits(self.radius)
             && dimension_fits(self.dimension)
             && self.counts_are_valid()
+            && descriptions_fit(self.descriptions)
             && self.heights.height_fault().is_none()
             && self.latitudes.latitude_fault().is_none()
             && self.longitudes.longitude_fault().is_none()
@@ -275,8 +289,10 @@ fn count_is_valid(stands: bool, count: i64) -> bool {
 }
 
 impl Texts {
-    /// Every byte can stand in a line.
-    pub fn is_valid(&self) -> bool {
+    /// Whether these are the texts of a header that is valid: every byte can stand
+    /// in a line, and behind the last description all is blank, so that one map set
+    /// has one form.
+    pub fn fit(&self, header: &Header) -> bool {
         let parts: [&[u8]; 5] = [
             &self.program,
             &self.agency,
@@ -284,9 +300,11 @@ impl Texts {
             &self.mapping,
             &self.observables,
         ];
-        parts
-            .iter()
-            .all(|part| part.iter().all(|b| (32..=126).contains(b)))
+        let (lines, behind) = self.descriptions.split_at(header.descriptions as usize);
+        let bytes = |b: &u8| (32..=126).contains(b);
+        parts.iter().all(|part| part.iter().all(bytes))
+            && lines.iter().flatten().all(bytes)
+            && behind.iter().flatten().all(|&b| b == b' ')
     }
 }
 

@@ -123,7 +123,7 @@ fn entry(index: &Index, node: &Node) -> Result<Entry, Refusal> {
 
 /// "31 for an index without a valid header, length and marks"
 fn frame(index: &Index) -> Option<Grid> {
-    if !index.header.is_valid() || !index.texts.is_valid() {
+    if !index.header.is_valid() || !index.texts.fit(index.header) {
         return None;
     }
     let grid = Grid::of(index.header);

@@ -179,7 +179,7 @@ pub fn epoch_agrees(header: &Header, map: usize, before: Option<u64>, epoch: u64
 /// The part of a map set that writing and asking judge alike: "header, area
 /// lengths, epochs, a mark above 3". Gives the grid of a good one.
 pub fn frame(header: &Header, texts: &Texts, areas: &View) -> Option<Grid> {
-    if !header.is_valid() || !texts.is_valid() {
+    if !header.is_valid() || !texts.fit(header) {
         return None;
     }
     let grid = Grid::of(header);

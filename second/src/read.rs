@@ -244,11 +244,9 @@ impl Reader {
     /// "known label where it may not stand, or repeated"
     fn may_stand_in_header(&self, label: Label, card: &Card) -> Step {
         let fits = match label {
-            Label::Description
-            | Label::Comment
-            | Label::Exponent
-            | Label::StartAux
-            | Label::EndHeader => true,
+            Label::Comment | Label::Exponent | Label::StartAux | Label::EndHeader => true,
+            // "a twenty-first DESCRIPTION is 5" (02, Ask 1)
+            Label::Description => header::descriptions_fit(self.header.descriptions + 1),
             // The letter is taken as it stands; an unknown one is for 7.
             Label::System => match system_of(card) {
                 Some(system) => !self.header.systems[system].stands,
@@ -301,6 +299,11 @@ impl Reader {
                 self.texts.program.copy_from_slice(&card[0..20]);
                 self.texts.agency.copy_from_slice(&card[20..40]);
                 self.texts.date.copy_from_slice(&card[40..60]);
+            }
+            Label::Description => {
+                let at = self.header.descriptions as usize;
+                self.texts.descriptions[at].copy_from_slice(&card[0..60]);
+                self.header.descriptions += 1;
             }
             Label::FirstEpoch => self.header.first_epoch = epoch(label, found)?,
             Label::LastEpoch => self.header.last_epoch = epoch(label, found)?,

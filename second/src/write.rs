@@ -109,6 +109,10 @@ fn header_text(header: &Header, texts: &Texts) -> Vec<u8> {
     ));
     let program: [&[u8]; 3] = [&texts.program, &texts.agency, &texts.date];
     text.extend(record(Label::Program, &[], &program));
+    // "canonical text writes them after PGM / RUN BY / DATE" (02, Ask 1)
+    for line in &texts.descriptions[..header.descriptions as usize] {
+        text.extend(record(Label::Description, &[], &[line]));
+    }
     text.extend(epoch_text(Label::FirstEpoch, header.first_epoch));
     text.extend(epoch_text(Label::LastEpoch, header.last_epoch));
     text.extend(record(Label::Interval, &[header.interval], &[]));

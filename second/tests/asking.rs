@@ -465,6 +465,20 @@ fn what_asking_judges() {
     assert_eq!(with(&|s| s.2.exponents.truncate(11)), Err(31));
     assert_eq!(with(&|s| s.1.date[0] = 9), Err(31));
     assert_eq!(with(&|s| s.0.stations.count = 1), Err(31));
+    // Descriptions, their number and what stands behind the last.
+    assert_eq!(with(&|s| s.0.descriptions = 20), tecu(100));
+    for count in [-1, 21, i64::MAX] {
+        assert_eq!(with(&|s| s.0.descriptions = count), Err(31));
+    }
+    let with_one = |byte: u8, count: i64| {
+        with(&|s| {
+            s.0.descriptions = count;
+            s.1.descriptions[6][59] = byte;
+        })
+    };
+    assert_eq!(with_one(b'~', 7), tecu(100));
+    assert_eq!(with_one(b'~', 6), Err(31));
+    assert_eq!(with_one(127, 7), Err(31));
     // Values and exponents of nodes that are not needed are not looked at.
     assert_eq!(with(&|s| s.2.tec[11] = i32::MIN), tecu(100));
     assert_eq!(with(&|s| s.2.exponents[3] = 99), tecu(100));

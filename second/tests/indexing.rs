@@ -131,6 +131,22 @@ fn nodes_and_blocks() {
     assert!(indexed_block(&made.index(), &text, &node(0, 1, 0, 3)).is_empty());
 }
 
+/// "31 for an index without a valid header": its descriptions are a part of that.
+#[test]
+fn descriptions_of_an_index() {
+    let text = join(&before(3, &rec("a model", "DESCRIPTION")));
+    let mut made = made(&text);
+    assert_eq!(made.header.descriptions, 1);
+    assert_eq!(&made.texts.descriptions[0][..7], b"a model");
+    let question = node(0, 1, 0, 0);
+    assert_eq!(indexed_node(&made.index(), &text, &question), Ok((1, -1)));
+    for count in [0, -1, 21] {
+        made.header.descriptions = count;
+        let refused = Err(Refusal::Bare { number: 31 });
+        assert_eq!(indexed_node(&made.index(), &text, &question), refused);
+    }
+}
+
 /// CR LF is no part of the block; blanks behind its last value and blank lines inside are.
 #[test]
 fn line_ends() {

@@ -22,6 +22,8 @@ fn later() -> Set {
     header.first_epoch = FIRST + 7200;
     header.last_epoch = FIRST + 3 * 7200;
     texts.date = [b'b'; 20];
+    header.descriptions = 2;
+    texts.descriptions[1] = [b'd'; 60];
     let mut own = Own::new([18, 18, 18, 18, 3, 3]);
     for (at, value) in own.tec.iter_mut().enumerate() {
         *value = 100 + at as i32;
@@ -135,6 +137,23 @@ fn kinds_of_the_result() {
     assert_eq!(own.rms[6..], [9999; 18]);
 }
 
+/// R: "version, code and descriptions of the joined set are the later set's".
+#[test]
+fn descriptions_of_the_result() {
+    for (ours, theirs) in [(0, 2), (5, 2), (20, 0)] {
+        let (mut a, mut b) = (earlier(), later());
+        a.0.descriptions = ours;
+        for line in &mut a.1.descriptions[..ours as usize] {
+            line.fill(b'e');
+        }
+        b.0.descriptions = theirs;
+        b.1.descriptions[theirs as usize..].fill([b' '; 60]);
+        let (header, texts, _) = joined(&mut a, &mut b, ROOM).unwrap();
+        assert_eq!(header.descriptions, theirs);
+        assert_eq!(texts, b.1);
+    }
+}
+
 #[test]
 fn intervals() {
     let interval = |a: i64, b: i64| {
@@ -206,6 +225,10 @@ fn refusals_in_order() {
     let mut b = later();
     b.2.rms[6] = 5;
     assert_eq!(number(&mut a, &mut b), 31);
+    // Descriptions too, also those of the earlier set.
+    let mut first = earlier();
+    first.1.descriptions[0][0] = b'x';
+    assert_eq!(number(&mut first, &mut later()), 31);
 }
 
 /// A set of so many maps of one node, a second apart.

@@ -292,6 +292,7 @@ fn labels_in_the_header() {
         assert_eq!(outcome_of(&without(line)), place(9, 14, 0));
     }
     for free in ["DESCRIPTION", "COMMENT"] {
+        // Any number of the second, and up to 20 of the first.
         let mut lines = before(9, &rec("any ~ text", free));
         lines.insert(4, rec("", free));
         assert_eq!(outcome_of(&lines), "accepted");
@@ -308,6 +309,54 @@ fn labels_in_the_header() {
     let mut lines = base();
     lines[1..14].reverse();
     assert_eq!(outcome_of(&lines), "accepted");
+}
+
+/// How many descriptions a text has, and those that are not blank, in order.
+fn descriptions(lines: &[String]) -> (i64, Vec<(usize, String)>) {
+    let (header, texts, _) = accepted(lines, [12; 6]);
+    let all = texts.descriptions.iter().enumerate();
+    let written = all.filter(|(_, line)| line.iter().any(|&b| b != b' '));
+    let as_text = |line: &[u8; 60]| String::from_utf8(line.to_vec()).unwrap();
+    let found = written.map(|(k, line)| (k, as_text(line))).collect();
+    (header.descriptions, found)
+}
+
+/// 02, Ask 1: "up to 20 of them, 60 columns each, in file order, blank-padded"; R: "blank DESCRIPTION lines count and are
+/// kept".
+#[test]
+fn descriptions_are_kept() {
+    assert_eq!(descriptions(&base()), (0, vec![]));
+    let long = "~".repeat(60);
+    let mut lines = base();
+    lines.insert(14, rec("  last", "DESCRIPTION"));
+    lines.insert(9, rec("a", "COMMENT"));
+    lines.insert(9, rec("", "DESCRIPTION"));
+    lines.insert(5, rec(&long, "DESCRIPTION"));
+    lines.insert(1, rec("first", "DESCRIPTION"));
+    let padded = |text: &str| format!("{text:<60}");
+    let expected = vec![(0, padded("first")), (1, long), (3, padded("  last"))];
+    assert_eq!(descriptions(&lines), (4, expected));
+    // Lines of an aux block are none.
+    lines.insert(3, rec("", "END OF AUX DATA"));
+    lines.insert(3, rec("inside", "DESCRIPTION"));
+    lines.insert(3, rec("", "START OF AUX DATA"));
+    assert_eq!(descriptions(&lines).0, 4);
+}
+
+/// "a twenty-first DESCRIPTION is 5", a blank one too, whatever stands between.
+#[test]
+fn a_twenty_first_description() {
+    for body in ["", "text"] {
+        let mut lines = base();
+        for _ in 0..20 {
+            lines.insert(2, rec(body, "DESCRIPTION"));
+        }
+        assert_eq!(descriptions(&lines).0, 20);
+        lines.insert(30, rec("", "DESCRIPTION"));
+        assert_eq!(outcome_of(&lines), place(5, 31, 61));
+        lines.insert(1, rec(body, "DESCRIPTION"));
+        assert_eq!(outcome_of(&lines), place(5, 23, 61));
+    }
 }
 
 #[test]

@@ -92,7 +92,7 @@ fn freedoms_vanish() {
         ),
     );
     lines.insert(19, String::new());
-    lines.insert(12, rec("", "DESCRIPTION"));
+    lines.insert(12, rec("", "COMMENT"));
     lines[1..15].reverse();
     let mut found = accepted(&lines, [12; 6]);
     assert_eq!(written(&mut found), Ok(join(&base())));
@@ -191,6 +191,52 @@ fn fillers_and_counts() {
     stays(|s| s.0.systems[5] = system(0, 999_999));
     refused(|s| s.0.systems[5] = system(-1, 0));
     refused(|s| s.0.systems[5] = system(0, 1_000_000));
+}
+
+/// 02, Ask 1: "canonical text writes them after PGM / RUN BY / DATE".
+#[test]
+fn descriptions_stand_behind_the_program() {
+    let bodies = ["b", "", "  a", "", "b"];
+    let mut canonical = base();
+    let mut free = base();
+    for (k, body) in bodies.into_iter().enumerate() {
+        canonical.insert(2 + k, rec(body, "DESCRIPTION"));
+        free.insert(3 + 2 * k, rec(body, "DESCRIPTION"));
+    }
+    assert_ne!(canonical, free);
+    for lines in [&canonical, &free] {
+        let mut found = accepted(lines, [12, 12, 0, 12, 2, 2]);
+        assert_eq!(written(&mut found), Ok(join(&canonical)));
+    }
+}
+
+#[test]
+fn descriptions() {
+    for count in [1, 19, 20] {
+        stays(|s| s.0.descriptions = count);
+        stays(|s| {
+            s.0.descriptions = count;
+            s.1.descriptions[count as usize - 1][59] = b'~';
+        });
+        refused(|s| {
+            s.0.descriptions = count;
+            s.1.descriptions[count as usize - 1][59] = 127;
+        });
+    }
+    for count in [-1, 21, 276, i64::MIN, i64::MAX] {
+        refused(|s| s.0.descriptions = count);
+    }
+    // "in file order, blank-padded": behind the last there is nothing.
+    refused(|s| s.1.descriptions[0][0] = b'x');
+    refused(|s| {
+        s.0.descriptions = 3;
+        s.1.descriptions[3][0] = b'x';
+    });
+    refused(|s| {
+        s.0.descriptions = 19;
+        s.1.descriptions[19][59] = b'x';
+    });
+    refused(|s| s.1.descriptions[19][59] = 0);
 }
 
 #[test]

@@ -4,8 +4,12 @@ use crate::set::{Buffers, MapSet};
 use second::{Answer, Axis, Count, Delay, Header, Question, Reading, Refusal, System, Texts};
 
 /// How many numbers a header has, and how many bytes its texts.
-pub const HEADER: usize = 44;
-pub const TEXTS: usize = 124;
+pub const HEADER: usize = 45;
+pub const TEXTS: usize = 1324;
+
+/// As many as there were before the descriptions, whose number and lines stand behind all else.
+pub const OLD_HEADER: usize = 44;
+pub const OLD_TEXTS: usize = 124;
 
 /// The numbers that say whether a starred record stands; one number or two follow each.
 pub const FLAGS: [usize; 9] = [19, 21, 23, 26, 29, 32, 35, 38, 41];
@@ -80,14 +84,15 @@ pub fn numbers_of(header: &Header) -> [i64; HEADER] {
     {
         place.copy_from_slice(&[i64::from(count.stands), count.count]);
     }
-    for (system, place) in header.systems.iter().zip(numbers[23..].chunks_mut(3)) {
+    for (system, place) in header.systems.iter().zip(numbers[23..44].chunks_mut(3)) {
         let stands = i64::from(system.stands);
         place.copy_from_slice(&[stands, system.stations, system.satellites]);
     }
+    numbers[44] = header.descriptions;
     numbers
 }
 
-/// The header of at least 44 numbers, or nothing where a field cannot hold its number.
+/// The header of at least 45 numbers, or nothing where a field cannot hold its number.
 pub fn header_of(numbers: &[i64]) -> Option<Header> {
     let axis = |at: usize| Axis {
         first: numbers[at],
@@ -120,6 +125,7 @@ pub fn header_of(numbers: &[i64]) -> Option<Header> {
         stations: count(19),
         satellites: count(21),
         systems: std::array::from_fn(system),
+        descriptions: numbers[44],
     })
 }
 
@@ -129,18 +135,21 @@ pub fn bytes_of(texts: &Texts) -> [u8; TEXTS] {
     bytes[20..40].copy_from_slice(&texts.agency);
     bytes[40..60].copy_from_slice(&texts.date);
     bytes[60..64].copy_from_slice(&texts.mapping);
-    bytes[64..].copy_from_slice(&texts.observables);
+    bytes[64..124].copy_from_slice(&texts.observables);
+    bytes[124..].copy_from_slice(texts.descriptions.as_flattened());
     bytes
 }
 
-/// The texts of at least 124 bytes.
+/// The texts of at least 1,324 bytes.
 pub fn texts_of(bytes: &[u8]) -> Texts {
     let mut texts = Texts::default();
     texts.program.copy_from_slice(&bytes[..20]);
     texts.agency.copy_from_slice(&bytes[20..40]);
     texts.date.copy_from_slice(&bytes[40..60]);
     texts.mapping.copy_from_slice(&bytes[60..64]);
-    texts.observables.copy_from_slice(&bytes[64..TEXTS]);
+    texts.observables.copy_from_slice(&bytes[64..124]);
+    let lines = texts.descriptions.as_flattened_mut();
+    lines.copy_from_slice(&bytes[124..TEXTS]);
     texts
 }
 

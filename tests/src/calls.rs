@@ -2,7 +2,8 @@
 //! can hold. Everything lent is compared byte for byte afterwards.
 
 use crate::boundary::{
-    self, Asked, Boundary, Given, Lent, Plain, FLAGS, HEADER, NEEDS, RECORD, TEXTS,
+    self, Asked, Boundary, Given, Lent, Plain, FLAGS, HEADER, NEEDS, OLD_HEADER, OLD_TEXTS, RECORD,
+    TEXTS,
 };
 use crate::check::{leave_file, Tally, OFTEN, SHOWN};
 use crate::jobs::{self, Job};
@@ -225,7 +226,12 @@ pub fn given(rng: &mut Rng, set: &MapSet) -> Given {
         1 => other_flags(rng, &mut given.header),
         _ => {}
     }
-    let (header, texts) = (length(rng, HEADER), length(rng, TEXTS));
+    let (header, texts) = match rng.below(16) {
+        // A caller of before the descriptions, or one whose texts alone are.
+        0 => (OLD_HEADER, OLD_TEXTS),
+        1 => (HEADER, OLD_TEXTS),
+        _ => (length(rng, HEADER), length(rng, TEXTS)),
+    };
     given.header.resize_with(header, || rng.word() as i64);
     given.texts.resize_with(texts, || rng.word() as u8);
     given
@@ -444,6 +450,9 @@ listed! {
         MovedShort,
         /// Only 1 says that a record stands.
         FlagsOne,
+        /// A caller with the old lengths served, as one without descriptions.
+        OldWritten,
+        OldAsked,
         /// Numbers of the header cut to 32 bits, in writing and in asking.
         WriteNarrow,
         AskNarrow,
@@ -521,6 +530,7 @@ impl Boundary for Faulty {
         let answer = match self.0 {
             Fault::FlagsOne => Plain.write(&with_header(given, only_one), out, count),
             Fault::WriteNarrow => Plain.write(&with_header(given, narrow), out, count),
+            Fault::OldWritten => Plain.write(&without_descriptions(given), out, count),
             _ => Plain.write(given, out, count),
         };
         match (self.0, answer) {
@@ -537,6 +547,7 @@ impl Boundary for Faulty {
         }
         let answer = match self.0 {
             Fault::AskNarrow => Plain.ask(&with_header(given, narrow), asked, value),
+            Fault::OldAsked => Plain.ask(&without_descriptions(given), asked, value),
             Fault::AskedNarrow => {
                 let low = |number: u64| number & 0xffff_ffff;
                 let asked = Asked {
@@ -626,6 +637,18 @@ impl Faulty {
         }
         answer
     }
+}
+
+/// What is given in the old lengths, with the number 0 and blank lines behind it.
+fn without_descriptions(given: &Given) -> Given {
+    let mut changed = given.clone();
+    if given.header.len() == OLD_HEADER {
+        changed.header.push(0);
+    }
+    if given.texts.len() == OLD_TEXTS {
+        changed.texts.resize(TEXTS, b' ');
+    }
+    changed
 }
 
 fn with_header(given: &Given, change: fn(usize, i64) -> i64) -> Given {

@@ -196,7 +196,7 @@ fn bytes(rng: &mut Rng, text: &[u8]) -> Vec<u8> {
 }
 
 fn lines(rng: &mut Rng, page: &mut Page) {
-    match rng.below(36) {
+    match rng.below(37) {
         0 => drop_line(rng, page),
         1 => double_line(rng, page),
         2 => swap_lines(rng, page),
@@ -229,6 +229,7 @@ fn lines(rng: &mut Rng, page: &mut Page) {
         31 => limits(rng, page),
         32 => one_map_more(rng, page),
         33 => two_fields(rng, page),
+        34 => descriptions(rng, page),
         _ => boundary(rng, page),
     }
 }
@@ -630,6 +631,18 @@ fn insert_record(rng: &mut Rng, page: &mut Page) {
     page.insert(at, record(body.as_bytes(), label));
 }
 
+/// So many DESCRIPTION lines in the header that there are 20, one more, or many.
+fn descriptions(rng: &mut Rng, page: &mut Page) {
+    let end = page.with_labels(|l| l == "END OF HEADER").pop();
+    let there = page.with_labels(|l| l == "DESCRIPTION").len();
+    let wanted = rng.pick(&[20, 21, 21, 22, 40]);
+    for _ in there..wanted {
+        let at = 1 + rng.below(end.unwrap_or(1).max(1));
+        let body = rng.pick(&["", "a model", "  x"]);
+        page.insert(at, record(body.as_bytes(), "DESCRIPTION"));
+    }
+}
+
 fn version(rng: &mut Rng, page: &mut Page) {
     let lines = page.with_labels(|l| l.starts_with("IONEX"));
     let Some(&line) = lines.first() else {
@@ -926,7 +939,7 @@ pub fn map_set(rng: &mut Rng, set: &mut MapSet) -> bool {
     let header = &mut set.header;
     let areas = &mut set.areas;
     let wide = [i64::from(i32::MIN), i64::from(i32::MAX)];
-    match rng.below(30) {
+    match rng.below(32) {
         0 if rng.once_in(2) => {
             header.version = 21 - header.version;
             return header.version == 11 && header.code > 8;
@@ -1080,12 +1093,38 @@ pub fn map_set(rng: &mut Rng, set: &mut MapSet) -> bool {
             epochs(rng, set);
             return false;
         }
+        29 => header.descriptions = rng.pick(&[-1, 21, 276, wide[0], wide[1]]),
+        30 => return description(rng, set),
         _ => {
             header.first_epoch = header.first_epoch.wrapping_add(second::calendar::END);
             header.last_epoch = header.last_epoch.wrapping_add(second::calendar::END);
             for epoch in &mut areas.epochs {
                 *epoch = epoch.wrapping_add(second::calendar::END);
             }
+        }
+    }
+    true
+}
+
+/// A byte of the descriptions, or their number by one: wrong behind the last line, and in it where it cannot be printed.
+pub fn description(rng: &mut Rng, set: &mut MapSet) -> bool {
+    let count = set.header.descriptions.clamp(0, 20) as usize;
+    let lines = &mut set.texts.descriptions;
+    let line = rng.pick(&[0, count.saturating_sub(1), count, 19]).min(19);
+    let at = rng.pick(&[0, 1, 58, 59]);
+    match rng.below(3) {
+        0 => lines[line][at] = rng.unprintable(),
+        1 => {
+            lines[line][at] = b'~';
+            return line >= count;
+        }
+        _ if count > 0 && rng.once_in(2) => {
+            set.header.descriptions -= 1;
+            return lines[count - 1] != [b' '; 60];
+        }
+        _ => {
+            set.header.descriptions += 1;
+            return count == 20;
         }
     }
     true

@@ -50,9 +50,18 @@ listed! {
         SystemFlag(usize) in (0..7).map(Fault::SystemFlag),
         SystemStations(usize) in (0..7).map(Fault::SystemStations),
         SystemSatellites(usize) in (0..7).map(Fault::SystemSatellites),
+        Descriptions,
         // Reading: a text, the last needed element of an area, the guard behind it,
         // an area touched by a refusal.
-        Text(usize) in (0..5).map(Fault::Text),
+        Text(usize) in (0..6).map(Fault::Text),
+        /// Descriptions in reverse, the last one or a blank one lost, or one that stands in an aux block taken.
+        DescriptionsReversed,
+        DescriptionLost,
+        BlankDescriptionLost,
+        DescriptionOfAux,
+        /// The twenty-first description skipped, or the twentieth refused.
+        TwentyFirstTaken,
+        TwentiethRefused,
         Area(usize) in (0..6).map(Fault::Area),
         Guard(usize) in (0..6).map(Fault::Guard),
         Touched(usize) in (0..6).map(Fault::Touched),
@@ -76,6 +85,15 @@ listed! {
         WriteNeed,
         WriteNumber,
         WriteTouched,
+        /// Descriptions in reverse, the last one lost, or all of them behind OBSERVABLES USED.
+        WrittenReversed,
+        WrittenLost,
+        WrittenLate,
+        /// Bytes behind the last description not looked at, or only whether they can be printed: writing, asking, joining.
+        BehindWritten,
+        BehindAsked,
+        BehindJoined,
+        PrintableBehind,
         // Asking.
         Value,
         Unit,
@@ -121,6 +139,7 @@ listed! {
         IntervalKept,
         IntervalOther,
         TextsEarlier,
+        DescriptionsEarlier,
         LastEpochEarlier,
         /// The exponents of all kinds one behind the other.
         ExponentsTogether,
@@ -181,6 +200,10 @@ impl Library for Faulty {
                     None => Reading::Refused(refusal),
                 },
                 _ if self.0 == Fault::EpochLast => Reading::Refused(last_wrong(text, refusal)),
+                _ if self.0 == Fault::TwentyFirstTaken => match without_more(text, refusal) {
+                    Some(text) => self.read(&text, areas),
+                    None => Reading::Refused(refusal),
+                },
                 _ => self.refused(areas, refusal),
             },
         }
@@ -201,8 +224,27 @@ impl Library for Faulty {
     }
 
     fn write(&self, set: &MapSet, out: &mut [u8]) -> Result<usize, Refusal> {
-        let answer = Second.write(set, out);
+        let answer = match self.0 {
+            Fault::BehindWritten => Second.write(&blank_behind(set), out),
+            Fault::PrintableBehind => Second.write(&blank_printable_behind(set), out),
+            _ => Second.write(set, out),
+        };
         match (self.0, answer) {
+            (Fault::WrittenReversed, Ok(_)) => {
+                let mut changed = set.clone();
+                described(&mut changed.header, &mut changed.texts).reverse();
+                Second.write(&changed, out)
+            }
+            (Fault::WrittenLost, Ok(_)) => {
+                let mut changed = set.clone();
+                lose(&mut changed.header, &mut changed.texts);
+                Second.write(&changed, out)
+            }
+            (Fault::WrittenLate, Ok(length)) => {
+                let late = with_late_descriptions(&out[..length]);
+                out[..length].copy_from_slice(&late);
+                Ok(length)
+            }
             (Fault::WrittenAsNew, Ok(length)) => {
                 out[7] = b'1';
                 Ok(length)
@@ -233,7 +275,10 @@ impl Library for Faulty {
     }
 
     fn ask(&self, set: &MapSet, question: &Question) -> Result<Answer, Refusal> {
-        let answer = Second.ask(set, question);
+        let answer = match self.0 {
+            Fault::BehindAsked => Second.ask(&blank_behind(set), question),
+            _ => Second.ask(set, question),
+        };
         let turned =
             question.method > 1 && matches!(answer, Ok(_) | Err(Refusal::Bare { number: 22 }));
         match (self.0, answer) {
@@ -339,6 +384,7 @@ impl Library for Faulty {
         let mut answer = match self.0 {
             Fault::SharedEarlier => Second.join(earlier, &with_shared(earlier, later), areas),
             Fault::SharedRmsLost => Second.join(earlier, &without_rms(later), areas),
+            Fault::BehindJoined => Second.join(&blank_behind(earlier), &blank_behind(later), areas),
             _ => Second.join(earlier, later, areas),
         };
         match &mut answer {
@@ -379,6 +425,10 @@ impl Faulty {
                 }
             }
             Fault::TextsEarlier => *texts = earlier.texts,
+            Fault::DescriptionsEarlier => {
+                header.descriptions = earlier.header.descriptions;
+                texts.descriptions = earlier.texts.descriptions;
+            }
             Fault::LastEpochEarlier => header.last_epoch = earlier.header.last_epoch,
             Fault::ExponentsTogether => {
                 let blocks = earlier.grid().blocks();
@@ -470,13 +520,36 @@ impl Faulty {
             Fault::SystemFlag(k) => header.systems[k].stands ^= true,
             Fault::SystemStations(k) => header.systems[k].stations += 1,
             Fault::SystemSatellites(k) => header.systems[k].satellites += 1,
+            Fault::Descriptions => header.descriptions += 1,
+            Fault::DescriptionsReversed => described(&mut header, &mut texts).reverse(),
+            Fault::DescriptionLost => lose(&mut header, &mut texts),
+            Fault::BlankDescriptionLost => {
+                let mut kept = described(&mut header, &mut texts).to_vec();
+                kept.retain(|line| *line != BLANK);
+                header.descriptions = kept.len() as i64;
+                kept.resize(texts.descriptions.len(), BLANK);
+                texts.descriptions.copy_from_slice(&kept);
+            }
+            Fault::DescriptionOfAux => {
+                *areas = before;
+                return Second.read(&with_described_aux(text), areas);
+            }
+            Fault::TwentiethRefused if header.descriptions == 20 => {
+                *areas = before;
+                return Reading::Refused(Refusal::Place {
+                    number: 5,
+                    line: 22,
+                    column: 61,
+                });
+            }
             Fault::Text(k) => {
-                let parts: [&mut [u8]; 5] = [
+                let parts: [&mut [u8]; 6] = [
                     &mut texts.program,
                     &mut texts.agency,
                     &mut texts.date,
                     &mut texts.mapping,
                     &mut texts.observables,
+                    texts.descriptions.as_flattened_mut(),
                 ];
                 for (at, part) in parts.into_iter().enumerate() {
                     if at == k {
@@ -647,6 +720,107 @@ fn with_zero(text: &[u8], refusal: Refusal) -> Option<Vec<u8>> {
         field.copy_from_slice(format!("{zero:>width$}").as_bytes());
         Some(changed)
     })
+}
+
+const BLANK: [u8; 60] = [b' '; 60];
+
+/// The lines that there are.
+fn described<'a>(header: &mut Header, texts: &'a mut Texts) -> &'a mut [[u8; 60]] {
+    &mut texts.descriptions[..header.descriptions as usize]
+}
+
+/// Drops the last description, where there is one.
+fn lose(header: &mut Header, texts: &mut Texts) {
+    if let Some(line) = described(header, texts).last_mut() {
+        *line = BLANK;
+        header.descriptions -= 1;
+    }
+}
+
+/// The set with blanks behind its last description, where their number is one that may be.
+fn blank_behind(set: &MapSet) -> MapSet {
+    with_behind(set, |_| b' ')
+}
+
+/// The set with blanks in the place of printable bytes there.
+fn blank_printable_behind(set: &MapSet) -> MapSet {
+    with_behind(set, |byte| match byte {
+        32..=126 => b' ',
+        other => other,
+    })
+}
+
+fn with_behind(set: &MapSet, change: fn(u8) -> u8) -> MapSet {
+    let mut changed = set.clone();
+    let lines = changed.texts.descriptions.iter_mut();
+    for byte in lines
+        .skip(set.header.descriptions.max(0) as usize)
+        .flatten()
+    {
+        *byte = change(*byte);
+    }
+    changed
+}
+
+fn label_of(line: &[u8]) -> &[u8] {
+    line.get(60..).unwrap_or(b"").trim_ascii_end()
+}
+
+/// The text with COMMENT in the place of a description that is refused after 20 others.
+fn without_more(text: &[u8], refusal: Refusal) -> Option<Vec<u8>> {
+    let Refusal::Place {
+        number: 5, line, ..
+    } = refusal
+    else {
+        return None;
+    };
+    let start = line_start(text, line);
+    let before = text[..start].split(|&b| b == b'\n');
+    let others = before.filter(|line| label_of(line) == b"DESCRIPTION");
+    if others.count() < 20 {
+        return None;
+    }
+    let mut changed = text.to_vec();
+    let label = changed.get_mut(start + 60..start + 71)?;
+    if label != b"DESCRIPTION" {
+        return None;
+    }
+    label.copy_from_slice(b"COMMENT    ");
+    Some(changed)
+}
+
+/// A canonical text with its descriptions behind OBSERVABLES USED.
+fn with_late_descriptions(text: &[u8]) -> Vec<u8> {
+    let lines: Vec<&[u8]> = text.split_inclusive(|&b| b == b'\n').collect();
+    let (descriptions, mut others): (Vec<&[u8]>, Vec<&[u8]>) = lines
+        .into_iter()
+        .partition(|line| label_of(line) == b"DESCRIPTION");
+    let observables = others
+        .iter()
+        .position(|line| label_of(line) == b"OBSERVABLES USED");
+    let behind = observables.map_or(0, |at| at + 1);
+    others.splice(behind..behind, descriptions);
+    others.concat()
+}
+
+/// The text with the descriptions of its aux blocks behind them too.
+fn with_described_aux(text: &[u8]) -> Vec<u8> {
+    let (mut inside, mut over) = (false, false);
+    let (mut lines, mut found): (Vec<&[u8]>, Vec<&[u8]>) = (Vec::new(), Vec::new());
+    for line in text.split_inclusive(|&b| b == b'\n') {
+        lines.push(line);
+        match label_of(line) {
+            b"START OF AUX DATA" if !over => inside = true,
+            b"END OF HEADER" if !inside => over = true,
+            b"DESCRIPTION" if inside => found.push(line),
+            b"END OF AUX DATA" => {
+                inside = false;
+                lines.append(&mut found);
+            }
+            _ => {}
+        }
+    }
+    lines.concat()
 }
 
 fn line_start(text: &[u8], line: u64) -> usize {

@@ -67,6 +67,7 @@ pub fn later(rng: &mut Rng, set: &MapSet, maps: i64) -> MapSet {
         ..set.header
     };
     starred(rng, &mut header);
+    header.descriptions = descriptions(rng);
     let longest = longest_gap(rng, &header);
     header.interval = match rng.below(4) {
         0 | 1 => set.header.interval,
@@ -193,7 +194,18 @@ fn header(rng: &mut Rng, longitudes: Axis, sizes: [i64; 4]) -> Header {
     header.latitudes = latitudes(rng, rows);
     header.longitudes = longitudes;
     starred(rng, &mut header);
+    header.descriptions = descriptions(rng);
     header
+}
+
+/// How many DESCRIPTION lines: none, one, or up to 20.
+fn descriptions(rng: &mut Rng) -> i64 {
+    match rng.below(8) {
+        0..=2 => 0,
+        3 | 4 => 1,
+        5 => rng.range(19, 20),
+        _ => rng.range(2, 20),
+    }
 }
 
 /// A version in tenths and one of its codes.
@@ -325,13 +337,20 @@ fn whole_turn(steps: i64) -> Option<i64> {
     (steps >= 24 && 3600 % steps == 0).then(|| 3600 / steps)
 }
 
-fn texts(rng: &mut Rng) -> Texts {
+fn texts(rng: &mut Rng, header: &Header) -> Texts {
     let mut texts = Texts::default();
     fill(rng, &mut texts.program);
     fill(rng, &mut texts.agency);
     fill(rng, &mut texts.date);
     fill(rng, &mut texts.mapping);
     fill(rng, &mut texts.observables);
+    for line in &mut texts.descriptions[..header.descriptions as usize] {
+        fill(rng, line);
+        if rng.once_in(2) {
+            let end = rng.below(line.len());
+            line[end..].fill(b' ');
+        }
+    }
     texts
 }
 
@@ -452,7 +471,7 @@ fn gaps(rng: &mut Rng, header: &Header, longest: i64) -> Vec<u64> {
 
 /// The map set of a header, with epochs from `start` on.
 fn with_epochs(rng: &mut Rng, mut header: Header, start: u64, gaps: &[u64]) -> MapSet {
-    let texts = texts(rng);
+    let texts = texts(rng, &header);
     let mut areas = areas(rng, &header);
     let mut epoch = start;
     areas.epochs.push(epoch);
@@ -617,7 +636,8 @@ impl Pen<'_> {
         if !self.rng.once_in(4) {
             self.rng.shuffle(&mut items);
         }
-        let far = self.rng.once_in(300);
+        self.descriptions(set, &mut items);
+        let far = self.rng.once_in(150);
         for (k, item) in items.into_iter().enumerate() {
             if far && k == 1 {
                 self.many_lines();
@@ -702,12 +722,21 @@ impl Pen<'_> {
         }
     }
 
+    /// Anywhere among the records, in their order.
+    fn descriptions(&mut self, set: &MapSet, items: &mut Vec<Item>) {
+        let mut places: Vec<usize> = (0..set.header.descriptions)
+            .map(|_| self.rng.below(items.len() + 1))
+            .collect();
+        places.sort_unstable();
+        let lines = set.texts.descriptions.iter().zip(places);
+        for (k, (body, place)) in lines.enumerate() {
+            items.insert(place + k, Item::Line(record(body, "DESCRIPTION")));
+        }
+    }
+
     fn free_records(&mut self, items: &mut Vec<Item>) {
         if self.extras == 0 {
             return;
-        }
-        for _ in 0..self.rng.below(3) {
-            items.push(Item::Text("DESCRIPTION"));
         }
         for _ in 0..self.rng.below(3) {
             items.push(Item::Text("COMMENT"));
@@ -754,6 +783,7 @@ impl Pen<'_> {
                 let label = self.rng.pick(&[
                     "END OF HEADER",
                     "END OF FILE",
+                    "DESCRIPTION",
                     "END OF AUX DATA.",
                     " END OF AUX DATA",
                     "end of aux data",

@@ -368,15 +368,18 @@ fn damage_block(rng: &mut Rng, text: &mut Vec<u8>, kept: &mut Kept, at: usize, s
 /// The header, the marks or a length changed.
 fn damage_index(rng: &mut Rng, kept: &mut Kept, set: &MapSet) {
     let maps = set.grid().maps;
-    match rng.below(6) {
+    match rng.below(7) {
         0 => kept.marks[rng.below(maps)] = rng.pick(&[4, 5, 128, 255]),
         1 => kept.marks[rng.below(maps)] ^= rng.pick(&[1, 2, 3]),
         2 => drop(kept.positions.pop()),
         3 => drop(kept.exponents.pop()),
         4 => drop(kept.marks.pop()),
-        _ => {
+        which => {
             let mut changed = set.clone();
-            damage::map_set(rng, &mut changed);
+            match which {
+                5 => damage::map_set(rng, &mut changed),
+                _ => damage::description(rng, &mut changed),
+            };
             kept.header = boundary::numbers_of(&changed.header).to_vec();
             kept.texts = boundary::bytes_of(&changed.texts).to_vec();
         }

@@ -90,6 +90,10 @@ fn spoil(rng: &mut Rng, sets: &mut [MapSet]) {
         let which = rng.below(sets.len());
         damage::map_set(rng, &mut sets[which]);
     }
+    if rng.once_in(24) {
+        let which = rng.below(sets.len());
+        damage::description(rng, &mut sets[which]);
+    }
 }
 
 /// One number of the grid, or of what must agree besides, changed; the header mostly stays valid.

@@ -112,8 +112,9 @@ pub fn differs(outcome: &Outcome) -> Option<String> {
 listed! {
     /// A reader that lets one byte of a remark through.
     pub enum Leak {
-        /// A COMMENT's byte into a text, a value, or the column of a refusal.
+        /// A COMMENT's byte into a text, a description, a value, or the column of a refusal.
         CommentText,
+        CommentDescription,
         CommentValue,
         CommentColumn,
         /// A byte of an aux block into the header, the line of a refusal, or what is needed.
@@ -156,6 +157,9 @@ impl Leak {
         let odd = byte & 1;
         match (self, answer) {
             (Leak::CommentText, Reading::Accepted { texts, .. }) => texts.date[19] = byte,
+            (Leak::CommentDescription, Reading::Accepted { texts, .. }) => {
+                texts.descriptions[0][30] = byte
+            }
             (Leak::CommentValue, Reading::Accepted { .. }) => areas.tec[0] ^= i32::from(odd),
             (Leak::AuxHeader, Reading::Accepted { header, .. }) => {
                 header.interval ^= i64::from(odd)
@@ -252,9 +256,10 @@ mod tests {
         assert!(differing > 10_000);
     }
 
-    /// The border is real: a byte of a label or of a value is no remark.
+    /// The border is real: a byte of a label, of a value or of a description is no remark.
     #[test]
     fn what_is_no_remark() {
+        let mut described = 0;
         for seed in 1..30 {
             let Some(Job::Read { text, lent, .. }) = jobs::jobs(seed).into_iter().next() else {
                 panic!("a reading comes first");
@@ -281,6 +286,20 @@ mod tests {
             let mut changed = text.clone();
             changed[digit] = if text[digit] == b'7' { b'8' } else { b'7' };
             assert_ne!(answer(&text), answer(&changed));
+            // The first one may stand inside an aux block, where it is one.
+            let Reading::Accepted { header, .. } = answer(&text).0 else {
+                panic!("a good text comes first");
+            };
+            let mut lines = text.split_inclusive(|&b| b == b'\n');
+            let description = lines.position(|line| line.get(60..71) == Some(b"DESCRIPTION"));
+            if let (Some(line), 1..) = (description, header.descriptions) {
+                let before = text.split_inclusive(|&b| b == b'\n').take(line);
+                let start: usize = before.map(<[u8]>::len).sum();
+                let mut changed = text.clone();
+                changed[start] ^= 1;
+                described += u64::from(answer(&text) != answer(&changed));
+            }
         }
+        assert!(described >= 5, "{described}");
     }
 }

@@ -1,5 +1,6 @@
 //! A job given to a library, and everything that comes back.
 
+use crate::boundary::bytes_of;
 use crate::delays::Bits;
 use crate::jobs::Job;
 use crate::joins;
@@ -164,7 +165,9 @@ fn reading(a: &Reading, b: &Reading) -> Option<String> {
                 texts: other_texts,
             },
         ) => {
-            unequal("header", header, other_header).or_else(|| unequal("texts", texts, other_texts))
+            let (bytes, other_bytes) = (bytes_of(texts), bytes_of(other_texts));
+            unequal("header", header, other_header)
+                .or_else(|| (texts != other_texts).then(|| place("texts", &bytes, &other_bytes)))
         }
         _ => unequal("answer of reading", a, b),
     }

@@ -1,7 +1,9 @@
 //! What the C boundary promises, in so many words: by the library where it is linked, else by the second program.
 
 use compare::archive::Archive;
-use compare::boundary::{Asked, Boundary, Given, Lent, FLAGS, HEADER, TEXTS};
+use compare::boundary::{
+    Asked, Boundary, Given, Lent, FLAGS, HEADER, OLD_HEADER, OLD_TEXTS, TEXTS,
+};
 use compare::set::Buffers;
 use std::fs;
 use std::path::Path;
@@ -123,13 +125,16 @@ fn any_flag_but_0() {
 }
 
 /// The lengths of header, texts and result, and the answer that they give.
-const SHORT: [([usize; 3], u64); 6] = [
+const SHORT: [([usize; 3], u64); 8] = [
     ([HEADER - 1, TEXTS, 2], 101),
     ([HEADER, TEXTS - 1, 2], 102),
     ([HEADER, TEXTS, 0], 103),
     ([0, 0, 0], 101),
     ([HEADER, 0, 0], 102),
     ([HEADER - 1, TEXTS, 0], 101),
+    // A caller of before the descriptions.
+    ([OLD_HEADER, OLD_TEXTS, 2], 101),
+    ([HEADER, OLD_TEXTS, 2], 102),
 ];
 
 #[test]

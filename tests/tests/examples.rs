@@ -17,7 +17,7 @@ fn answers_beside_the_texts() {
         .into_iter()
         .filter(|name| !name.starts_with("001"))
         .collect();
-    assert_eq!(names.len(), 21);
+    assert_eq!(names.len(), 23);
     for name in names {
         let text = bytes(&format!("{name}.inx"));
         let expected = bytes(&format!("{name}.expected"));
@@ -95,6 +95,13 @@ fn example(library: &dyn Library, name: &str, lengths: [usize; 6]) -> (Header, B
             assert_eq!(&texts.mapping, b"COSZ");
             let observables = b"double-difference carrier phase";
             assert_eq!(&texts.observables[..31], observables);
+            let lines = texts
+                .descriptions
+                .map(|line| line.trim_ascii_end().to_vec());
+            assert_eq!(header.descriptions, 2);
+            assert_eq!(lines[0], b"global ionosphere maps for day 288, 1995");
+            assert_eq!(lines[1], b"modeled by spherical harmonics ...");
+            assert!(lines[2..].iter().all(|line| line.is_empty()));
             (header, areas)
         }
         Reading::Refused(refusal) => panic!("{name}: {refusal}"),

@@ -20,6 +20,16 @@ struct Counts {
     mixed_ends: u64,
     /// Good texts with two aux blocks or more.
     two_aux: u64,
+    /// Good texts with no description, one, 20, blank ones and short ones; refused for the twenty-first.
+    no_description: u64,
+    one_description: u64,
+    all_descriptions: u64,
+    blank_description: u64,
+    short_description: u64,
+    twenty_first: u64,
+    /// Sets for writing with something behind the last description, or another number than 0 to 20.
+    behind_the_last: u64,
+    other_number: u64,
     /// Good sets: LON2 is LON1 + 360.0; one column less; more than seven maps, and more than one node.
     whole_turn: u64,
     less_one: u64,
@@ -38,6 +48,15 @@ fn count(counts: &mut Counts, job: &Job) {
         } => {
             let axis = set.header.longitudes;
             counts.two_aux += u64::from(aux_blocks(text) > 1);
+            let count = set.header.descriptions as usize;
+            counts.no_description += u64::from(count == 0);
+            counts.one_description += u64::from(count == 1);
+            counts.all_descriptions += u64::from(count == 20);
+            let lines = &set.texts.descriptions[..count];
+            let ends = |line: &[u8; 60]| line.trim_ascii_end().len();
+            counts.blank_description += u64::from(lines.iter().any(|line| ends(line) == 0));
+            let short = |line: &[u8; 60]| (1..30).contains(&ends(line));
+            counts.short_description += u64::from(lines.iter().any(short));
             counts.whole_turn += u64::from(axis.last == axis.first + 3600);
             counts.less_one += u64::from(axis.last + axis.step == axis.first + 3600);
             counts.many_maps += u64::from(set.header.maps > 7 && set.grid().values() > 1);
@@ -47,13 +66,22 @@ fn count(counts: &mut Counts, job: &Job) {
             let Some(Refusal::Place { number, line, .. }) = refusal else {
                 return;
             };
-            let wrong = text
-                .split(|&b| b == b'\n')
-                .nth(line as usize - 1)
-                .map_or(0, |line| wrong_epoch_fields(line).len());
+            let refused = text.split(|&b| b == b'\n').nth(line as usize - 1);
+            let refused = refused.unwrap_or(b"");
+            let wrong = wrong_epoch_fields(refused).len();
+            let description = |line: &[u8]| line.get(60..71) == Some(b"DESCRIPTION");
+            let before = text.split(|&b| b == b'\n').take(line as usize - 1);
+            let full = before.filter(|line| description(line)).count() >= 20;
+            counts.twenty_first += u64::from(number == 5 && full && description(refused));
             counts.two_in_epoch += u64::from(number == 7 && wrong > 1);
             counts.far += u64::from(line > 65_535);
             counts.mixed_ends += u64::from(has_mixed_ends(text));
+        }
+        Job::Write { set, .. } => {
+            let count = set.header.descriptions;
+            counts.other_number += u64::from(!(0..=20).contains(&count));
+            let mut behind = set.texts.descriptions.iter().skip(count.max(0) as usize);
+            counts.behind_the_last += u64::from(behind.any(|line| *line != [b' '; 60]));
         }
         Job::Ask { set, question, .. } => {
             if matches!(run::run(&Second, job), run::Outcome::Ask(Ok(_))) {
@@ -123,6 +151,14 @@ fn each_case_occurs() {
         counts.far,
         counts.mixed_ends,
         counts.two_aux,
+        counts.no_description,
+        counts.one_description,
+        counts.all_descriptions,
+        counts.blank_description,
+        counts.short_description,
+        counts.twenty_first,
+        counts.behind_the_last,
+        counts.other_number,
         counts.whole_turn,
         counts.less_one,
         counts.many_maps,

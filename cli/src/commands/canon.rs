@@ -20,8 +20,8 @@ pub const COMMAND: Command = Command {
 const HELP: &str = "\
 Usage: ionex canon FILE [-o OUT]
 
-Writes the canonical text of a file: the one text that says the same in a fixed order and spacing. DESCRIPTION and
-COMMENT records and aux blocks are not part of it.
+Writes the canonical text of a file: the one text that says the same in a fixed order and spacing. DESCRIPTION lines are
+part of it; COMMENT records and aux blocks are not.
 
   -o OUT   the file to write, in place of standard output; it is replaced only when the text is whole
   -        as FILE: standard input, as OUT: standard output

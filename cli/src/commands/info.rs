@@ -23,8 +23,8 @@ pub const COMMAND: Command = Command {
 const HELP: &str = "\
 Usage: ionex info FILE [--json]
 
-Shows the header, the grid, the epochs with the maps that stand at each, and for each kind of map how many nodes are
-without a value, the smallest and the largest value. Epochs are in universal time (UT).
+Shows the header with its DESCRIPTION lines, the grid, the epochs with the maps that stand at each, and for each kind of
+map how many nodes are without a value, the smallest and the largest value. Epochs are in universal time (UT).
 
   --json   one JSON object
   -        as FILE: standard input
@@ -194,13 +194,19 @@ fn rows(maps: &MapSet) -> Vec<(String, String)> {
         ("program", maps.program().to_string()),
         ("run by", maps.run_by().to_string()),
         ("date", maps.date().to_string()),
+    ];
+    rows.extend(
+        maps.descriptions()
+            .map(|line| ("description", line.to_string())),
+    );
+    rows.extend([
         ("mapping function", maps.mapping().to_string()),
         (
             "elevation cutoff",
             format!("{} degrees", tenths(header.cutoff)),
         ),
         ("observables", maps.observables().to_string()),
-    ];
+    ]);
     rows.extend(header.stations.map(|count| ("stations", count.to_string())));
     rows.extend(
         header
@@ -274,6 +280,7 @@ fn json(name: &str, maps: &MapSet) -> Object {
         .text("program", maps.program())
         .text("run_by", maps.run_by())
         .text("date", maps.date())
+        .raw("descriptions", array(maps.descriptions().map(string)))
         .text("mapping_function", maps.mapping())
         .raw("elevation_cutoff", tenths(header.cutoff))
         .text("observables", maps.observables())

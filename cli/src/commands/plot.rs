@@ -26,7 +26,7 @@ const HELP: &str = "\
 Usage: ionex plot FILE [--map N | --time T [--method M]] [--kind K] [--layer L] -o OUT.svg|OUT.png
 
 Draws one map: the nodes as coloured cells, with degrees, a colour scale and its unit, and the epoch as title. Nodes
-without a value are striped.
+without a value are striped. The file's DESCRIPTION lines stand below the map.
 
   --map N       the map of this number, counted from 1 (if nothing is said 1)
   --time T      universal time (UT): the values at that time, as `ionex ask` gives them for each node
@@ -122,6 +122,7 @@ impl Chosen {
                 format!("{note}{}", layer(maps, question.layer)),
                 origin(name, maps),
             ],
+            descriptions: maps.descriptions().map(str::to_string).collect(),
         })
     }
 }

@@ -59,6 +59,7 @@ pub fn hints(place: &Place) -> Vec<String> {
         blanks_behind,
         tab,
         outside_block,
+        descriptions,
         label,
     ];
     let found = first.iter().find_map(|hint| hint(place));
@@ -226,6 +227,16 @@ fn outside_block(place: &Place) -> Option<String> {
     (place.number == 4).then(|| {
         let label = record.label;
         format!("{label} belongs between START OF AUX DATA and END OF AUX DATA, in the header")
+    })
+}
+
+/// One DESCRIPTION too many.
+fn descriptions(place: &Place) -> Option<String> {
+    let many =
+        place.number == 5 && place.label() == "DESCRIPTION" && place.state.stage == Stage::Header;
+    many.then(|| {
+        "there may be any number of COMMENT lines, which are skipped: make COMMENT of those that are too many"
+            .to_string()
     })
 }
 

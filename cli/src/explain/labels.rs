@@ -5,6 +5,7 @@ use super::records::RECORDS;
 use super::state::{kind_of, Open, Stage, State};
 use super::Place;
 use crate::text;
+use ionex::DESCRIPTIONS;
 
 pub fn version(place: &Place) -> String {
     let record = &RECORDS[0];
@@ -56,6 +57,10 @@ fn in_header(place: &Place) -> String {
     }
     if label == "END OF AUX DATA" {
         return "START OF AUX DATA before it".to_string();
+    }
+    if label == "DESCRIPTION" {
+        let last = place.state.line_of_last(label).unwrap_or(0);
+        return format!("at most {DESCRIPTIONS} DESCRIPTION lines: line {last} is the last");
     }
     let same = |given: &&super::state::Given| {
         given.label == label && (!label.starts_with("SYS") || given.letter == place.card[5])

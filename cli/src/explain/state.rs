@@ -125,6 +125,12 @@ impl State {
         self.record(label).map(|given| given.line)
     }
 
+    /// The line of the last such record, where there may be several.
+    pub fn line_of_last(&self, label: &str) -> Option<u64> {
+        let last = self.given.iter().rfind(|given| given.label == label);
+        last.map(|given| given.line)
+    }
+
     pub fn record(&self, label: &str) -> Option<&Given> {
         self.given.iter().find(|given| given.label == label)
     }

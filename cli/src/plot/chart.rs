@@ -16,6 +16,8 @@ pub struct Field<'a> {
     pub title: String,
     /// The lines below the title.
     pub notes: Vec<String>,
+    /// The DESCRIPTION lines, below the map.
+    pub descriptions: Vec<String>,
 }
 
 /// The map is not larger than this, and not smaller, so that words find room.
@@ -46,7 +48,7 @@ pub fn draw(field: &Field) -> Picture {
     let chart = layout(field);
     let mut picture = Picture {
         width: (LEFT + chart.across.pixels + RIGHT).max(LEAST_PICTURE),
-        height: chart.along.start + chart.along.pixels + BOTTOM,
+        height: below(&chart) + BOTTOM + lines(field.descriptions.len()),
         title: field.title.clone(),
         shapes: Vec::new(),
     };
@@ -55,7 +57,18 @@ pub fn draw(field: &Field) -> Picture {
     graticule(&mut picture, &chart);
     bar(&mut picture, field.unit, &chart);
     legend(&mut picture, field, &chart);
+    descriptions(&mut picture, field, &chart);
     picture
+}
+
+/// Where the map ends.
+fn below(chart: &Chart) -> i32 {
+    chart.along.start + chart.along.pixels
+}
+
+/// How much so many lines of words take.
+fn lines(count: usize) -> i32 {
+    NOTE * count as i32
 }
 
 fn layout(field: &Field) -> Chart {
@@ -75,7 +88,7 @@ fn layout(field: &Field) -> Chart {
         along: Side {
             low: south,
             high: north,
-            start: TOP + NOTE * field.notes.len() as i32,
+            start: TOP + lines(field.notes.len()),
             pixels: height as i32,
         },
         scale: Scale::around(field.values.iter().flatten().copied(), height / 60),
@@ -194,7 +207,7 @@ fn legend(picture: &mut Picture, field: &Field, chart: &Chart) {
     if without == 0 {
         return;
     }
-    let y = chart.along.start + chart.along.pixels + 48;
+    let y = below(chart) + 48;
     picture.area(LEFT, y, 36, 18, Fill::Striped);
     picture.frame(LEFT, y, 36, 18);
     let words = format!(
@@ -202,4 +215,15 @@ fn legend(picture: &mut Picture, field: &Field, chart: &Chart) {
         share(without, all)
     );
     picture.words(LEFT + 48, y + 15, words, Size::Body, Anchor::Start);
+}
+
+/// The file's own words, column by column as they stand; a blank line leaves its room.
+fn descriptions(picture: &mut Picture, field: &Field, chart: &Chart) {
+    let first = below(chart) + BOTTOM + 12;
+    for (line, words) in field.descriptions.iter().enumerate() {
+        if !words.is_empty() {
+            let y = first + lines(line);
+            picture.words(LEFT, y, words.clone(), Size::Columns, Anchor::Start);
+        }
+    }
 }

@@ -23,6 +23,8 @@ pub enum Anchor {
 pub enum Size {
     Title,
     Body,
+    /// As the body, each letter and blank as wide as the next.
+    Columns,
 }
 
 #[derive(Clone, Copy, Debug, PartialEq, Eq)]

@@ -109,7 +109,7 @@ impl Raster {
 fn scale(size: Size) -> i32 {
     match size {
         Size::Title => 3,
-        Size::Body => 2,
+        Size::Body | Size::Columns => 2,
     }
 }
 

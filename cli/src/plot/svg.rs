@@ -72,6 +72,7 @@ fn font(size: Size) -> &'static str {
     match size {
         Size::Title => "font-size=\"24\" font-weight=\"bold\"",
         Size::Body => "font-size=\"17\"",
+        Size::Columns => "font-size=\"17\" font-family=\"monospace\" xml:space=\"preserve\"",
     }
 }
 

@@ -71,7 +71,7 @@ fn put_map(lines: &mut Vec<String>, kind: &str, map: usize, epoch: Option<String
     lines.push(record(&number, &format!("END OF {kind} MAP")));
 }
 
-const HEADER: [(&str, &str); 15] = [
+const HEADER: [(&str, &str); 16] = [
     (
         "     1.1            IONOSPHERE MAPS     GNS",
         "IONEX VERSION / TYPE",
@@ -79,6 +79,10 @@ const HEADER: [(&str, &str); 15] = [
     (
         "maker               centre              5-dec-10 12:00",
         "PGM / RUN BY / DATE",
+    ),
+    (
+        "two crests that follow the Sun; the values are made up",
+        "DESCRIPTION",
     ),
     ("  2010    12     4     0     0     0", "EPOCH OF FIRST MAP"),
     ("  2010    12     5     0     0     0", "EPOCH OF LAST MAP"),

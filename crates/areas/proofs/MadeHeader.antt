@@ -12,7 +12,7 @@ use Rattle.kit.specs.Answer.{All}
 use Rattle.mapset.specs.Header.{Content, count, system, contents, Said, number, counts, Accepts, a-count, says, Stand, stand-end, stand-some, stand-none}
 use Rattle.mapset.specs.MapSet.{MapSet}
 use Rattle.layout.specs.Labels.{content}
-use Rattle.layout.specs.Layout.{Slots, Mode, Heads, h-description, h-comment, h-exponent, h-field, h-system, h-aux, h-skip, h-back, h-end}
+use Rattle.layout.specs.Layout.{Slots, Lines, Mode, Heads, h-description, h-comment, h-exponent, h-field, h-system, h-aux, h-skip, h-back, h-end}
 use Rattle.reading.proofs.SlotLaws.{system-content}
 
 -- where a record is left to be written, it is one that is accepted
@@ -33,7 +33,7 @@ one-written left i s e a ih j = go (ℕ-discrete j i)
     go (yes q) = rw (q, e) a
     go (no q) = rw (getD-set-other left i j none none q) at (ih j)
 
-pub heads-fit : {m : MapSet} {a : Mode} {e : ℤ} {left : Slots} {rs : List (List ℕ)} → Heads m a e left rs → (i : ℕ) → Fit (content i) (getD left i none)
+pub heads-fit : {m : MapSet} {a : Mode} {e : ℤ} {left : Slots} {ds : Lines} {rs : List (List ℕ)} → Heads m a e left ds rs → (i : ℕ) → Fit (content i) (getD left i none)
 heads-fit (h-description c hw) = heads-fit hw
 heads-fit (h-comment c hw) = heads-fit hw
 heads-fit (h-exponent c u hw) = heads-fit hw
@@ -51,7 +51,7 @@ stand (k ∷ ks) [] e f = absurd (omega arith)
 stand (k ∷ ks) (some s ∷ ss) e f = stand-some (f 0) (stand ks ss (omega arith) (λ i. f (suc i)))
 stand (k ∷ ks) (none ∷ ss) e f = stand-none (stand ks ss (omega arith) (λ i. f (suc i)))
 
-module _ {m : MapSet} {a : Mode} {e : ℤ} {rs : List (List ℕ)} (hw : Heads m a e (says (m .header) (m .texts)) rs) where
+module _ {m : MapSet} {a : Mode} {e : ℤ} {ds : Lines} {rs : List (List ℕ)} (hw : Heads m a e (says (m .header) (m .texts)) ds rs) where
   pub heads-stand : Stand contents (says (m .header) (m .texts))
   heads-stand = stand contents (says (m .header) (m .texts)) refl (heads-fit hw)
 

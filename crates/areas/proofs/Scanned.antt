@@ -13,7 +13,7 @@ use Rattle.mapset.specs.Grid.{columns}
 use Rattle.mapset.specs.MapSet.{OtherMap, MapSet}
 use Rattle.mapset.specs.Areas.{Areas, Room}
 use Rattle.layout.specs.Labels.{name, aux-end}
-use Rattle.layout.specs.Layout.{maps, per-map, Writes, Slots, Mode, plain, Heads, h-description, h-comment, h-exponent, h-field, h-system, h-aux, h-skip, h-back, h-end, Rows, rows-of, begins}
+use Rattle.layout.specs.Layout.{maps, per-map, Writes, Slots, Lines, Mode, plain, Heads, h-description, h-comment, h-exponent, h-field, h-system, h-aux, h-skip, h-back, h-end, Rows, rows-of, begins}
 use Rattle.reading.proofs.RecordLaws.{known-head, known-heads, known-maps, rec-label, rec-name}
 use Rattle.areas.specs.Flat.{slots, reads, values-of, wanted, areas-of, areas}
 use Rattle.areas.specs.Formed.{Rising, Formed}
@@ -81,7 +81,7 @@ module _ {m : MapSet} (f : Formed m) where
 abbrev pub Begins : MapSet → ℤ × List (List ℕ) → Type 0
 Begins m b = Writes (m .header) (begins (b .0)) (maps (m .maps)) (b .1)
 
-heads-begin : {m : MapSet} {a : Mode} {e : ℤ} {left : Slots} {rs : List (List ℕ)} → Heads m a e left rs → Begins m (body a e rs)
+heads-begin : {m : MapSet} {a : Mode} {e : ℤ} {left : Slots} {ds : Lines} {rs : List (List ℕ)} → Heads m a e left ds rs → Begins m (body a e rs)
 unfolding body
 heads-begin (h-description c hw) = rw (rec-label c (known-heads .0)) (heads-begin hw)
 heads-begin (h-comment c hw) = rw (rec-label c (known-maps .0)) (heads-begin hw)
@@ -95,7 +95,7 @@ heads-begin (h-end c a f d l hw) = rw (rec-label c (known-heads .3)) hw
 
 pub rows-begin : {m : MapSet} {rs : List (List ℕ)} → Rows m rs → Begins m (body plain (negsuc 0) rs)
 unfolding body
-rows-begin (rows-of v c hw) = rw (rec-label c known-version) (heads-begin hw)
+rows-begin (rows-of v o c hw) = rw (rec-label c known-version) (heads-begin hw)
 
 -- ---- the theorems: over the rows of a text that is made from m, the second scan leaves the areas of m
 

@@ -8,7 +8,7 @@ use lib.ListN.{length, take, drop}
 use lib.Seq.{length-take-le, take-at}
 use Rattle.mapset.specs.declared.Kind.the-variants.{Rms, Height}
 use Rattle.mapset.specs.declared.Header.{Header}
-use Rattle.mapset.specs.declared.Texts.{Texts}
+use Rattle.mapset.specs.Described.{FullTexts}
 use Rattle.mapset.specs.Grid.{columns}
 use Rattle.mapset.specs.MapSet.{MapSet}
 use Rattle.mapset.specs.Areas.{Areas, blocks, values, value-need, Room, EpochRules}
@@ -24,7 +24,7 @@ use Rattle.areas.proofs.Unnested.{Sixfold, epochs-back, nest-rules, are
 use Rattle.areas.proofs.Nested.{areas-sixfold, nest-areas}
 use Rattle.areas.specs.Nesting.{nested}
 
-module _ (h : Header) (t : Texts) (a : Areas) (v : Valid h t a) where
+module _ (h : Header) (t : FullTexts) (a : Areas) (v : Valid h t a) where
   whole : Sixfold (h .times .maps) (per-map h) (columns (h .grid)) (needed h a)
   unfolding needed
   whole =
@@ -97,7 +97,7 @@ module _ (m : MapSet) (f : Formed m) (a : Areas) (e : areas m ≡ needed (m .hea
 
 -- ---- the theorems
 
-pub valid-formed : (h : Header) (t : Texts) (a : Areas) → (Valid h t a) ↔ ((m : MapSet) × Formed m × (m .header ≡ h) × (m .texts ≡ t) × (areas m ≡ needed h a))
+pub valid-formed : (h : Header) (t : FullTexts) (a : Areas) → (Valid h t a) ↔ ((m : MapSet) × Formed m × (m .header ≡ h) × (m .texts ≡ t) × (areas m ≡ needed h a))
 valid-formed h t a = (
   λ v. (nested h t a, nested-formed h t a v, refl, refl, nested-areas h t a v),
   λ g. let (m, f, p, q, e) = g in rw (p, q) at (formed-valid m f a (e ∙ ap (λ h. needed h a) (sym p))),

@@ -1,6 +1,6 @@
 -- The map set that valid lists mean.
 use Rattle.mapset.specs.declared.Header.{Header}
-use Rattle.mapset.specs.declared.Texts.{Texts}
+use Rattle.mapset.specs.Described.{FullTexts}
 use Rattle.mapset.specs.Grid.{columns}
 use Rattle.mapset.specs.MapSet.{MapSet}
 use Rattle.mapset.specs.Areas.{Areas}
@@ -9,5 +9,5 @@ use Rattle.areas.specs.Nest.{nest}
 use Rattle.areas.specs.Valid.{needed}
 
 -- the map set of valid lists
-abbrev pub nested : Header → Texts → Areas → MapSet
+abbrev pub nested : Header → FullTexts → Areas → MapSet
 nested h t a = record { header = h; texts = t; maps = nest (h .times .maps) (per-map h) (columns (h .grid)) (needed h a) }

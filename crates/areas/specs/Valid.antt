@@ -9,7 +9,7 @@ use Rattle.kit.specs.Answer.{All}
 use Rattle.mapset.specs.declared.Kind.{Kind}
 use Rattle.mapset.specs.declared.Kind.the-variants.{Tec, Rms, Height}
 use Rattle.mapset.specs.declared.Header.{Header}
-use Rattle.mapset.specs.declared.Texts.{Texts}
+use Rattle.mapset.specs.Described.{FullTexts}
 use Rattle.mapset.specs.Grid.{columns}
 use Rattle.mapset.specs.Areas.{Areas, Present, blocks, values, value-need, Sound}
 use Rattle.layout.specs.Layout.{Exponent, per-map}
@@ -38,7 +38,7 @@ abbrev pub Blank : {X : Type 0} → Kind → ℕ → X → (marks : List ℕ) �
 Blank k w v [] l = Unit {0}
 Blank k w v (m ∷ ms) l = (Present k m ⊎ All (λ x. x ≡ v) (take w l)) × Blank k w v ms (drop w l)
 
-pub record Valid (h : Header) (t : Texts) (a : Areas) : Type 0 where
+pub record Valid (h : Header) (t : FullTexts) (a : Areas) : Type 0 where
   pub sound : Sound h t a
   pub values : (k : Kind) → All Value (values-in k (needed h a))
   pub exponents : All Exponent (needed h a .exponents)

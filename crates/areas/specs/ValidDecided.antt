@@ -8,7 +8,7 @@ use Rattle.kit.specs.Integer.{int?, between?}
 use Rattle.mapset.specs.declared.Kind.{Kind}
 use Rattle.mapset.specs.declared.Kind.the-variants.{Tec, Rms, Height}
 use Rattle.mapset.specs.declared.Header.{Header}
-use Rattle.mapset.specs.declared.Texts.{Texts}
+use Rattle.mapset.specs.Described.{FullTexts}
 use Rattle.mapset.specs.Grid.{columns}
 use Rattle.mapset.specs.Areas.{Areas, present?, blocks, Sound}
 use Rattle.layout.specs.Layout.{Exponent, per-map, exponent?}
@@ -38,7 +38,7 @@ kinds? {P} d = go (d Tec) (d Rms) (d Height)
     go (yes p) (no n) r = no (λ f. n (f Rms))
     go (no n) q r = no (λ f. n (f Tec))
 
-module _ (h : Header) (t : Texts) (a : Areas) where
+module _ (h : Header) (t : FullTexts) (a : Areas) where
   abbrev Rest : Type 0
   Rest =
       ((k : Kind) → All Value (values-in k (needed h a)))

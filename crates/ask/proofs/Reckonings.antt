@@ -15,7 +15,7 @@ use Rattle.kit.specs.Truth.{truth, dec-by}
 use Rattle.kit.specs.Integer.{le?, lt?, int?, between?}
 use Rattle.mapset.specs.Areas.{Areas, present?, nowhere?, six}
 use Rattle.mapset.specs.Decisions.{end?, step?, multiple?, ×₃-dec, ×₄-dec, together?, dimension?, limits?, follows?}
-use Rattle.mapset.specs.Sound.{version?, printable?, written?, texts?, times?, model?, axis?, grid?, count?, system?, systems?, header?, run?, runs?, starts?, epochs?, marks?, lengths?, sound-says?}
+use Rattle.mapset.specs.Sound.{version?, printable?, written?, lines?, texts?, times?, model?, axis?, grid?, count?, system?, systems?, header?, run?, runs?, starts?, epochs?, marks?, lengths?, sound-says?}
 use Rattle.mapset.specs.SoundDecided.{sound?}
 use Rattle.mapset.specs.declared.Axis.{Axis}
 use Rattle.mapset.specs.declared.Header.{Header}
@@ -39,6 +39,7 @@ header n = record {
   stations = record { stands = false; count = 0 };
   satellites = record { stands = false; count = 0 };
   systems = record { g = absent; r = absent; e = absent; c = absent; j = absent; i = absent; s = absent };
+  descriptions = 0;
 }
 
 -- 10, 20 over 30, 40 TECU at second 0; 50, 60 over 70 and a node without value at second 3,600
@@ -85,7 +86,7 @@ rows =
     ∷ []
 
 pub reckonings : All (λ (r : Row). Answers (r .0) (says (r .1))) rows
-unfolding rows header held fine texts axis absent truth sound? dec-by sound-says? ×-dec ⊎-dec ¬-dec all-dec pick header? version? texts? written? printable? within? times? model? grid? axis? end? step? together? between? ×₃-dec ×₄-dec multiple? le? lt? int? count? systems? system? dimension? limits? epochs? starts? runs? run? follows? marks? lengths? nowhere? present? ℕ-discrete decLe decLt known? timely? same-told strip? closed? goes-round? after rounded mean valued? weighted weight terms spread corners value worth is-value?
+unfolding rows header held fine texts axis absent truth sound? dec-by sound-says? ×-dec ⊎-dec ¬-dec all-dec pick header? version? lines? texts? written? printable? within? times? model? grid? axis? end? step? together? between? ×₃-dec ×₄-dec multiple? le? lt? int? count? systems? system? dimension? limits? epochs? starts? runs? run? follows? marks? lengths? nowhere? present? ℕ-discrete decLe decLt known? timely? same-told strip? closed? goes-round? after rounded mean valued? weighted weight terms spread corners value worth is-value?
 reckonings = all-answer rows tt
 
 -- ---- 24 (02, Ask 3): DLON of 6.0, epochs 7,201 s apart, a grid that ends a column too early; 5.0 and 7,200 s are served (`SunSample`)

@@ -17,12 +17,12 @@ use Rattle.kit.specs.Integer.{le?, lt?, int?, between?}
 use Rattle.mapset.specs.Areas.{Areas, present?, nowhere?, Sound, six}
 use Rattle.mapset.specs.Judged.{toward?}
 use Rattle.mapset.specs.Decisions.{end?, step?, multiple?, ×₃-dec, ×₄-dec, together?, dimension?, limits?, follows?}
-use Rattle.mapset.specs.Sound.{version?, printable?, written?, texts?, times?, model?, axis?, grid?, count?, system?, systems?, header?, run?, runs?, starts?, epochs?, marks?, lengths?, sound-says?}
+use Rattle.mapset.specs.Sound.{version?, printable?, written?, lines?, texts?, times?, model?, axis?, grid?, count?, system?, systems?, header?, run?, runs?, starts?, epochs?, marks?, lengths?, sound-says?}
 use Rattle.mapset.specs.SoundDecided.{sound?}
 use Rattle.mapset.specs.declared.Axis.{Axis}
 use Rattle.mapset.specs.declared.System.{System}
 use Rattle.mapset.specs.declared.Header.{Header}
-use Rattle.mapset.specs.declared.Texts.{Texts}
+use Rattle.mapset.specs.Described.{FullTexts}
 use Rattle.ask_round.specs.Round.{rounded}
 use Rattle.ask_cells.specs.Place.{next, InCell100}
 use Rattle.ask_spans.specs.Time.{alone, Uses, nearest}
@@ -49,10 +49,11 @@ header = record {
   stations = record { stands = false; count = 0 };
   satellites = record { stands = false; count = 0 };
   systems = record { g = absent; r = absent; e = absent; c = absent; j = absent; i = absent; s = absent };
+  descriptions = 0;
 }
 
-unfoldable pub texts : Texts
-texts = record { program = replicate 20 32; agency = replicate 20 32; date = replicate 20 32; mapping = replicate 4 32; observables = replicate 60 32 }
+unfoldable pub texts : FullTexts
+texts = record { program = replicate 20 32; agency = replicate 20 32; date = replicate 20 32; mapping = replicate 4 32; observables = replicate 60 32; descriptions = replicate 1200 32 }
 
 unfoldable pub held : Areas
 held = six (pos 100 ∷ pos 200 ∷ pos 300 ∷ pos 400 ∷ []) [] [] (replicate 6 (negsuc 0)) (0 ∷ []) (0 ∷ [])
@@ -62,7 +63,7 @@ unfoldable pub sample : Question
 sample = question header texts held 0 0 0 (pos 50) (pos 50) 0
 
 is-sound : truth (sound? header texts held) ≡ true
-unfolding truth sound? dec-by sound-says? ×-dec ⊎-dec ¬-dec all-dec pick header? version? texts? written? printable? within? times? model? grid? axis? end? step? together? between? ×₃-dec ×₄-dec multiple? toward? le? lt? int? count? systems? system? dimension? limits? epochs? starts? runs? run? follows? marks? lengths? nowhere? present? ℕ-discrete decLe decLt header texts held axis absent
+unfolding truth sound? dec-by sound-says? ×-dec ⊎-dec ¬-dec all-dec pick header? version? lines? texts? written? printable? within? times? model? grid? axis? end? step? together? between? ×₃-dec ×₄-dec multiple? toward? le? lt? int? count? systems? system? dimension? limits? epochs? starts? runs? run? follows? marks? lengths? nowhere? present? ℕ-discrete decLe decLt header texts held axis absent
 is-sound = refl
 
 sound : Sound header texts held

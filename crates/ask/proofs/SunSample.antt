@@ -18,7 +18,7 @@ use Rattle.kit.specs.Integer.{le?, lt?, int?, between?}
 use Rattle.mapset.specs.Areas.{Areas, present?, nowhere?, Sound, six}
 use Rattle.mapset.specs.Judged.{toward?}
 use Rattle.mapset.specs.Decisions.{end?, step?, multiple?, ×₃-dec, ×₄-dec, together?, dimension?, limits?, follows?}
-use Rattle.mapset.specs.Sound.{version?, printable?, written?, texts?, times?, model?, axis?, grid?, count?, system?, systems?, header?, run?, runs?, starts?, epochs?, marks?, lengths?, sound-says?}
+use Rattle.mapset.specs.Sound.{version?, printable?, written?, lines?, texts?, times?, model?, axis?, grid?, count?, system?, systems?, header?, run?, runs?, starts?, epochs?, marks?, lengths?, sound-says?}
 use Rattle.mapset.specs.SoundDecided.{sound?}
 use Rattle.mapset.specs.declared.Header.{Header}
 use Rattle.ask_round.specs.Round.{rounded}
@@ -42,6 +42,7 @@ header = record {
   stations = record { stands = false; count = 0 };
   satellites = record { stands = false; count = 0 };
   systems = record { g = absent; r = absent; e = absent; c = absent; j = absent; i = absent; s = absent };
+  descriptions = 0;
 }
 
 unfoldable pub held : Areas
@@ -59,14 +60,14 @@ fine =
     six (pos 1 ∷ replicate 143 (pos 0)) [] [] (negsuc 2 ∷ negsuc 2 ∷ replicate 4 (negsuc 0)) (0 ∷ 7200 ∷ []) (0 ∷ 0 ∷ [])
 
 is-sound : truth (sound? header texts held) ≡ true
-unfolding truth sound? dec-by sound-says? ×-dec ⊎-dec ¬-dec all-dec pick header? version? texts? written? printable? within? times? model? grid? axis? end? step? together? between? ×₃-dec ×₄-dec multiple? toward? le? lt? int? count? systems? system? dimension? limits? epochs? starts? runs? run? follows? marks? lengths? nowhere? present? ℕ-discrete decLe decLt header texts held axis absent
+unfolding truth sound? dec-by sound-says? ×-dec ⊎-dec ¬-dec all-dec pick header? version? lines? texts? written? printable? within? times? model? grid? axis? end? step? together? between? ×₃-dec ×₄-dec multiple? toward? le? lt? int? count? systems? system? dimension? limits? epochs? starts? runs? run? follows? marks? lengths? nowhere? present? ℕ-discrete decLe decLt header texts held axis absent
 is-sound = refl
 
 sound : Sound header texts held
 sound = truth-true (sound? header texts held) is-sound
 
 is-sound-fine : truth (sound? header texts fine) ≡ true
-unfolding truth sound? dec-by sound-says? ×-dec ⊎-dec ¬-dec all-dec pick header? version? texts? written? printable? within? times? model? grid? axis? end? step? together? between? ×₃-dec ×₄-dec multiple? toward? le? lt? int? count? systems? system? dimension? limits? epochs? starts? runs? run? follows? marks? lengths? nowhere? present? ℕ-discrete decLe decLt header texts fine axis absent
+unfolding truth sound? dec-by sound-says? ×-dec ⊎-dec ¬-dec all-dec pick header? version? lines? texts? written? printable? within? times? model? grid? axis? end? step? together? between? ×₃-dec ×₄-dec multiple? toward? le? lt? int? count? systems? system? dimension? limits? epochs? starts? runs? run? follows? marks? lengths? nowhere? present? ℕ-discrete decLe decLt header texts fine axis absent
 is-sound-fine = refl
 
 -- the grid goes round, its step is 5.0, its maps are 7,200 s apart

@@ -11,7 +11,7 @@ use Rattle.mapset.specs.Areas.{Areas, Sound}
 use Rattle.mapset.specs.declared.Kind.{Kind}
 use Rattle.mapset.specs.declared.Kind.the-variants.{Tec as tec, Rms as rms, Height as height}
 use Rattle.mapset.specs.declared.Header.{Header}
-use Rattle.mapset.specs.declared.Texts.{Texts}
+use Rattle.mapset.specs.Described.{FullTexts}
 use Rattle.ask_round.specs.Round.{rounded}
 use Rattle.ask_cells.specs.Place.{InCell100}
 use Rattle.ask_spans.specs.Time.{Uses}
@@ -32,7 +32,7 @@ use Rattle.ask.specs.declared.Asked.the-variants as A
 -- a map set, and what is asked of it: place in hundredths of a degree, time in whole seconds from 1900, a layer counted from 0
 pub record Question : Type 0 where
   pub header : Header
-  pub texts : Texts
+  pub texts : FullTexts
   pub areas : Areas
   pub kind : ℕ
   pub method : ℕ
@@ -153,6 +153,6 @@ told-sum S.Lacks = refused 22
 told-sum (S.Tecu t u) = tecu (rounded t u)
 told-sum (S.Km t u) = km (rounded t u)
 
-abbrev pub question : Header → Texts → Areas → ℕ → ℕ → ℕ → ℤ → ℤ → ℕ → Question
+abbrev pub question : Header → FullTexts → Areas → ℕ → ℕ → ℕ → ℤ → ℤ → ℕ → Question
 question header texts areas kind method layer lat lon second =
     record { header = header; texts = texts; areas = areas; kind = kind; method = method; layer = layer; lat = lat; lon = lon; second = second }

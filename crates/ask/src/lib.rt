@@ -4,6 +4,7 @@ ghost use native.Mathlib.Decide.{decLt};
 ghost use Rattle.kit.specs.Answer.{×-dec};
 ghost use Rattle.kit.specs.Range.{within?};
 ghost use Rattle.kit.specs.Truth.{truth};
+ghost use Rattle.mapset.specs.Described.{full};
 ghost use Rattle.mapset.specs.Areas.{six};
 ghost use Rattle.mapset.specs.Grid.{layers};
 ghost use Rattle.ask.specs.Ask.{layout, question, Answers, told};
@@ -70,6 +71,7 @@ fn shape_of(header: Header, kind: u64, layer: u64) -> Shape
 pub fn ask(
     header: Header,
     texts: Texts,
+    descriptions: &[u8],
     tec: &[i32],
     rms: &[i32],
     height: &[i32],
@@ -83,12 +85,22 @@ pub fn ask(
     lon: i32,
     second: u64,
 ) -> Asked
-    ensures { λ r. ⌜ Answers (question header texts (six (now (tec .entry)) (now (rms .entry)) (now (height .entry)) (now (exponents .entry)) (now (epochs .entry)) (now (marks .entry))) kind method layer lat lon second) (told r) ⌝ }
+    ensures { λ r. ⌜ Answers (question header (full texts (now (descriptions .entry))) (six (now (tec .entry)) (now (rms .entry)) (now (height .entry)) (now (exponents .entry)) (now (epochs .entry)) (now (marks .entry))) kind method layer lat lon second) (told r) ⌝ }
 {
     if !is_known(kind, method) {
         return Asked::Refused(Why::Unknown);
     }
-    if !sound::sound(header, texts, tec, rms, height, exponents, epochs, marks) {
+    if !sound::sound(
+        header,
+        texts,
+        descriptions,
+        tec,
+        rms,
+        height,
+        exponents,
+        epochs,
+        marks,
+    ) {
         return Asked::Refused(Why::Unsound);
     }
     let maps = header.times.maps as usize;

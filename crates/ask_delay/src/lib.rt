@@ -1,4 +1,5 @@
 // The delay at a place and second: the question asked, and its TECU turned into metres (02, request 13).
+ghost use Rattle.mapset.specs.Described.{full};
 ghost use Rattle.mapset.specs.Areas.{six};
 ghost use Rattle.ask.specs.Ask.{question, told as told-asked};
 ghost use Rattle.ask_delay.specs.AskDelay.{AskDelays, Turned, told};
@@ -28,6 +29,7 @@ fn turned(asked: Asked, carrier: f64) -> AskedDelay
 pub fn ask_delay(
     header: Header,
     texts: Texts,
+    descriptions: &[u8],
     tec: &[i32],
     rms: &[i32],
     height: &[i32],
@@ -42,7 +44,7 @@ pub fn ask_delay(
     second: u64,
     carrier: f64,
 ) -> AskedDelay
-    ensures { λ r. ⌜ AskDelays (question header texts (six (now (tec .entry)) (now (rms .entry)) (now (height .entry)) (now (exponents .entry)) (now (epochs .entry)) (now (marks .entry))) kind method layer lat lon second) carrier (told r) ⌝ }
+    ensures { λ r. ⌜ AskDelays (question header (full texts (now (descriptions .entry))) (six (now (tec .entry)) (now (rms .entry)) (now (height .entry)) (now (exponents .entry)) (now (epochs .entry)) (now (marks .entry))) kind method layer lat lon second) carrier (told r) ⌝ }
 {
     if kind == 2 {
         return AskedDelay::Refused(Why::Unknown);
@@ -50,6 +52,7 @@ pub fn ask_delay(
     let asked = ask::ask(
         header,
         texts,
+        descriptions,
         tec,
         rms,
         height,

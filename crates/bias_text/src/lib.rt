@@ -77,7 +77,8 @@ pub fn read_biases(
 ) -> Biased
     ensures { λ r. ⌜ comes r (lent (now (satellites .exit)) (now (stations .exit)) (now (names .exit))) ≡ outcome (now (text .entry)) (lent (now (satellites .entry)) (now (stations .entry)) (now (names .entry))) ⌝ }
 {
-    let scan = read_judge::judge(text);
+    let mut lines = [b' '; 1200];
+    let scan = read_judge::judge(text, &mut lines);
     let answer = scan.answer;
     match answer {
         Judged::Wrong(number, line, column) => {

@@ -15,7 +15,7 @@ use Rattle.mapset.specs.MapSet.{MapSet}
 use Rattle.layout.specs.Records.{Vals}
 use Rattle.layout.specs.Labels.{Label, version, description, comment, system, exponent, aux-start, aux-end, head, name, layout as layout-of, Rec}
 use Rattle.layout.specs.Layout as layout
-use Rattle.layout.specs.Layout.{Slots, Mode, plain, aux, Heads, h-description, h-comment, h-exponent, h-field, h-system, h-aux, h-skip, h-back, h-end, rows-of}
+use Rattle.layout.specs.Layout.{Slots, Lines, Mode, plain, aux, Heads, h-description, h-comment, h-exponent, h-field, h-system, h-aux, h-skip, h-back, h-end, rows-of}
 use Rattle.reading.specs.Feed.{Fault, fault, Why, why, on-line, Feed, row, feed, split}
 use Rattle.reading.specs.Fields.{scan}
 use Rattle.reading.specs.Read.{read}
@@ -220,7 +220,7 @@ not-start x n e = n (sym (rec-name x) ∙ e)
 -- ---- the walk over the header
 
 module _ {m : MapSet} where
-  blames : {a : Mode} {e : ℤ} {left : Slots} {rs : List (List ℕ)} → Heads m a e left rs → {f : Feed} → Carries f rs → Sized f
+  blames : {a : Mode} {e : ℤ} {left : Slots} {ds : Lines} {rs : List (List ℕ)} → Heads m a e left ds rs → {f : Feed} → Carries f rs → Sized f
       → (g : Biases) {p : Place} → At a p → Blames (Faulty g p f) (gather g p f)
   unfolding gather on-role
   blames (h-description x h) (c-row {n} {r} {f} c) z g at-plain =
@@ -243,7 +243,7 @@ module _ {m : MapSet} where
 
   rows-blame : {rs : List (List ℕ)} {f : Feed} → layout.Rows m rs → Carries f rs → Sized f → Blames (Faulty nothing outside f) (gather nothing outside f)
   unfolding gather
-  rows-blame (rows-of v x h) (c-row {n} {r} {f} c) z =
+  rows-blame (rows-of v _ x h) (c-row {n} {r} {f} c) z =
       onward nothing outside n r f (z .0 .0) (role outside r) (stands-role outside r) (λ b. blames h c (z .1) b (stay-plain (not-start x (others .0)) (stands-role outside r)))
 
   text-blames : {t : List ℕ} → layout.Makes m t → Blames (Faulty nothing outside (feed 1 (split t))) (gather nothing outside (feed 1 (split t)))

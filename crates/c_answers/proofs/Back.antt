@@ -22,9 +22,9 @@ use Rattle.mapset.specs.declared.Axis.{Axis}
 use Rattle.mapset.specs.declared.Counted.{Counted}
 use Rattle.mapset.specs.declared.System.{System}
 use Rattle.mapset.specs.declared.Header.{Header}
-use Rattle.mapset.specs.declared.Texts.{Texts}
+use Rattle.mapset.specs.Described.{FullTexts}
 use Rattle.c_header.specs.Numbers.{flag, numbers, text-bytes}
-use Rattle.c_given.specs.Given.{bounded, axis-number, stands-of, header-of, texts-of}
+use Rattle.c_given.specs.Given.{bounded, axis-number, stands-of, header-of, five-of, texts-of}
 use Rattle.c_given.proofs.GivenLaws.{bounded-within, axis-within}
 
 -- ---- a number that its field holds
@@ -97,7 +97,7 @@ system-back s h =
     λ i. record { stands = p i; stations = q i; satellites = r i }
 
 -- ---- the header
-pub header-back : (h : Header) (t : Texts) (r : List ℤ) → HeaderRules h t → header-of (numbers h ++ r) ≡ h
+pub header-back : (h : Header) (t : FullTexts) (r : List ℤ) → HeaderRules h t → header-of (numbers h ++ r) ≡ h
 unfolding header-of
 header-back h t r rules =
     let g = header-groups h t rules in
@@ -128,6 +128,7 @@ header-back h t r rules =
     let sj = system-back (h .systems .j) (y .1 .1 .1 .1 .0) in
     let si = system-back (h .systems .i) (y .1 .1 .1 .1 .1 .0) in
     let ss = system-back (h .systems .s) (y .1 .1 .1 .1 .1 .1) in
+    let lines = count-back (h .descriptions) (omega (arith, g .1 .0 .1 .1 .1 .1 .1 .0)) in
     λ i. record {
       version = record { tenths = tenths i; kind = kind i; code = code i };
       times = record { first = first i; last = last i; interval = interval i; maps = maps i };
@@ -136,6 +137,7 @@ header-back h t r rules =
       stations = stations i;
       satellites = satellites i;
       systems = record { g = sg i; r = sr i; e = se i; c = sc i; j = sj i; i = si i; s = ss i };
+      descriptions = lines i;
     }
 
 -- ---- the texts
@@ -147,8 +149,8 @@ part-back b pre x rest a n e h k =
     ap (λ l. take n (drop a l)) whole ∙ ap (λ j. take n (drop j (pre ++ (x ++ (rest ++ f))))) (sym h)
     ∙ ap (take n) (drop-append-seam pre (x ++ (rest ++ f))) ∙ ap (λ j. take j (x ++ (rest ++ f))) (sym k) ∙ take-append-seam x (rest ++ f)
 
-pub texts-back : (h : Header) (x : Texts) (r : List ℕ) → HeaderRules h x → texts-of (text-bytes x ++ r) ≡ x
-unfolding texts-of
+pub texts-back : (h : Header) (x : FullTexts) (r : List ℕ) → HeaderRules h x → texts-of (text-bytes x ++ r) ≡ x
+unfolding five-of
 texts-back h x r rules =
     let g = header-groups h x rules .1 .0 in
     let p = x .program in
@@ -156,24 +158,31 @@ texts-back h x r rules =
     let d = x .date in
     let m = x .mapping in
     let o = x .observables in
+    let q = x .descriptions in
     let b : List ℕ = text-bytes x ++ r in
-    let e0 : b ≡ p ++ ((a ++ (d ++ (m ++ o))) ++ r) = append-assoc p (a ++ (d ++ (m ++ o))) r in
-    let e1 : b ≡ p ++ (a ++ ((d ++ (m ++ o)) ++ r)) = e0 ∙ ap (λ l. p ++ l) (append-assoc a (d ++ (m ++ o)) r) in
-    let e2 : b ≡ (p ++ a) ++ (d ++ ((m ++ o) ++ r)) = e1 ∙ ap (λ l. p ++ (a ++ l)) (append-assoc d (m ++ o) r) ∙ sym (append-assoc p a _) in
-    let e3 : b ≡ ((p ++ a) ++ d) ++ (m ++ (o ++ r)) = e2 ∙ sym (append-assoc (p ++ a) d _) ∙ ap (λ l. ((p ++ a) ++ d) ++ l) (append-assoc m o r) in
-    let e4 : b ≡ (((p ++ a) ++ d) ++ m) ++ (o ++ r) = e3 ∙ sym (append-assoc ((p ++ a) ++ d) m (o ++ r)) in
+    let s : List ℕ = q ++ r in
+    let e0 : b ≡ p ++ ((a ++ (d ++ (m ++ o))) ++ s) = simp append-assoc in
+    let e1 : b ≡ p ++ (a ++ ((d ++ (m ++ o)) ++ s)) = e0 ∙ ap (λ l. p ++ l) (append-assoc a (d ++ (m ++ o)) s) in
+    let e2 : b ≡ (p ++ a) ++ (d ++ ((m ++ o) ++ s)) = e1 ∙ ap (λ l. p ++ (a ++ l)) (append-assoc d (m ++ o) s) ∙ sym (append-assoc p a _) in
+    let e3 : b ≡ ((p ++ a) ++ d) ++ (m ++ (o ++ s)) = e2 ∙ sym (append-assoc (p ++ a) d _) ∙ ap (λ l. ((p ++ a) ++ d) ++ l) (append-assoc m o s) in
+    let e4 : b ≡ (((p ++ a) ++ d) ++ m) ++ (o ++ s) = e3 ∙ sym (append-assoc ((p ++ a) ++ d) m (o ++ s)) in
+    let e5 : b ≡ ((((p ++ a) ++ d) ++ m) ++ o) ++ s = e4 ∙ sym (append-assoc (((p ++ a) ++ d) ++ m) o s) in
     let lp : length p ≡ 20 = g .0 .0 in
     let la : length a ≡ 20 = g .1 .0 .0 in
     let ld : length d ≡ 20 = g .1 .1 .0 .0 in
     let lm : length m ≡ 4 = g .1 .1 .1 .0 .0 in
-    let lo : length o ≡ 60 = g .1 .1 .1 .1 .0 in
+    let lo : length o ≡ 60 = g .1 .1 .1 .1 .0 .0 in
+    let lq : length q ≡ 1200 = g .1 .1 .1 .1 .1 .1 .0 .0 in
     let l2 : length (p ++ a) ≡ 40 = length-append p a ∙ omega arith in
     let l3 : length ((p ++ a) ++ d) ≡ 60 = length-append (p ++ a) d ∙ omega arith in
     let l4 : length (((p ++ a) ++ d) ++ m) ≡ 64 = length-append ((p ++ a) ++ d) m ∙ omega arith in
-    let behind : drop 64 b ≡ o ++ r = ap (drop 64) e4 ∙ ap (λ j. drop j ((((p ++ a) ++ d) ++ m) ++ (o ++ r))) (sym l4) ∙ drop-append-seam (((p ++ a) ++ d) ++ m) (o ++ r) in
+    let l5 : length ((((p ++ a) ++ d) ++ m) ++ o) ≡ 124 = length-append (((p ++ a) ++ d) ++ m) o ∙ omega arith in
+    let behind : drop 64 b ≡ o ++ s = ap (drop 64) e4 ∙ ap (λ j. drop j ((((p ++ a) ++ d) ++ m) ++ (o ++ s))) (sym l4) ∙ drop-append-seam (((p ++ a) ++ d) ++ m) (o ++ s) in
+    let last : drop 124 b ≡ q ++ r = ap (drop 124) e5 ∙ ap (λ j. drop j (((((p ++ a) ++ d) ++ m) ++ o) ++ s)) (sym l5) ∙ drop-append-seam ((((p ++ a) ++ d) ++ m) ++ o) s in
     let kp = part-back b [] p _ 0 20 e0 refl lp in
     let ka = part-back b p a _ 20 20 e1 lp la in
     let kd = part-back b (p ++ a) d _ 40 20 e2 l2 ld in
     let km = part-back b ((p ++ a) ++ d) m _ 60 4 e3 l3 lm in
-    let ko = part-back (drop 64 b) [] o r 0 60 behind refl lo in
-    λ i. record { program = kp i; agency = ka i; date = kd i; mapping = km i; observables = ko i }
+    let ko = part-back (drop 64 b) [] o s 0 60 behind refl lo in
+    let kq : take 1200 (drop 124 b) ≡ q = ap (take 1200) last ∙ ap (λ j. take j (q ++ r)) (sym lq) ∙ take-append-seam q r in
+    λ i. record { program = kp i; agency = ka i; date = kd i; mapping = km i; observables = ko i; descriptions = kq i }

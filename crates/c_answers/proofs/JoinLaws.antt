@@ -10,7 +10,7 @@ use lib.ListN.{length}
 use Rattle.kit.specs.Answer.{Answer, ok, refused, bind, pick}
 use Rattle.kit.specs.Lists.{front}
 use Rattle.mapset.specs.declared.Header.{Header}
-use Rattle.mapset.specs.declared.Texts.{Texts}
+use Rattle.mapset.specs.Described.{FullTexts}
 use Rattle.mapset.specs.MapSet.{MapSet}
 use Rattle.mapset.specs.Areas.{Areas}
 use Rattle.areas.specs.Flat.{areas}
@@ -66,7 +66,7 @@ module _ (x y : Lent) (l : Areas) where
       subst (λ (h : Header). (h .times .first < 9223372036854775808) × (h .times .last < 9223372036854775808)) (roomy (joined (meaning x) (meaning y)) l _ e)
       (in-years (joined (meaning x) (meaning y)) (joined-formed (meaning x) (meaning y) (j .join)))
 
-  pub small-epochs : (r : Joining) (t : Texts) (l′ : Areas) → comes r t l′ ≡ came (join-into x y l) l → Small r
+  pub small-epochs : (r : Joining) (t : FullTexts) (l′ : Areas) → comes r t l′ ≡ came (join-into x y l) l → Small r
   unfolding join-into
   small-epochs (Done h) t l′ e = years (lent-join x y) (lent-exactly x y) (sym (ap (λ o. o .told) e))
   small-epochs (Refused w) t l′ e = tt

@@ -8,12 +8,12 @@ use Rattle.kit.proofs.AnswerLaws.{pick-yes, pick-no}
 use Rattle.c_answers.specs.Own.{too-short, unless}
 
 pub record Fit (h x r n : ℕ) : Type 0 where
-  pub header : 44 ≤ h
-  pub texts : 124 ≤ x
+  pub header : 45 ≤ h
+  pub texts : 1324 ≤ x
   pub result : n ≤ r
 
 module _ (h x r n : ℕ) where
-  all-fit : (a : Dec (44 ≤ h)) (b : Dec (124 ≤ x)) (c : Dec (n ≤ r)) → _≡_ {A = ℕ} (pick a (pick b (pick c 0 103) 102) 101) 0 → Fit h x r n
+  all-fit : (a : Dec (45 ≤ h)) (b : Dec (1324 ≤ x)) (c : Dec (n ≤ r)) → _≡_ {A = ℕ} (pick a (pick b (pick c 0 103) 102) 101) 0 → Fit h x r n
   unfolding pick
   all-fit (yes p) (yes q) (yes s) e = record { header = p; texts = q; result = s }
   all-fit (yes p) (yes q) (no s) e = absurd (omega (arith, e))
@@ -26,7 +26,7 @@ module _ (h x r n : ℕ) where
 
   pub fit : {k : ℕ} → k ≡ too-short h x r n → k < 1 → Fit h x r n
   unfolding too-short
-  fit e p = all-fit (decLe 44 h) (decLe 124 x) (decLe n r) (none e p)
+  fit e p = all-fit (decLe 45 h) (decLe 1324 x) (decLe n r) (none e p)
 
 module _ {A : Type 0} {k : ℕ} (a : A) (f : ℕ → A) where
   pub unless-none : k ≡ 0 → unless k a f ≡ a

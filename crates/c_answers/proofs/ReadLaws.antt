@@ -8,7 +8,7 @@ use lib.ListN.{length}
 use Rattle.kit.specs.Answer.{Answer, ok, refused}
 use mathlib.Core.Option.{Option, none, some}
 use Rattle.mapset.specs.declared.Header.{Header}
-use Rattle.mapset.specs.declared.Texts.{Texts}
+use Rattle.mapset.specs.Described.{FullTexts}
 use Rattle.mapset.specs.Header.{Stand, stand-some, contents, says, a-epoch}
 use Rattle.mapset.specs.MapSet.{MapSet}
 use Rattle.mapset.specs.Areas.{Areas}
@@ -18,7 +18,7 @@ use Rattle.reading.proofs.Exact.{made-read}
 use Rattle.areas.specs.Formed.{Formed}
 use Rattle.kit.specs.Lists.{front}
 use Rattle.areas.proofs.Made.{made-formed}
-use Rattle.read_outcome.specs.Outcome.{accepted, with-room, outcome-of, outcome, told, told-reason, comes, told-number, told-place}
+use Rattle.read_outcome.specs.Outcome.{accepted, with-room, outcome-of, outcome, told, told-reason, texts-in, comes, told-number, told-place}
 use Rattle.c_answers.specs.Own.{too-short}
 use Rattle.c_answers.proofs.OwnLaws.{unless-none, unless-short}
 use Rattle.c_answers.specs.ReadExported.{told-header, told-texts, Small, crossed, crosses, read-crossed}
@@ -74,7 +74,7 @@ module _ (t : List ℕ) (l : Areas) (h : List ℤ) (x p : List ℕ) where
     is-crossed = ap (λ o. crosses o h x p) e ∙ sym (unless-none _ (λ k. crossed k l h x p) n)
 
     pub cross-answer : {k : ℕ} {h′ : List ℤ} {x′ p′ : List ℕ} → k ≡ told-number (told (r .answer)) → h′ ≡ front (told-header (told (r .answer))) h
-        → x′ ≡ front (told-texts (told (r .answer)) (r .texts)) x → p′ ≡ front (told-place (told (r .answer))) p → crossed k l′ h′ x′ p′ ≡ read-crossed t l h x p
+        → x′ ≡ front (told-texts (told (r .answer)) (texts-in r)) x → p′ ≡ front (told-place (told (r .answer))) p → crossed k l′ h′ x′ p′ ≡ read-crossed t l h x p
     unfolding crosses
     cross-answer n a b c = (λ i. crossed (n i) l′ (a i) (b i) (c i)) ∙ is-crossed
 
@@ -93,7 +93,7 @@ no-header (Missing a b) h = refl
 no-header (EndsEarly a b) h = refl
 no-header (AreaTooShort a b) h = refl
 
-pub no-texts : (w : Reason) (x : Texts) (t : List ℕ) → t ≡ front (told-texts (told-reason w) x) t
+pub no-texts : (w : Reason) (x : FullTexts) (t : List ℕ) → t ≡ front (told-texts (told-reason w) x) t
 no-texts (LongLine a b) x t = refl
 no-texts (BadByte a b) x t = refl
 no-texts (NotIonex a b) x t = refl

@@ -5,7 +5,7 @@ use lib.IntN.{ℤ}
 use lib.ListN.{length}
 use Rattle.kit.specs.Answer.{Answer, ok, refused}
 use Rattle.kit.specs.Lists.{front}
-use Rattle.mapset.specs.declared.Texts.{Texts}
+use Rattle.mapset.specs.Described.{FullTexts}
 use Rattle.mapset.specs.Areas.{Areas}
 use Rattle.join.specs.Into.{Lent, lent-of, Why, because, short, join-into}
 use Rattle.join_areas.specs.Joined.{told-why, Outcome, came}
@@ -61,7 +61,7 @@ abbrev pub answer-header : Joining → List ℤ
 answer-header (Done h) = numbers h
 answer-header (Refused w) = []
 
-abbrev pub answer-texts : Joining → Texts → List ℕ
+abbrev pub answer-texts : Joining → FullTexts → List ℕ
 answer-texts (Done h) t = text-bytes t
 answer-texts (Refused w) t = []
 

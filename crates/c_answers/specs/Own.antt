@@ -6,7 +6,7 @@ use Rattle.kit.specs.Answer.{pick}
 
 -- of the lengths of header, texts and result: 101, 102 or 103 for the first that is too short, 0 where none is; the result has n elements
 unfoldable pub too-short : ℕ → ℕ → ℕ → ℕ → ℕ
-too-short h x r n = pick (decLe 44 h) (pick (decLe 124 x) (pick (decLe n r) 0 103) 102) 101
+too-short h x r n = pick (decLe 45 h) (pick (decLe 1324 x) (pick (decLe n r) 0 103) 102) 101
 
 -- of a call with three headers, or three of texts, the shortest counts
 unfoldable pub lesser : ℕ → ℕ → ℕ

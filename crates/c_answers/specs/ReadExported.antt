@@ -3,7 +3,7 @@ use mathlib.Core.List.{List, []}
 use Prim.Native.Nat.{ℕ, _<_}
 use lib.IntN.{ℤ}
 use lib.ListN.{length}
-use Rattle.mapset.specs.declared.Texts.{Texts}
+use Rattle.mapset.specs.Described.{FullTexts}
 use Rattle.mapset.specs.Areas.{Areas}
 use Rattle.kit.specs.Lists.{front}
 use Rattle.read_outcome.specs.Outcome.{Told, accepted, at-place, eleven, Outcome, outcome, told-number, told-place}
@@ -18,7 +18,7 @@ told-header (accepted h) = numbers h
 told-header (at-place k l c) = []
 told-header (eleven a n) = []
 
-abbrev pub told-texts : Told → Texts → List ℕ
+abbrev pub told-texts : Told → FullTexts → List ℕ
 told-texts (accepted h) x = text-bytes x
 told-texts (at-place k l c) x = []
 told-texts (eleven a n) x = []

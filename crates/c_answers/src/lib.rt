@@ -1,10 +1,11 @@
 // An answer as it crosses to other languages: its number, and what it brings in areas of the call's own.
+ghost use Rattle.mapset.specs.Described.{full};
 ghost use mathlib.Core.Path.{_≡_};
 ghost use mathlib.Core.List.{[], _∷_};
 ghost use Prim.Native.Nat.{_≤_};
 ghost use lib.ListN.{length};
 ghost use Rattle.kit.specs.Lists.{front};
-ghost use Rattle.read_outcome.specs.Outcome.{told-number as read-number, told-place, told as told-read, told-reason};
+ghost use Rattle.read_outcome.specs.Outcome.{told-number as read-number, told-place, told as told-read, told-reason, texts-in};
 ghost use Rattle.write_text.specs.Write.{done, told as told-written};
 ghost use Rattle.ask.specs.Ask.{told as told-asked, number, tecu};
 ghost use Rattle.delay.specs.Delay.{told as told-delay};
@@ -42,10 +43,10 @@ use write_text::Written;
 pub fn too_short(header: usize, texts: usize, result: usize, elements: usize) -> u64
     ensures { λ r. ⌜ r ≡ too-short header texts result elements ⌝ }
 {
-    if header < 44 {
+    if header < 45 {
         return 101;
     }
-    if texts < 124 {
+    if texts < 1324 {
         return 102;
     }
     if result < elements {
@@ -84,18 +85,20 @@ fn put_refusal(reason: Reason, place: &mut [u64]) -> u64
 
 // A reading crosses: its number; the header record and its texts, or the place.
 pub fn put_reading(r: ReadOut, header: &mut [i64], texts: &mut [u8], place: &mut [u64]) -> u64
-    requires { ⌜ (44 ≤ length (now header)) × ((124 ≤ length (now texts)) × ((2 ≤ length (now place)) × Small (r .answer))) ⌝ }
+    requires { ⌜ (45 ≤ length (now header)) × ((1324 ≤ length (now texts)) × ((2 ≤ length (now place)) × Small (r .answer))) ⌝ }
     ensures { λ n. ⌜ (n ≡ read-number (told-read (r .answer)))
         × ((now (header .exit) ≡ front (told-header (told-read (r .answer))) (now (header .entry)))
-        × ((now (texts .exit) ≡ front (told-texts (told-read (r .answer)) (r .texts)) (now (texts .entry)))
+        × ((now (texts .exit) ≡ front (told-texts (told-read (r .answer)) (texts-in r)) (now (texts .entry)))
         × (now (place .exit) ≡ front (told-place (told-read (r .answer))) (now (place .entry))))) ⌝ }
 {
     let answer = r.answer;
     let x = r.texts;
+    let d = r.descriptions;
+    let lines = d.bytes;
     match answer {
         Reading::Accepted(h) => {
             c_header::put_header(header, h);
-            c_header::put_texts(texts, x);
+            c_header::put_texts(texts, x, &lines);
             0
         }
         Reading::Refused(reason) => put_refusal(reason, place),
@@ -274,20 +277,21 @@ fn put_why(why: Refusal, place: &mut [u64]) -> u64
 pub fn put_joined(
     r: Joining,
     x: Texts,
+    descriptions: &[u8],
     header: &mut [i64],
     texts: &mut [u8],
     place: &mut [u64],
 ) -> u64
-    requires { ⌜ (44 ≤ length (now header)) × ((124 ≤ length (now texts)) × ((2 ≤ length (now place)) × SmallJoined r)) ⌝ }
+    requires { ⌜ (45 ≤ length (now header)) × ((1324 ≤ length (now texts)) × ((2 ≤ length (now place)) × ((length (now descriptions) ≡ 1200) × SmallJoined r))) ⌝ }
     ensures { λ n. ⌜ (n ≡ answer-number r)
         × ((now (header .exit) ≡ front (answer-header r) (now (header .entry)))
-        × ((now (texts .exit) ≡ front (answer-texts r x) (now (texts .entry)))
+        × ((now (texts .exit) ≡ front (answer-texts r (full x (now (descriptions .entry)))) (now (texts .entry)))
         × (now (place .exit) ≡ front (answer-place r) (now (place .entry))))) ⌝ }
 {
     match r {
         Joining::Done(h) => {
             c_header::put_header(header, h);
-            c_header::put_texts(texts, x);
+            c_header::put_texts(texts, x, descriptions);
             0
         }
         Joining::Refused(why) => put_why(why, place),

@@ -5,7 +5,7 @@ use mathlib.Core.List.{List}
 use Prim.Native.Nat.{ℕ, _+_}
 use lib.Dec.{ltb}
 use lib.IntN.{ℤ, pos, negsuc, natAbs}
-use lib.ListN.{getD, drop}
+use lib.ListN.{getD, take, drop}
 use lib.Signed.{ltZ}
 use Rattle.forms.specs.Columns.{columns}
 use Rattle.mapset.specs.declared.Version.{Version}
@@ -18,6 +18,7 @@ use Rattle.mapset.specs.declared.System.{System}
 use Rattle.mapset.specs.declared.Systems.{Systems}
 use Rattle.mapset.specs.declared.Header.{Header}
 use Rattle.mapset.specs.declared.Texts.{Texts}
+use Rattle.mapset.specs.Described.{FullTexts, full}
 
 abbrev pub bounded : ℕ → ℤ → ℕ
 bounded high z = cond (ltZ z (pos 0)) high (cond (ltb high (natAbs z)) high (natAbs z))
@@ -84,8 +85,13 @@ header-of l =
       stations = counted-at l 19;
       satellites = counted-at l 21;
       systems = systems-of l;
+      descriptions = count-at l 44;
     }
 
-unfoldable pub texts-of : List ℕ → Texts
-texts-of b =
+unfoldable pub five-of : List ℕ → Texts
+five-of b =
     record { program = columns b 0 20; agency = columns b 20 20; date = columns b 40 20; mapping = columns b 60 4; observables = columns (drop 64 b) 0 60 }
+
+-- and the bytes of the description, where they stand
+abbrev pub texts-of : List ℕ → FullTexts
+texts-of b = full (five-of b) (take 1200 (drop 124 b))

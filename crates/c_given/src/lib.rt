@@ -2,7 +2,7 @@
 ghost use mathlib.Core.Path.{_≡_};
 ghost use Prim.Native.Nat.{_+_, _≤_};
 ghost use lib.ListN.{length};
-ghost use Rattle.c_given.specs.Given.{bounded, axis-number, stands-of, nth, count-at, version-of, times-of, model-of, axis-at, grid-of, counted-at, system-at, systems-of, header-of, texts-of};
+ghost use Rattle.c_given.specs.Given.{bounded, axis-number, stands-of, nth, count-at, version-of, times-of, model-of, axis-at, grid-of, counted-at, system-at, systems-of, header-of, five-of};
 use mapset::Axis;
 use mapset::Counted;
 use mapset::Grid;
@@ -13,6 +13,11 @@ use mapset::Systems;
 use mapset::Texts;
 use mapset::Times;
 use mapset::Version;
+
+// Where the lines of the description stand in the texts: from here up to, not including, the end.
+pub const LINES: usize = 124;
+
+pub const END: usize = 1324;
 
 // A number that is not held becomes the largest that is, which no rule accepts.
 pub fn held(x: i64, high: u64) -> u64
@@ -71,7 +76,7 @@ fn kind_at(n: &[i64], i: usize) -> u8
 }
 
 fn version_in(n: &[i64]) -> Version
-    requires { ⌜ 44 ≤ length (now n) ⌝ }
+    requires { ⌜ 45 ≤ length (now n) ⌝ }
     ensures { λ r. ⌜ r ≡ version-of (now (n .entry)) ⌝ }
 {
     Version {
@@ -82,7 +87,7 @@ fn version_in(n: &[i64]) -> Version
 }
 
 fn times_in(n: &[i64]) -> Times
-    requires { ⌜ 44 ≤ length (now n) ⌝ }
+    requires { ⌜ 45 ≤ length (now n) ⌝ }
     ensures { λ r. ⌜ r ≡ times-of (now (n .entry)) ⌝ }
 {
     Times {
@@ -94,7 +99,7 @@ fn times_in(n: &[i64]) -> Times
 }
 
 fn model_in(n: &[i64]) -> Model
-    requires { ⌜ 44 ≤ length (now n) ⌝ }
+    requires { ⌜ 45 ≤ length (now n) ⌝ }
     ensures { λ r. ⌜ r ≡ model-of (now (n .entry)) ⌝ }
 {
     Model {
@@ -116,7 +121,7 @@ fn axis_in(n: &[i64], i: usize) -> Axis
 }
 
 fn grid_in(n: &[i64]) -> Grid
-    requires { ⌜ 44 ≤ length (now n) ⌝ }
+    requires { ⌜ 45 ≤ length (now n) ⌝ }
     ensures { λ r. ⌜ r ≡ grid-of (now (n .entry)) ⌝ }
 {
     Grid {
@@ -148,7 +153,7 @@ fn system_in(n: &[i64], i: usize) -> System
 }
 
 fn systems_in(n: &[i64]) -> Systems
-    requires { ⌜ 44 ≤ length (now n) ⌝ }
+    requires { ⌜ 45 ≤ length (now n) ⌝ }
     ensures { λ r. ⌜ r ≡ systems-of (now (n .entry)) ⌝ }
 {
     Systems {
@@ -163,7 +168,7 @@ fn systems_in(n: &[i64]) -> Systems
 }
 
 pub fn header_in(n: &[i64]) -> Header
-    requires { ⌜ 44 ≤ length (now n) ⌝ }
+    requires { ⌜ 45 ≤ length (now n) ⌝ }
     ensures { λ r. ⌜ r ≡ header-of (now (n .entry)) ⌝ }
 {
     Header {
@@ -174,12 +179,14 @@ pub fn header_in(n: &[i64]) -> Header
         stations: counted_in(n, 19),
         satellites: counted_in(n, 21),
         systems: systems_in(n),
+        descriptions: count_at(n, 44),
     }
 }
 
+// The texts but the description, which a caller lends where it stands.
 pub fn texts_in(b: &[u8]) -> Texts
-    requires { ⌜ 124 ≤ length (now b) ⌝ }
-    ensures { λ r. ⌜ r ≡ texts-of (now (b .entry)) ⌝ }
+    requires { ⌜ 1324 ≤ length (now b) ⌝ }
+    ensures { λ r. ⌜ r ≡ five-of (now (b .entry)) ⌝ }
 {
     let program = fields::text20(b, 0);
     let agency = fields::text20(b, 20);

@@ -1,4 +1,4 @@
--- The header record as 44 numbers, and its texts as 124 bytes: the form in which they cross to other languages.
+-- The header record as 45 numbers, and its texts as 1,324 bytes: the form in which they cross to other languages.
 use mathlib.Core.Bool.{Bool, cond}
 use mathlib.Core.List.{List, [], _∷_, _++_}
 use Prim.Native.Nat.{ℕ}
@@ -12,6 +12,7 @@ use Rattle.mapset.specs.declared.Counted.{Counted}
 use Rattle.mapset.specs.declared.System.{System}
 use Rattle.mapset.specs.declared.Header.{Header}
 use Rattle.mapset.specs.declared.Texts.{Texts}
+use Rattle.mapset.specs.Described.{FullTexts}
 
 abbrev pub flag : Bool → ℤ
 flag b = cond b (pos 1) (pos 0)
@@ -52,8 +53,12 @@ starred-numbers h =
     ++ (system-numbers (h .systems .j) ++ (system-numbers (h .systems .i) ++ system-numbers (h .systems .s))))))))
 
 abbrev pub numbers : Header → List ℤ
-numbers h = first-numbers h ++ (grid-numbers (h .grid) ++ starred-numbers h)
+numbers h = first-numbers h ++ (grid-numbers (h .grid) ++ (starred-numbers h ++ (pos (h .descriptions) ∷ [])))
 
 -- program, agency, date, mapping function, observables
-abbrev pub text-bytes : Texts → List ℕ
-text-bytes x = x .program ++ (x .agency ++ (x .date ++ (x .mapping ++ x .observables)))
+abbrev pub five-bytes : Texts → List ℕ
+five-bytes x = x .program ++ (x .agency ++ (x .date ++ (x .mapping ++ x .observables)))
+
+-- and the lines of the description
+abbrev pub text-bytes : FullTexts → List ℕ
+text-bytes x = x .program ++ (x .agency ++ (x .date ++ (x .mapping ++ (x .observables ++ x .descriptions))))

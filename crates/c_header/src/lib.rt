@@ -1,4 +1,5 @@
 // The header record as numbers, and its texts as bytes, in the areas of a caller in another language.
+ghost use Rattle.mapset.specs.Described.{full};
 ghost use mathlib.Core.Path.{_≡_};
 ghost use mathlib.Core.List.{[], _∷_};
 ghost use Prim.Native.Nat.{_+_, _≤_, _<_};
@@ -6,7 +7,7 @@ ghost use lib.ListN.{length};
 ghost use lib.IntN.{pos};
 ghost use lib.Seq.{sets};
 ghost use Rattle.kit.specs.Lists.{front};
-ghost use Rattle.c_header.specs.Numbers.{flag, axis-numbers, counted-numbers, system-numbers, first-numbers, grid-numbers, starred-numbers, numbers, text-bytes};
+ghost use Rattle.c_header.specs.Numbers.{flag, axis-numbers, counted-numbers, system-numbers, first-numbers, grid-numbers, starred-numbers, numbers, five-bytes, text-bytes};
 use mapset::Axis;
 use mapset::Counted;
 use mapset::Grid;
@@ -29,6 +30,13 @@ fn put_two(out: &mut [i64], at: usize, a: i64, b: i64)
 {
     out[at] = a;
     out[at + 1] = b;
+}
+
+fn put_one(out: &mut [i64], at: usize, a: i64)
+    requires { ⌜ at + 1 ≤ length (now out) ⌝ }
+    ensures { λ _. ⌜ now (out .exit) ≡ sets (now (out .entry)) at (a ∷ []) ⌝ }
+{
+    out[at] = a;
 }
 
 // Numbers as they cross: each is an i64.
@@ -143,12 +151,13 @@ pub fn put_pair(out: &mut [u64], first: u64, second: u64)
 }
 
 pub fn put_header(out: &mut [i64], h: Header)
-    requires { ⌜ (44 ≤ length (now out)) × (h .times .first < 9223372036854775808) × (h .times .last < 9223372036854775808) ⌝ }
+    requires { ⌜ (45 ≤ length (now out)) × (h .times .first < 9223372036854775808) × (h .times .last < 9223372036854775808) ⌝ }
     ensures { λ _. ⌜ now (out .exit) ≡ front (numbers h) (now (out .entry)) ⌝ }
 {
     put_first(out, h);
     put_grid(out, h.grid);
     put_starred(out, h);
+    put_one(out, 44, whole(h.descriptions));
 }
 
 pub fn copy_at(from: &[u8], out: &mut [u8], at: usize)
@@ -162,9 +171,10 @@ pub fn copy_at(from: &[u8], out: &mut [u8], at: usize)
     }
 }
 
-pub fn put_texts(out: &mut [u8], x: Texts)
+// PGM / RUN BY / DATE, MAPPING FUNCTION, OBSERVABLES USED.
+fn put_five(out: &mut [u8], x: Texts)
     requires { ⌜ 124 ≤ length (now out) ⌝ }
-    ensures { λ _. ⌜ now (out .exit) ≡ front (text-bytes x) (now (out .entry)) ⌝ }
+    ensures { λ _. ⌜ now (out .exit) ≡ front (five-bytes x) (now (out .entry)) ⌝ }
 {
     let program = x.program;
     let agency = x.agency;
@@ -176,4 +186,13 @@ pub fn put_texts(out: &mut [u8], x: Texts)
     copy_at(&date, out, 40);
     copy_at(&mapping, out, 60);
     copy_at(&observables, out, 64);
+}
+
+// The texts, and behind them the bytes of the description.
+pub fn put_texts(out: &mut [u8], x: Texts, descriptions: &[u8])
+    requires { ⌜ (1324 ≤ length (now out)) × (length (now descriptions) ≡ 1200) ⌝ }
+    ensures { λ _. ⌜ now (out .exit) ≡ front (text-bytes (full x (now (descriptions .entry)))) (now (out .entry)) ⌝ }
+{
+    put_five(out, x);
+    copy_at(descriptions, out, 124);
 }

@@ -14,7 +14,7 @@ use Rattle.reading.specs.Feed.{Why}
 use Rattle.reading.specs.Read.{read}
 use Rattle.reading.proofs.Exact.{made-read}
 use Rattle.areas.proofs.Made.{made-formed}
-use Rattle.read_outcome.specs.Outcome.{accepted, told, told-number, told-place}
+use Rattle.read_outcome.specs.Outcome.{accepted, told, told-number, told-place, texts-in}
 use Rattle.read_outcome.specs.declared.Reading.{Reading}
 use Rattle.read_outcome.specs.declared.Reading.the-variants.{Accepted, Refused}
 use Rattle.read_outcome.specs.declared.ReadOut.{ReadOut}
@@ -83,6 +83,6 @@ module _ (t : List ℕ) (l : Entries) (h : List ℤ) (x p : List ℕ) where
     is-crossed = ap (λ o. crosses o h x p) e ∙ sym (unless-none _ (λ k. all-crossed k l h x p) n)
 
     pub cross-answer : {k : ℕ} {h′ : List ℤ} {x′ p′ : List ℕ} → k ≡ told-number (told (r .answer)) → h′ ≡ front (told-header (told (r .answer))) h
-        → x′ ≡ front (told-texts (told (r .answer)) (r .texts)) x → p′ ≡ front (told-place (told (r .answer))) p → all-crossed k l′ h′ x′ p′ ≡ index-crossed t l h x p
+        → x′ ≡ front (told-texts (told (r .answer)) (texts-in r)) x → p′ ≡ front (told-place (told (r .answer))) p → all-crossed k l′ h′ x′ p′ ≡ index-crossed t l h x p
     unfolding crosses
     cross-answer n a b c = (λ i. all-crossed (n i) l′ (a i) (b i) (c i)) ∙ is-crossed

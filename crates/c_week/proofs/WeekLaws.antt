@@ -42,8 +42,8 @@ module _ (h x w p : ℕ) where
   short-then e a f = f ∙ sym (unless-none (too-short h x p 2) (λ k. k) (omega (arith, sym e, a)))
 
   pub record Fits : Type 0 where
-    pub header : 44 ≤ h
-    pub texts : 124 ≤ x
+    pub header : 45 ≤ h
+    pub texts : 1324 ≤ x
     pub week : 16 ≤ w
     pub place : 2 ≤ p
 

@@ -5,7 +5,7 @@ use mathlib.Core.List.{List}
 use Prim.Native.Nat.{ℕ}
 use Rattle.kit.specs.Answer.{ok}
 use Rattle.mapset.specs.declared.Header.{Header}
-use Rattle.mapset.specs.declared.Texts.{Texts}
+use Rattle.mapset.specs.Described.{FullTexts}
 use Rattle.mapset.specs.Areas.{Areas}
 use Rattle.mapset.specs.MapSet.{MapSet}
 use Rattle.reading.specs.Read.{read}
@@ -20,13 +20,13 @@ use Rattle.canonical.specs.CanonOf.{canon-of}
 use Rattle.canonical.specs.Meaning.{Means, Back}
 
 -- valid exactly when some text means it: so 31 is 'no accepted text has this map set as its meaning'
-pub valid-exactly : (h : Header) (t : Texts) (a : Areas) → (Valid h t a) ↔ ((x : List ℕ) × Means h t a x)
+pub valid-exactly : (h : Header) (t : FullTexts) (a : Areas) → (Valid h t a) ↔ ((x : List ℕ) × Means h t a x)
 valid-exactly h t a = (
   λ v. let (m, f, p, q, r) = valid-formed h t a .0 v in (canon m, record { set = m; makes = canon-made m f; header = p; texts = q; lists = r }),
   λ x. valid-formed h t a .1 (x .1 .set, made-formed (x .1 .makes), x .1 .header, x .1 .texts, x .1 .lists),
 )
 
-pub round-trip : (h : Header) (t : Texts) (a : Areas) → Valid h t a → Back h t a
+pub round-trip : (h : Header) (t : FullTexts) (a : Areas) → Valid h t a → Back h t a
 unfolding canon-of
 round-trip h t a v = record { set = nested h t a; reads = canon-read (nested h t a) (nested-formed h t a v); header = refl; texts = refl; lists = nested-areas h t a v }
 

@@ -6,7 +6,7 @@ use Prim.Native.Nat.{ℕ, zero, suc, _≤_, _<_}
 use native.Mathlib.Omega.{arith}
 use native.Mathlib.Decide.{decLe, decLt}
 use lib.IntN.{pos, negsuc}
-use lib.ListN.{length, getD, replicate}
+use lib.ListN.{length, getD, set, replicate}
 use Rattle.kit.specs.Answer.{ok, All, ×-dec, all-dec}
 use Rattle.kit.proofs.ListLaws.{all-append, all-at}
 use Rattle.kit.proofs.TruthLaws.{decided}
@@ -16,7 +16,9 @@ use Rattle.forms.specs.Show.{showField, FieldRoom}
 use Rattle.forms.proofs.ShowLaws.{show-spells, written-spells}
 use Rattle.calendar.specs.Calendar.{end as after-2199}
 use Rattle.mapset.specs.declared.Kind.the-variants.{Rms, Height}
-use Rattle.mapset.specs.Header.{count, epoch as an-epoch, axis, Said, number, along, a-count, a-epoch, a-axis, VersionRules, says}
+use Rattle.mapset.specs.Header.{count, epoch as an-epoch, axis, Said, number, along, a-count, a-epoch, a-axis, VersionRules, Written, says}
+use Rattle.mapset.specs.Described.{line-width, lines-in}
+use Rattle.mapset.proofs.DescribedLaws.{ruled-lines}
 use Rattle.mapset.specs.SoundDecided.{takes-known}
 use Rattle.mapset.specs.declared.Axis.{Axis}
 use Rattle.mapset.specs.declared.Version.{Version}
@@ -24,7 +26,7 @@ use Rattle.mapset.specs.Grid.{Line, AxisRules}
 use Rattle.mapset.specs.MapSet.{TecMap, OtherMap, MapSet}
 use Rattle.layout.specs.Records.{Fields, f-end, f-tenths, f-blank, f-text, f-unread}
 use Rattle.layout.specs.Labels.{version, header-end, file-end, layout, bytes, name, codes, Rec, rec}
-use Rattle.layout.specs.Layout.{Force, one-more, one-tec, maps, w-end, w-file, plain, Heads, h-end, rows-of, Makes, makes}
+use Rattle.layout.specs.Layout.{Force, one-more, one-tec, maps, w-end, w-file, Slots, Lines, plain, Heads, h-end, rows-of, Makes, makes}
 use Rattle.layout.proofs.Laws.{code-length}
 use Rattle.reading.specs.Read.{read}
 use Rattle.reading.proofs.Exact.{read-made}
@@ -33,10 +35,10 @@ use Rattle.reading.proofs.RecordLaws.{known-heads, known-maps}
 use Rattle.reading.specs.Head.{Fit, fit, FitAll}
 use Rattle.areas.specs.Formed.{Formed}
 use Rattle.areas.proofs.ScanRows.{known-version}
-use Rattle.canonical.specs.Canon.{row-of, version-row, order, head-rows, other-rows, map-rows, canon-rows, canon, Axes}
+use Rattle.canonical.specs.Canon.{row-of, version-row, before-lines, order, head-rows, description-rows, header-rows, other-rows, map-rows, canon-rows, canon, Axes}
 use Rattle.canonical.proofs.RowLaws.{GoodRow, spells-print, rec-good, rec-length, name-print, row-is, row-good}
 use Rattle.canonical.proofs.TextLaws.{laid-out, ended-by-lf}
-use Rattle.canonical.proofs.HeadRows.{heads-put, says-fit}
+use Rattle.canonical.proofs.HeadRows.{clear, fit-clear, heads-put, lines-put, says-fit}
 use Rattle.canonical.proofs.MapRows.{Wrote, with-others, with-tecs, others-put, tecs-put}
 
 -- ---- the maps
@@ -149,12 +151,33 @@ module _ (m : MapSet) (f : Formed m) where
   none-left zero = tt
   none-left (suc n) = (refl, none-left n)
 
-  header-put : Heads m plain (negsuc 0) (says (m .header) (m .texts)) (head-rows order (says (m .header) (m .texts)) (row-of header-end tt ∷ map-rows m))
-      × All GoodRow (head-rows order (says (m .header) (m .texts)) (row-of header-end tt ∷ map-rows m))
+  abbrev said : Slots
+  said = says (m .header) (m .texts)
+
+  -- what is left behind PGM / RUN BY / DATE
+  abbrev later : Slots
+  later = set said 0 none
+
+  abbrev lines : Lines
+  lines = lines-in (m .header .descriptions) (m .texts .descriptions)
+
+  lines-good : All (Written line-width) lines
+  lines-good = ruled-lines (m .header .descriptions) (m .texts .descriptions) (f .header .descriptions)
+
+  end-put : Heads m plain (negsuc 0) (clear order later) [] (row-of header-end tt ∷ map-rows m) × All GoodRow (row-of header-end tt ∷ map-rows m)
+  end-put =
+      (h-end (row-is header-end tt tt) (none-left 22) (f .header .fillers) (f .header .dimension) (f .header .limits) (body .0), (row-good header-end tt (known-heads .3) tt, body .1))
+
+  rest-put : Heads m plain (negsuc 0) later [] (head-rows order later (row-of header-end tt ∷ map-rows m)) × All GoodRow (head-rows order later (row-of header-end tt ∷ map-rows m))
+  rest-put = heads-put m (negsuc 0) [] order later (row-of header-end tt ∷ map-rows m) in-order refl (fit-clear said 0 (omega arith) fits) (end-put .0) (end-put .1)
+
+  header-put : Heads m plain (negsuc 0) said lines (header-rows (m .header) (m .texts) (row-of header-end tt ∷ map-rows m))
+      × All GoodRow (header-rows (m .header) (m .texts) (row-of header-end tt ∷ map-rows m))
+  unfolding header-rows
   header-put =
-      heads-put m (negsuc 0) order (says (m .header) (m .texts)) (row-of header-end tt ∷ map-rows m) in-order refl fits
-      (h-end (row-is header-end tt tt) (none-left 22) (f .header .fillers) (f .header .dimension) (f .header .limits) (body .0))
-      (row-good header-end tt (known-heads .3) tt, body .1)
+      let behind = head-rows order later (row-of header-end tt ∷ map-rows m) in
+      let x = lines-put m (negsuc 0) later lines behind lines-good (rest-put .0) (rest-put .1) in
+      heads-put m (negsuc 0) lines before-lines said (description-rows lines ++ behind) (omega arith, tt) refl fits (x .0) (x .1)
 
   -- every row has 80 printable columns, one of them not blank
   pub rows-good : All GoodRow (canon-rows m)
@@ -168,7 +191,7 @@ module _ (m : MapSet) (f : Formed m) where
       let h = header-put in
       let v = f .header .version in
       let rs : List (List ℕ) = canon-rows m in
-      makes (rows-of v (version-is (m .header .version) v) (h .0)) (laid-out _ (version-good (m .header .version) v, h .1)) (ended-by-lf _)
+      makes (rows-of v (f .header .descriptions) (version-is (m .header .version) v) (h .0)) (laid-out _ (version-good (m .header .version) v, h .1)) (ended-by-lf _)
 
   -- and so is read as that map set again
   pub canon-read : read (canon m) ≡ ok m

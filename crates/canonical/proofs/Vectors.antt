@@ -8,7 +8,7 @@ use Prim.Native.String.{String}
 use native.Mathlib.Omega.{arith}
 use native.Mathlib.Decide.{ℕ-discrete, decLe, decLt}
 use lib.IntN.{ℤ, pos, negsuc}
-use lib.ListN.{take, drop}
+use lib.ListN.{take, drop, replicate}
 use Rattle.kit.specs.Answer.{ok, need, bind, amap, get, pick, ×-dec, ⊎-dec, ¬-dec, all-dec, same, sames}
 use Rattle.kit.specs.Integer.{int?, le?, lt?, between?}
 use Rattle.kit.specs.Range.{within?, natural?}
@@ -23,6 +23,7 @@ use Rattle.forms.specs.Show.{digits, aligned, showField}
 use Rattle.mapset.specs.Areas.{six}
 use Rattle.mapset.specs.Decisions.{×₃-dec, ×₄-dec, end?, step?, multiple?, together?, limits?, dimension?, follows?}
 use Rattle.mapset.specs.declared.System.{System}
+use Rattle.mapset.specs.Described.{lines-in, end-to-end, described}
 use Rattle.mapset.specs.MapSet.{Block, MapSet}
 use Rattle.layout.specs.Text.{pad}
 use Rattle.layout.specs.Labels.{epoch, head, bytes, name}
@@ -30,18 +31,19 @@ use Rattle.reading.specs.Feed.{on-line, front, opens?, split, feed}
 use Rattle.reading.specs.Fields.{lookup, label, number, blank, scan, fields, cells}
 use Rattle.reading.specs.Maps.{on-date, kind?, true?, after?, implies?, in-time?, height?, loose, on-comment, on-exponent, start-tec, start-other, start-map, on-start, end-map, on-end as on-map-end, epoch-tec, epoch-other, on-epoch, open-block, on-block, on-file, taken, step, finish, run, short}
 use Rattle.layout.specs.Layout.{exponent?}
-use Rattle.reading.specs.Head.{meant, place, none?, complete?, made, made-texts, once, on-system, on-end, at-head, head-step, heading}
+use Rattle.reading.specs.Head.{meant, place, none?, complete?, made, made-texts, once, on-description, on-system, on-end, at-head, head-step, heading}
 use Rattle.reading.specs.Read.{versioned, version-of, begin, read}
 use Rattle.reading.proofs.Vectors.{lines}
 use Rattle.areas.specs.Flat.{areas-of, areas}
-use Rattle.canonical.specs.Canon.{columns-of, row-of, version-row, date-of, six as date, slot-row, head-rows, cells-of, value-row, value-rows, block-rows, other-rows, tec-rows, map-rows, canon-rows, trimmed, lines-of, canon}
+use Rattle.canonical.specs.Canon.{columns-of, row-of, version-row, date-of, six as date, slot-row, head-rows, description-rows, header-rows, cells-of, value-row, value-rows, block-rows, other-rows, tec-rows, map-rows, canon-rows, trimmed, lines-of, canon}
 use Rattle.canonical.proofs.HeadRows.{date-is}
 
--- SYS out of order, an exponent in the header, a comment, an aux block; map 1 with a height map, map 2 with an RMS map
+-- SYS out of order, an exponent in the header, two descriptions, one of them blank, a comment, an aux block; map 1 with a height map, map 2 with an RMS map
 unfoldable pub full-text : List String
 full-text =
     "     1.1            I not looked at     MIX not looked at   IONEX VERSION / TYPE"
     ∷ "     S     0     1                                          SYS / #STA / #SAT"
+    ∷ "one shell, spherical harmonics of degree 15                 DESCRIPTION"
     ∷ "     5.0   0.0  -5.0                                        LAT1 / LAT2 / DLAT"
     ∷ "    -5.0   5.0   5.0                                        LON1 / LON2 / DLON"
     ∷ "   450.0 450.0   0.0                                        HGT1 / HGT2 / DHGT"
@@ -50,6 +52,7 @@ full-text =
     ∷ "  1995    10    15     0     0     0                        EPOCH OF FIRST MAP"
     ∷ "  1995    10    15     1     0     0                        EPOCH OF LAST MAP"
     ∷ "any words                                                   COMMENT"
+    ∷ "                                                            DESCRIPTION"
     ∷ "  3600                                                      INTERVAL"
     ∷ "     2                                                      # OF MAPS IN FILE"
     ∷ "  COSZ                                                      MAPPING FUNCTION"
@@ -121,6 +124,7 @@ full-set =
         stations = record { stands = true; count = 80 };
         satellites = record { stands = true; count = 32 };
         systems = record { g = a-system 80 24; r = a-system 51 7; e = no-system; c = no-system; j = no-system; i = no-system; s = a-system 0 1 };
+        descriptions = 2;
       };
       texts = record {
         program = bytes "maker               ";
@@ -128,6 +132,7 @@ full-set =
         date = bytes "15-nov-26 06:00     ";
         mapping = bytes "COSZ";
         observables = bytes "carrier phase                                               ";
+        descriptions = bytes "one shell, spherical harmonics of degree 15                 " ++ replicate 1140 32;
       };
       maps = record {
         tec =
@@ -140,7 +145,7 @@ full-set =
     }
 
 pub full-read : read (lines full-text) ≡ ok full-set
-unfolding full-text full-set read begin feed split front opens? pad pick ×-dec ⊎-dec ¬-dec all-dec same sames need bind amap get ℕ-discrete decLe decLt int? le? lt? between? within? natural? dated second isLeap monthDays yearDays sum readField numberOf formed? ×₃-dec ×₄-dec end? step? multiple? together? limits? dimension? follows? name on-line lookup label number blank scan fields cells on-date exponent? kind? true? after? implies? in-time? height? loose on-comment on-exponent start-tec start-other start-map on-start end-map on-map-end epoch-tec epoch-other on-epoch open-block on-block on-file taken step finish run short meant place none? complete? made made-texts once on-system on-end at-head head-step heading versioned version-of
+unfolding full-text full-set read begin feed split front opens? pad pick ×-dec ⊎-dec ¬-dec all-dec same sames need bind amap get ℕ-discrete decLe decLt int? le? lt? between? within? natural? dated second isLeap monthDays yearDays sum readField numberOf formed? ×₃-dec ×₄-dec end? step? multiple? together? limits? dimension? follows? name on-line lookup label number blank scan fields cells on-date exponent? kind? true? after? implies? in-time? height? loose on-comment on-exponent start-tec start-other start-map on-start end-map on-map-end epoch-tec epoch-other on-epoch open-block on-block on-file taken step finish run short meant place none? complete? made made-texts described end-to-end once on-description on-system on-end at-head head-step heading versioned version-of
 full-read = refl
 
 -- TEC, RMS and height values, the exponents of the three kinds, epochs, marks; an absent map reads as 9999 under -1
@@ -160,6 +165,8 @@ unfoldable pub full-canon : List String
 full-canon =
     "     1.1            IONOSPHERE MAPS     MIX                 IONEX VERSION / TYPE"
     ∷ "maker               agency              15-nov-26 06:00     PGM / RUN BY / DATE"
+    ∷ "one shell, spherical harmonics of degree 15                 DESCRIPTION"
+    ∷ "                                                            DESCRIPTION"
     ∷ "  1995    10    15     0     0     0                        EPOCH OF FIRST MAP"
     ∷ "  1995    10    15     1     0     0                        EPOCH OF LAST MAP"
     ∷ "  3600                                                      INTERVAL"
@@ -228,11 +235,11 @@ some-rows i k = map (λ l. pad (bytes l)) (take k (drop i full-canon))
 
 unfoldable full-rows : Epoch → Epoch → List (List ℕ)
 full-rows a b =
-    some-rows 0 2
-    ++ (row-of (head 1) (date a) ∷ row-of (head 2) (date b) ∷ (some-rows 4 17 ++ (row-of epoch (date a) ∷ (some-rows 22 7 ++ (row-of epoch (date b) ∷ some-rows 30 21)))))
+    some-rows 0 4
+    ++ (row-of (head 1) (date a) ∷ row-of (head 2) (date b) ∷ (some-rows 6 17 ++ (row-of epoch (date a) ∷ (some-rows 24 7 ++ (row-of epoch (date b) ∷ some-rows 32 21)))))
 
 as-rows : canon-rows full-set ≡ full-rows (date-of 3022704000) (date-of 3022707600)
-unfolding full-rows full-set full-canon canon-rows head-rows slot-row row-of columns-of version-row map-rows tec-rows other-rows block-rows value-rows value-row cells-of showField aligned digits name pad pick all-dec ×-dec ℕ-discrete decLe decLt int?
+unfolding full-rows full-set full-canon canon-rows header-rows description-rows lines-in head-rows slot-row row-of columns-of version-row map-rows tec-rows other-rows block-rows value-rows value-row cells-of showField aligned digits name pad pick all-dec ×-dec ℕ-discrete decLe decLt int?
 as-rows = refl
 
 as-lines : lines-of (full-rows (hour 0) (hour 1)) ≡ lines full-canon

@@ -16,11 +16,12 @@ use Rattle.mapset.specs.declared.Kind.the-variants.{Tec, Rms, Height}
 use Rattle.mapset.specs.declared.Version.{Version}
 use Rattle.mapset.specs.declared.Header.{Header}
 use Rattle.mapset.specs.Grid.{rows, heights, latitudes, longitudes, AxisRules}
+use Rattle.mapset.specs.Described.{lines-in, FullTexts}
 use Rattle.mapset.specs.Header.{Content, count, tenths, epoch as an-epoch, axis, program, mapping, observables, system as a-system, Said, says}
 use Rattle.mapset.specs.MapSet.{Block, TecMap, OtherMap, MapSet}
 use Rattle.layout.specs.Records.{Item, I, F, D, X, A, U, Vals}
-use Rattle.layout.specs.Labels.{Label, version, exponent, header-end, epoch, block, file-end, head, system, start, end, bytes, name, items, content, layout, codes, letters}
-use Rattle.layout.specs.Layout.{Date, Slots, systems, node}
+use Rattle.layout.specs.Labels.{Label, version, description, exponent, header-end, epoch, block, file-end, head, system, start, end, bytes, name, items, content, layout, codes, letters}
+use Rattle.layout.specs.Layout.{Date, Slots, Lines, systems, node}
 use Rattle.mapset.specs.Said.{number-in, axis-in, words-in, system-in}
 
 -- ---- rows
@@ -53,7 +54,7 @@ date-of t = pick (decLt t after-2199) (date-at t) no-date
 abbrev pub six : Epoch → Date
 six e = (pos (e .year), (pos (e .month), (pos (e .day), (pos (e .hour), (pos (e .minute), (pos (e .second), tt))))))
 
--- ---- the header, in the table's order, SYS in the order of its letters
+-- ---- the header, in the table's order, SYS in the order of its letters, DESCRIPTION right behind PGM / RUN BY / DATE
 
 -- the values of a header record that says s
 abbrev pub shown : (k : Content) → Said → Vals (items k)
@@ -77,12 +78,25 @@ abbrev pub slot-rows : ℕ → Option Said → List (List ℕ)
 slot-rows i none = []
 slot-rows i (some s) = slot-row i s ∷ []
 
+-- PGM / RUN BY / DATE, and what stands behind the DESCRIPTION lines
+abbrev pub before-lines : List ℕ
+before-lines = 0 ∷ []
+
 abbrev pub order : List ℕ
-order = 0 ∷ 1 ∷ 2 ∷ 3 ∷ 4 ∷ 5 ∷ 6 ∷ 7 ∷ 8 ∷ 9 ∷ 15 ∷ 16 ∷ 17 ∷ 18 ∷ 19 ∷ 20 ∷ 21 ∷ 10 ∷ 11 ∷ 12 ∷ 13 ∷ 14 ∷ []
+order = 1 ∷ 2 ∷ 3 ∷ 4 ∷ 5 ∷ 6 ∷ 7 ∷ 8 ∷ 9 ∷ 15 ∷ 16 ∷ 17 ∷ 18 ∷ 19 ∷ 20 ∷ 21 ∷ 10 ∷ 11 ∷ 12 ∷ 13 ∷ 14 ∷ []
 
 unfoldable pub head-rows : List ℕ → Slots → List (List ℕ) → List (List ℕ)
 head-rows [] left rest = rest
 head-rows (i ∷ is) left rest = slot-rows i (getD left i none) ++ head-rows is (set left i none) rest
+
+unfoldable pub description-rows : Lines → List (List ℕ)
+description-rows [] = []
+description-rows (d ∷ ds) = row-of description (d, tt) ∷ description-rows ds
+
+unfoldable pub header-rows : Header → FullTexts → List (List ℕ) → List (List ℕ)
+header-rows h t rest =
+    head-rows before-lines (says h t)
+    (description-rows (lines-in (h .descriptions) (t .descriptions)) ++ head-rows order (set (says h t) 0 none) rest)
 
 -- ---- the maps
 
@@ -148,7 +162,7 @@ map-rows m =
 -- ---- the text
 
 unfoldable pub canon-rows : MapSet → List (List ℕ)
-canon-rows m = version-row (m .header .version) ∷ head-rows order (says (m .header) (m .texts)) (row-of header-end tt ∷ map-rows m)
+canon-rows m = version-row (m .header .version) ∷ header-rows (m .header) (m .texts) (row-of header-end tt ∷ map-rows m)
 
 -- a line ends at its last non-blank byte
 unfoldable pub trimmed : List ℕ → List ℕ

@@ -2,11 +2,11 @@
 use mathlib.Core.List.{List}
 use Prim.Native.Nat.{ℕ}
 use Rattle.mapset.specs.declared.Header.{Header}
-use Rattle.mapset.specs.declared.Texts.{Texts}
+use Rattle.mapset.specs.Described.{FullTexts}
 use Rattle.mapset.specs.Areas.{Areas}
 use Rattle.areas.specs.Nesting.{nested}
 use Rattle.canonical.specs.Canon.{canon}
 
 -- the canonical text of what is lent
-unfoldable pub canon-of : Header → Texts → Areas → List ℕ
+unfoldable pub canon-of : Header → FullTexts → Areas → List ℕ
 canon-of h t a = canon (nested h t a)

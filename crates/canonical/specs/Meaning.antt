@@ -4,7 +4,7 @@ use mathlib.Core.List.{List}
 use Prim.Native.Nat.{ℕ}
 use Rattle.kit.specs.Answer.{ok}
 use Rattle.mapset.specs.declared.Header.{Header}
-use Rattle.mapset.specs.declared.Texts.{Texts}
+use Rattle.mapset.specs.Described.{FullTexts}
 use Rattle.mapset.specs.Areas.{Areas}
 use Rattle.mapset.specs.MapSet.{MapSet}
 use Rattle.layout.specs.Layout.{Makes}
@@ -14,7 +14,7 @@ use Rattle.areas.specs.Valid.{needed}
 use Rattle.canonical.specs.CanonOf.{canon-of}
 
 -- a text x has this header, these texts and these areas (up to each need) as its meaning
-pub record Means (h : Header) (t : Texts) (a : Areas) (x : List ℕ) : Type 0 where
+pub record Means (h : Header) (t : FullTexts) (a : Areas) (x : List ℕ) : Type 0 where
   pub set : MapSet
   pub makes : Makes set x
   pub header : set .header ≡ h
@@ -22,7 +22,7 @@ pub record Means (h : Header) (t : Texts) (a : Areas) (x : List ℕ) : Type 0 wh
   pub lists : areas set ≡ needed h a
 
 -- reading it gives the header, the texts and the areas again
-pub record Back (h : Header) (t : Texts) (a : Areas) : Type 0 where
+pub record Back (h : Header) (t : FullTexts) (a : Areas) : Type 0 where
   pub set : MapSet
   pub reads : read (canon-of h t a) ≡ ok set
   pub header : set .header ≡ h

@@ -248,7 +248,7 @@ pub fn byte_at(line: &[u8], i: usize) -> u8
 }
 
 // Text, as it stands in the columns after the first a.
-fn text_into(line: &[u8], a: usize, out: &mut [u8])
+pub fn text_into(line: &[u8], a: usize, out: &mut [u8])
     requires { ⌜ a + length (now out) ≤ 80 ⌝ }
     ensures { λ _. ⌜ now (out .exit) ≡ columns (now (line .entry)) a (length (now (out .entry))) ⌝ }
 {

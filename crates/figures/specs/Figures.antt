@@ -27,7 +27,7 @@ use Rattle.forms.specs.declared.Field.{Field}
 use Rattle.forms.specs.declared.Field.the-variants.{Number, Bad}
 use Rattle.mapset.specs.Areas.{present?, nowhere?, six}
 use Rattle.mapset.specs.Decisions.{end?, step?, multiple?, ×₃-dec, ×₄-dec, together?, dimension?, limits?, follows?}
-use Rattle.mapset.specs.Sound.{version?, printable?, written?, texts?, times?, model?, axis?, grid?, count?, system?, systems?, header?, run?, runs?, starts?, epochs?, marks?, lengths?, sound-says?}
+use Rattle.mapset.specs.Sound.{version?, printable?, written?, lines?, texts?, times?, model?, axis?, grid?, count?, system?, systems?, header?, run?, runs?, starts?, epochs?, marks?, lengths?, sound-says?}
 use Rattle.mapset.specs.SoundDecided.{sound?}
 use Rattle.mapset.specs.MapSet.{MapSet}
 use Rattle.layout.specs.Text.{pad}
@@ -206,5 +206,5 @@ all-right [] h = tt
 all-right (f ∷ fs) h = let b = both (test f) (every fs) h in (sound f (b .0), all-right fs (b .1))
 
 pub figures : All Right table
-unfolding table truth dated second sum yearDays monthDays isLeap natural? within? readField numberOf formed? pick ×-dec ⊎-dec ¬-dec all-dec same sames decLe decLt ℕ-discrete int? le? lt? between? cells number blank pad need amap read begin feed split short header texts axis absent sound? dec-by sound-says? header? version? texts? written? printable? times? model? grid? axis? end? step? together? ×₃-dec ×₄-dec multiple? count? systems? system? dimension? limits? epochs? starts? runs? run? follows? marks? lengths? nowhere? present? known? timely? same-told strip? after rounded mean valued? weighted weight terms spread corners value worth is-value?
+unfolding table truth dated second sum yearDays monthDays isLeap natural? within? readField numberOf formed? pick ×-dec ⊎-dec ¬-dec all-dec same sames decLe decLt ℕ-discrete int? le? lt? between? cells number blank pad need amap read begin feed split short header texts axis absent sound? dec-by sound-says? header? version? lines? texts? written? printable? times? model? grid? axis? end? step? together? ×₃-dec ×₄-dec multiple? count? systems? system? dimension? limits? epochs? starts? runs? run? follows? marks? lengths? nowhere? present? known? timely? same-told strip? after rounded mean valued? weighted weight terms spread corners value worth is-value?
 figures = all-right table tt

@@ -5,10 +5,12 @@ ghost use lib.ListN.{length, drop};
 ghost use lib.IntN.{negsuc};
 ghost use Rattle.layout.specs.Layout.{plain};
 ghost use Rattle.reading.specs.Feed.{split, feed};
-ghost use Rattle.reading.specs.Head.{heading, Got};
+ghost use Rattle.reading.specs.Head.{heading};
 ghost use Rattle.reading.specs.Read.{nothing-yet, read};
-ghost use Rattle.head_state.specs.Got.{slots-of, texts-of};
-ghost use Rattle.head.specs.Opened.{Passes, onward, beside, ReadsHeader};
+ghost use Rattle.head_state.specs.Got.{texts-of};
+ghost use Rattle.head.specs.Opened.{Keeps, Passes, onward, beside, ReadsHeader};
+ghost use Rattle.mapset.specs.Described.{no-lines};
+ghost use mathlib.Core.List.{[]};
 ghost use Rattle.mapset.specs.Said.{blank-texts};
 use super::Headed;
 use super::HeaderRead;
@@ -32,10 +34,17 @@ fn led_to(turn: Next, exponent: i32, next: usize, n: u64) -> Onward
     }
 }
 
-// One row of the header, and what it leads to.
-fn pass(s: State, version: Version, text: &[u8], from: usize, passed: u64) -> Passed
-    requires { ⌜ (from ≤ length (now text)) × (passed ≤ from) × Got (slots-of s) ⌝ }
-    ensures { λ r. ⌜ Passes (now (text .entry)) version s from passed (r .onward) (r .state) ⌝ }
+// One row of the header, and what it leads to; the DESCRIPTION lines so far stand in `lines`.
+fn pass(
+    s: State,
+    version: Version,
+    text: &[u8],
+    from: usize,
+    passed: u64,
+    lines: &mut [u8],
+) -> Passed
+    requires { ⌜ (from ≤ length (now text)) × (passed ≤ from) × Keeps s (now lines) ⌝ }
+    ensures { λ r. ⌜ Passes (now (text .entry)) version s (now (lines .entry)) from passed (r .onward) (r .state) (now (lines .exit)) ⌝ }
 {
     match read_lines::row_from(text, from, passed) {
         NextRow::Over(n) => Passed {
@@ -47,7 +56,7 @@ fn pass(s: State, version: Version, text: &[u8], from: usize, passed: u64) -> Pa
             state: s,
         },
         NextRow::Row(start, end, next, n) => {
-            let r = head_step::step(s, version, &text[start..end]);
+            let r = head_step::step(s, version, &text[start..end], lines);
             let turn = r.next;
             let t = r.state;
             Passed {
@@ -102,16 +111,22 @@ fn handed(answer: Headed, s: State) -> HeaderRead
     }
 }
 
-// The header after its version record.
-fn header_from(text: &[u8], from: usize, passed: u64, version: Version) -> HeaderRead
-    requires { ⌜ (from ≤ length (now text)) × (passed ≤ from) ⌝ }
-    ensures { λ r. ⌜ ReadsHeader (heading version plain (negsuc 0) nothing-yet (feed (suc passed) (split (drop from (now (text .entry)))))) (now (text .entry)) r ⌝ }
+// The header after its version record; `lines` is blank, and holds its DESCRIPTION lines where it is accepted.
+fn header_from(
+    text: &[u8],
+    from: usize,
+    passed: u64,
+    version: Version,
+    lines: &mut [u8],
+) -> HeaderRead
+    requires { ⌜ (from ≤ length (now text)) × (passed ≤ from) × (now lines ≡ no-lines) ⌝ }
+    ensures { λ r. ⌜ ReadsHeader (heading version plain (negsuc 0) nothing-yet [] (feed (suc passed) (split (drop from (now (text .entry)))))) (now (text .entry)) r (now (lines .exit)) ⌝ }
 {
     let mut s = head_state::nothing();
     let mut at = from;
     let mut n = passed;
     loop {
-        let r = pass(s, version, text, at, n);
+        let r = pass(s, version, text, at, n, lines);
         let onward = r.onward;
         let t = r.state;
         match onward {
@@ -136,16 +151,17 @@ fn refusal(number: u64, line: u64, column: u64) -> HeaderRead
     }
 }
 
-// A text from its start to END OF HEADER.
-pub fn read_header(text: &[u8]) -> HeaderRead
-    ensures { λ r. ⌜ ReadsHeader (read (now (text .entry))) (now (text .entry)) r ⌝ }
+// A text from its start to END OF HEADER; `lines` is blank, and holds the DESCRIPTION lines where it is accepted.
+pub fn read_header(text: &[u8], lines: &mut [u8]) -> HeaderRead
+    requires { ⌜ now lines ≡ no-lines ⌝ }
+    ensures { λ r. ⌜ ReadsHeader (read (now (text .entry))) (now (text .entry)) r (now (lines .exit)) ⌝ }
 {
     match read_lines::row_from(text, 0, 0) {
         NextRow::Over(n) => refusal(10, read_lines::line_after(n), 0),
         NextRow::Bad(number, line, column) => refusal(number, line, column),
         NextRow::Row(start, end, next, n) => match head_version::version_of(&text[start..end]) {
             Versioned::Refused(number, column) => refusal(number, n + 1, column),
-            Versioned::As(version) => header_from(text, next, n + 1, version),
+            Versioned::As(version) => header_from(text, next, n + 1, version, lines),
         },
     }
 }

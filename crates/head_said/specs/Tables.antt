@@ -49,9 +49,9 @@ Numbers program = ⊥
 Numbers mapping = ⊥
 Numbers observables = ⊥
 
--- what is done at a label: 0 misplaced, 1 skipped, 2 EXPONENT, 3 a record of the header, 4 SYS, 5 an aux block is opened, 6 END OF HEADER
+-- what is done at a label: 0 misplaced, 1 skipped, 2 EXPONENT, 3 a record of the header, 4 SYS, 5 an aux block is opened, 6 END OF HEADER, 7 DESCRIPTION
 abbrev pub action : Label → ℕ
-action description = 1
+action description = 7
 action comment = 1
 action exponent = 2
 action (head i) = 3

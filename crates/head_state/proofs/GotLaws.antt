@@ -20,7 +20,7 @@ use Rattle.mapset.specs.Said.{number-in, axis-in, words-in, counted-in, system-
 use Rattle.reading.specs.Head.{Complete, complete?, made-texts}
 use Rattle.reading.proofs.SlotLaws.{complete-at}
 use Rattle.head_said.specs.Records.{says}
-use Rattle.head_state.specs.Got.{nil, said, value-in, slot, places, slots-of, texts-of}
+use Rattle.head_state.specs.Got.{nil, said, value-in, slot, places, slots-of, texts-of, five}
 use Rattle.head_said.specs.Tables.{kind-of, Numbers}
 use Rattle.head_said.specs.declared.Value.{Value}
 use Rattle.head_state.specs.declared.State.{State}
@@ -72,7 +72,7 @@ changed s t i y l e a o =
 -- a record of numbers
 abbrev pub with-value : State → ℕ → Value → State
 with-value s i v =
-    record { aux = s .aux; exponent = s .exponent; seen = set (s .seen) i true; values = set (s .values) i v; program = s .program; agency = s .agency; date = s .date; mapping = s .mapping; observables = s .observables }
+    record { aux = s .aux; exponent = s .exponent; seen = set (s .seen) i true; values = set (s .values) i v; program = s .program; agency = s .agency; date = s .date; mapping = s .mapping; observables = s .observables; descriptions = s .descriptions }
 
 module _ (s : State) (i : ℕ) (v : Value) where
   here : (k : Content) → Numbers k → i < length (s .values) → said (with-value s i v) i k ≡ says k v
@@ -134,15 +134,15 @@ observables-place i e = eqb→eq i 7 (rw e at (right i))
 module _ (s : State) where
   abbrev pub with-program : List ℕ → List ℕ → List ℕ → State
   with-program a b c =
-      record { aux = s .aux; exponent = s .exponent; seen = set (s .seen) 0 true; values = s .values; program = a; agency = b; date = c; mapping = s .mapping; observables = s .observables }
+      record { aux = s .aux; exponent = s .exponent; seen = set (s .seen) 0 true; values = s .values; program = a; agency = b; date = c; mapping = s .mapping; observables = s .observables; descriptions = s .descriptions }
 
   abbrev pub with-mapping : List ℕ → State
   with-mapping a =
-      record { aux = s .aux; exponent = s .exponent; seen = set (s .seen) 5 true; values = s .values; program = s .program; agency = s .agency; date = s .date; mapping = a; observables = s .observables }
+      record { aux = s .aux; exponent = s .exponent; seen = set (s .seen) 5 true; values = s .values; program = s .program; agency = s .agency; date = s .date; mapping = a; observables = s .observables; descriptions = s .descriptions }
 
   abbrev pub with-observables : List ℕ → State
   with-observables a =
-      record { aux = s .aux; exponent = s .exponent; seen = set (s .seen) 7 true; values = s .values; program = s .program; agency = s .agency; date = s .date; mapping = s .mapping; observables = a }
+      record { aux = s .aux; exponent = s .exponent; seen = set (s .seen) 7 true; values = s .values; program = s .program; agency = s .agency; date = s .date; mapping = s .mapping; observables = a; descriptions = s .descriptions }
 
   no-program : (a b c : List ℕ) (j : ℕ) (k : Content) → T (right-place k j) → ¬ (j ≡ 0) → said (with-program a b c) j k ≡ said s j k
   no-program a b c j program t n = absurd (n (eqb→eq j 0 t))
@@ -317,7 +317,7 @@ module _ (s : State) where
       by false q = absurd (complete-at starred (slots-of s) i c e (is-missing s i h q))
 
   -- the texts are what was got
-  pub texts-got : Complete starred (slots-of s) → texts-of s ≡ made-texts (slots-of s)
+  pub texts-got : Complete starred (slots-of s) → texts-of s ≡ five (made-texts (slots-of s) [])
   unfolding made-texts
   texts-got c =
       let p = stands s 0 (omega arith) (seen-one c 0 (omega arith) refl) in

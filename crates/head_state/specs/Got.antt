@@ -3,15 +3,16 @@ use mathlib.Core.Bool.{false, cond}
 use mathlib.Core.Option.{Option, some}
 use mathlib.Core.List.{List, [], _∷_}
 use Prim.Native.Nat.{ℕ, zero, suc}
-use lib.ListN.{getD, set}
+use lib.ListN.{length, getD, set}
 use lib.IntN.{ℤ, pos}
 use Rattle.kit.specs.Answer.{Answer, ok, refused, bind, amap}
 use Rattle.mapset.specs.declared.Version.{Version}
 use Rattle.mapset.specs.declared.Header.{Header}
 use Rattle.mapset.specs.declared.Texts.{Texts}
+use Rattle.mapset.specs.Described.{FullTexts}
 use Rattle.mapset.specs.Header.{Content, count, tenths, epoch, axis, program, mapping, observables, system, Said, words, if-stands}
 use Rattle.layout.specs.Labels.{content}
-use Rattle.layout.specs.Layout.{Slots, Mode, aux, mode}
+use Rattle.layout.specs.Layout.{Slots, Lines, Mode, aux, mode}
 use Rattle.reading.specs.Feed.{Fault, fault}
 use Rattle.reading.specs.Head.{Turn, more, done, made, made-texts, head-step}
 use Rattle.mapset.specs.Said.{axis-of}
@@ -60,30 +61,37 @@ slots-of s = places (slot s) 0 22
 abbrev pub texts-of : State → Texts
 texts-of s = record { program = s .program; agency = s .agency; date = s .date; mapping = s .mapping; observables = s .observables }
 
+-- a header's texts without its DESCRIPTION lines
+abbrev pub five : FullTexts → Texts
+five t = record { program = t .program; agency = t .agency; date = t .date; mapping = t .mapping; observables = t .observables }
+
 -- ---- what a line does
 
--- on with the header; or END OF HEADER, with the header record and its texts
+-- on with the header and so many DESCRIPTION lines; or END OF HEADER, with the header record and its texts
 pub data Went : Type 0 where
-  went : Mode → ℤ → Slots → Went
+  went : Mode → ℤ → Slots → ℕ → Went
   ended : Header → Texts → Went
 
 abbrev pub toldNext : Next → State → Answer Fault Went
-toldNext More s = ok (went (mode (s .aux)) (s .exponent) (slots-of s))
+toldNext More s = ok (went (mode (s .aux)) (s .exponent) (slots-of s) (s .descriptions))
 toldNext (Done h) s = ok (ended h (texts-of s))
 toldNext (Refused n c) s = refused (fault n c)
 
 abbrev pub told : Stepped → Answer Fault Went
 told r = toldNext (r .next) (r .state)
 
--- the same of `reading`, under the version record c, with `got` got so far
-abbrev pub gone : Version → Slots → Turn → Went
-gone c got (more a e got′) = went a e got′
-gone c got done = ended (made c got) (made-texts got)
+-- the same of `reading`, under the version record c, with `got` and n DESCRIPTION lines got so far
+abbrev pub gone : Version → Slots → ℕ → Turn → Went
+gone c got n (more a e got′ ds′) = went a e got′ (length ds′)
+gone c got n done = ended (made c got n) (five (made-texts got []))
 
 -- a record that stands for the first time
 unfoldable pub kept : State → ℕ → Answer Fault Said → Answer Fault Went
-kept s i x = bind x (λ y. ok (went (mode (s .aux)) (s .exponent) (set (slots-of s) i (some y))))
+kept s i x = bind x (λ y. ok (went (mode (s .aux)) (s .exponent) (set (slots-of s) i (some y)) (s .descriptions)))
 
--- what `reading` does with a row
-unfoldable pub stepped : State → Version → List ℕ → Answer Fault Went
-stepped s c r = amap (gone c (slots-of s)) (head-step c (mode (s .aux)) (s .exponent) (slots-of s) r)
+-- what `reading` does with a row, with the DESCRIPTION lines ds got so far
+unfoldable pub turned : State → Version → Lines → List ℕ → Answer Fault Turn
+turned s c ds r = head-step c (mode (s .aux)) (s .exponent) (slots-of s) ds r
+
+abbrev pub stepped : State → Version → Lines → List ℕ → Answer Fault Went
+stepped s c ds r = amap (gone c (slots-of s) (s .descriptions)) (turned s c ds r)

@@ -31,7 +31,8 @@ use mapset::Systems;
 use mapset::Times;
 use mapset::Version;
 
-// What was got of a header so far, by the places of its records in 01's list; whether an aux block is open; the exponent in force.
+// What was got of a header so far, by the places of its records in 01's list; whether an aux block is open; the exponent in force; the number of
+// DESCRIPTION lines, whose bytes are lent beside it.
 pub struct State {
     pub aux: bool,
     pub exponent: i32,
@@ -42,6 +43,7 @@ pub struct State {
     pub date: [u8; 20],
     pub mapping: [u8; 4],
     pub observables: [u8; 60],
+    pub descriptions: u32,
 }
 
 // On with the header; or END OF HEADER, with the header record; or refused with 01's number and a column.
@@ -84,7 +86,7 @@ const STARRED: [bool; 22] = [
 
 // Nothing was got yet; the exponent starts at -1.
 pub fn nothing() -> State
-    ensures { λ r. ⌜ (slots-of r ≡ nothing-yet) × (r .aux ≡ false) × (r .exponent ≡ negsuc 0) ⌝ }
+    ensures { λ r. ⌜ (slots-of r ≡ nothing-yet) × (r .aux ≡ false) × (r .exponent ≡ negsuc 0) × (r .descriptions ≡ 0) ⌝ }
 {
     State {
         aux: false,
@@ -105,6 +107,7 @@ pub fn nothing() -> State
         date: [b' '; 20],
         mapping: [b' '; 4],
         observables: [b' '; 60],
+        descriptions: 0,
     }
 }
 
@@ -270,7 +273,7 @@ fn system_in(s: State, i: usize) -> System
 }
 
 fn times_of(s: State) -> Times
-    ensures { λ r. ⌜ r ≡ made any-version (slots-of s) .times ⌝ }
+    ensures { λ r. ⌜ r ≡ made any-version (slots-of s) 0 .times ⌝ }
 {
     Times {
         first: second_in(s, 1),
@@ -281,7 +284,7 @@ fn times_of(s: State) -> Times
 }
 
 fn model_of(s: State) -> Model
-    ensures { λ r. ⌜ r ≡ made any-version (slots-of s) .model ⌝ }
+    ensures { λ r. ⌜ r ≡ made any-version (slots-of s) 0 .model ⌝ }
 {
     Model {
         cutoff: number_in(s, 6),
@@ -291,7 +294,7 @@ fn model_of(s: State) -> Model
 }
 
 fn grid_of(s: State) -> Grid
-    ensures { λ r. ⌜ r ≡ made any-version (slots-of s) .grid ⌝ }
+    ensures { λ r. ⌜ r ≡ made any-version (slots-of s) 0 .grid ⌝ }
 {
     Grid {
         heights: axis_in(s, 12),
@@ -301,7 +304,7 @@ fn grid_of(s: State) -> Grid
 }
 
 fn systems_of(s: State) -> Systems
-    ensures { λ r. ⌜ r ≡ made any-version (slots-of s) .systems ⌝ }
+    ensures { λ r. ⌜ r ≡ made any-version (slots-of s) 0 .systems ⌝ }
 {
     Systems {
         g: system_in(s, 15),
@@ -316,7 +319,7 @@ fn systems_of(s: State) -> Systems
 
 // The header record of what was got, under this version record.
 pub fn header_of(s: State, version: Version) -> Header
-    ensures { λ r. ⌜ r ≡ made version (slots-of s) ⌝ }
+    ensures { λ r. ⌜ r ≡ made version (slots-of s) (s .descriptions) ⌝ }
 {
     Header {
         version: version,
@@ -326,6 +329,7 @@ pub fn header_of(s: State, version: Version) -> Header
         stations: counted_in(s, 8),
         satellites: counted_in(s, 9),
         systems: systems_of(s),
+        descriptions: s.descriptions,
     }
 }
 

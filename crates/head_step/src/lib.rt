@@ -13,9 +13,9 @@ ghost use Rattle.layout.specs.Labels.{content, labels, letters};
 ghost use Rattle.layout.specs.Layout.{plain, mode};
 ghost use Rattle.reading.specs.Head.{place, on-end};
 ghost use Rattle.head_said.specs.Records.{entry};
-ghost use Rattle.head_state.specs.Got.{slots-of, went, gone, told, stepped};
+ghost use Rattle.head_state.specs.Got.{slots-of, went, gone, told};
 ghost use Rattle.head_said.specs.Tables.{action, place-at};
-ghost use Rattle.head_step.specs.Step.{ended-in, fresh, exponent-in, system-at, by-letter, acted};
+ghost use Rattle.head_step.specs.Step.{ended-in, fresh, exponent-in, system-at, by-letter, acted, Holds, Describes, Steps};
 use forms::Found;
 use head_said::Two;
 use head_said::content;
@@ -26,11 +26,12 @@ use maps_records::One;
 use mapset::Version;
 use mapset::axes;
 
-// What is done at each label: 0 misplaced, 1 skipped, 2 EXPONENT, 3 a record of the header, 4 SYS, 5 an aux block is opened, 6 END OF HEADER.
+// What is done at each label: 0 misplaced, 1 skipped, 2 EXPONENT, 3 a record of the header, 4 SYS, 5 an aux block is opened, 6 END OF HEADER,
+// 7 DESCRIPTION, which `step` takes before it looks here.
 const ACTIONS: [u8; 32] = [
     0,
     3,
-    1,
+    7,
     1,
     3,
     3,
@@ -99,7 +100,7 @@ const PLACES: [usize; 32] = [
 ];
 
 fn more(s: State) -> Stepped
-    ensures { λ r. ⌜ told r ≡ ok (went (mode (s .aux)) (s .exponent) (slots-of s)) ⌝ }
+    ensures { λ r. ⌜ told r ≡ ok (went (mode (s .aux)) (s .exponent) (slots-of s) (s .descriptions)) ⌝ }
 {
     Stepped {
         next: Next::More,
@@ -174,7 +175,7 @@ fn at_exponent(s: State, line: &[u8]) -> Stepped
 
 // END OF HEADER with its columns blank: a record is missing, the dimension disagrees, the grid is too large.
 fn ended(s: State, version: Version) -> Stepped
-    ensures { λ r. ⌜ told r ≡ ended-in version (slots-of s) ⌝ }
+    ensures { λ r. ⌜ told r ≡ ended-in version (slots-of s) (s .descriptions) ⌝ }
 {
     if !head_state::complete(s) {
         return head_state::refuse(s, 9, 0);
@@ -199,7 +200,7 @@ fn ended(s: State, version: Version) -> Stepped
 
 fn at_end(s: State, version: Version, line: &[u8]) -> Stepped
     requires { ⌜ length (now line) ≤ 80 ⌝ }
-    ensures { λ r. ⌜ told r ≡ amap (gone version (slots-of s)) (on-end version (slots-of s) (pad (now (line .entry)))) ⌝ }
+    ensures { λ r. ⌜ told r ≡ amap (gone version (slots-of s) (s .descriptions)) (on-end version (slots-of s) (s .descriptions) (pad (now (line .entry)))) ⌝ }
 {
     match fields::first_not_blank(line, 0, 60) {
         Found::At(column) => head_state::refuse(s, 6, column as u64),
@@ -207,7 +208,23 @@ fn at_end(s: State, version: Version, line: &[u8]) -> Stepped
     }
 }
 
-// A record with the k-th label, outside aux blocks.
+// DESCRIPTION: its columns 1 to 60 behind the lines got so far; a twenty-first is refused.
+fn at_description(s: State, line: &[u8], lines: &mut [u8]) -> Stepped
+    requires { ⌜ (length (now line) ≤ 80) × Holds (s .descriptions) (now lines) ⌝ }
+    ensures { λ r. ⌜ Describes s (now (lines .entry)) (pad (now (line .entry))) r (now (lines .exit)) ⌝ }
+{
+    if 20 <= s.descriptions {
+        return head_state::refuse(s, 5, 61);
+    }
+    let a = 60 * (s.descriptions as usize);
+    let e = a + 60;
+    fields::text_into(line, 0, &mut lines[a..e]);
+    let mut t = s;
+    t.descriptions = s.descriptions + 1;
+    more(t)
+}
+
+// A record with the k-th label, outside aux blocks, but no DESCRIPTION.
 fn by_label(s: State, version: Version, k: usize, line: &[u8]) -> Stepped
     requires { ⌜ (k < 32) × (length (now line) ≤ 80) × (s .aux ≡ false) ⌝ }
     ensures { λ r. ⌜ told r ≡ acted (getD (map action labels) k 0) (getD (map place-at labels) k 0) s version (pad (now (line .entry))) ⌝ }
@@ -231,7 +248,7 @@ fn by_label(s: State, version: Version, k: usize, line: &[u8]) -> Stepped
 
 // Inside an aux block every line but END OF AUX DATA is skipped.
 fn in_aux(s: State, k: usize) -> Stepped
-    ensures { λ r. ⌜ told r ≡ cond (eqb k 21) (ok (went plain (s .exponent) (slots-of s))) (ok (went (mode (s .aux)) (s .exponent) (slots-of s))) ⌝ }
+    ensures { λ r. ⌜ told r ≡ cond (eqb k 21) (ok (went plain (s .exponent) (slots-of s) (s .descriptions))) (ok (went (mode (s .aux)) (s .exponent) (slots-of s) (s .descriptions))) ⌝ }
 {
     if k == labels::AUX_END {
         let mut t = s;
@@ -241,10 +258,10 @@ fn in_aux(s: State, k: usize) -> Stepped
     more(s)
 }
 
-// A line that is clean and not blank.
-pub fn step(s: State, version: Version, line: &[u8]) -> Stepped
-    requires { ⌜ length (now line) ≤ 80 ⌝ }
-    ensures { λ r. ⌜ told r ≡ stepped s version (pad (now (line .entry))) ⌝ }
+// A line that is clean and not blank; the DESCRIPTION lines got so far stand in `lines`.
+pub fn step(s: State, version: Version, line: &[u8], lines: &mut [u8]) -> Stepped
+    requires { ⌜ (length (now line) ≤ 80) × Holds (s .descriptions) (now lines) ⌝ }
+    ensures { λ r. ⌜ Steps s version (now (lines .entry)) (pad (now (line .entry))) r (now (lines .exit)) ⌝ }
 {
     let k = labels::label_of(line);
     if s.aux {
@@ -252,6 +269,9 @@ pub fn step(s: State, version: Version, line: &[u8]) -> Stepped
     }
     if 32 <= k {
         return head_state::refuse(s, 4, 61);
+    }
+    if k == labels::DESCRIPTION {
+        return at_description(s, line, lines);
     }
     by_label(s, version, k, line)
 }

@@ -9,7 +9,7 @@ use Rattle.kit.specs.Answer.{same, pick}
 use Rattle.kit.proofs.AnswerLaws.{pick-yes, pick-no}
 use Rattle.mapset.specs.MapSet.{MapSet}
 use Rattle.layout.specs.Labels.{name, Label, version, description, comment, system, exponent, aux-start, aux-end, header-end, epoch, block, file-end, head, start, end}
-use Rattle.layout.specs.Layout.{Exponent, Slots, Mode, plain, aux, Heads, h-description, h-comment, h-exponent, h-field, h-system, h-aux, h-skip, h-back, h-end, Rows, rows-of}
+use Rattle.layout.specs.Layout.{Exponent, Slots, Lines, Mode, plain, aux, Heads, h-description, h-comment, h-exponent, h-field, h-system, h-aux, h-skip, h-back, h-end, Rows, rows-of}
 use Rattle.reading.specs.Fields.{label}
 use Rattle.reading.proofs.RecordLaws.{known-head, known-heads, known-maps, rec-label, rec-name}
 use Rattle.areas.specs.Scan.{by-label, exponent-in, body}
@@ -18,7 +18,7 @@ use Rattle.index.specs.Made.{Placed, just-rows, maps-of}
 use Rattle.index.proofs.Lines.{Lies, lies-end, lies-row}
 
 -- the exponent at END OF HEADER is one from -3 to 0
-heads-exponent : {m : MapSet} {a : Mode} {e : ℤ} {left : Slots} {rs : List (List ℕ)} → Heads m a e left rs → Exponent e → Exponent (body a e rs .0)
+heads-exponent : {m : MapSet} {a : Mode} {e : ℤ} {left : Slots} {ds : Lines} {rs : List (List ℕ)} → Heads m a e left ds rs → Exponent e → Exponent (body a e rs .0)
 unfolding body
 heads-exponent (h-description c hw) x = rw (rec-label c (known-heads .0)) (heads-exponent hw x)
 heads-exponent (h-comment c hw) x = rw (rec-label c (known-maps .0)) (heads-exponent hw x)
@@ -32,7 +32,7 @@ heads-exponent (h-end c a f d l hw) x = rw (rec-label c (known-heads .3)) x
 
 pub rows-exponent : {m : MapSet} {rs : List (List ℕ)} → Rows m rs → Exponent (body plain (negsuc 0) rs .0)
 unfolding body
-rows-exponent (rows-of v c hw) = rw (rec-label c known-version) (heads-exponent hw (record { from = record { le = tt }; to = record { le = tt } }))
+rows-exponent (rows-of v d c hw) = rw (rec-label c known-version) (heads-exponent hw (record { from = record { le = tt }; to = record { le = tt } }))
 
 -- ---- rows with their starts, and without
 

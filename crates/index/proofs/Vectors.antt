@@ -41,6 +41,7 @@ sized n l r h =
       stations = h .stations;
       satellites = h .satellites;
       systems = h .systems;
+      descriptions = h .descriptions;
     }
 
 -- layer 1, row 2 of map 3, in 4 maps of 2 layers of 5 rows: the TEC entry stands after 2·10 + 5 + 2 others, the RMS maps 40 behind, the height maps 80

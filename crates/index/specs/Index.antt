@@ -10,7 +10,7 @@ use Rattle.mapset.specs.Grid.{layers, rows, columns}
 use Rattle.mapset.specs.Header.{HeaderRules}
 use Rattle.mapset.specs.Areas.{Areas, Present, blocks}
 use Rattle.mapset.specs.declared.Header.{Header}
-use Rattle.mapset.specs.declared.Texts.{Texts}
+use Rattle.mapset.specs.Described.{FullTexts}
 use Rattle.layout.specs.Layout.{Exponent, per-map}
 use Rattle.areas.specs.Stores.{before, place, first-of}
 use Rattle.areas.specs.Valid.{values-in}
@@ -20,7 +20,7 @@ use Rattle.index.specs.Stands.{Stands}
 -- header record and texts, marks, and of each block its position in the text and its exponent, in the order of the exponents of a map set
 pub record Index : Type 0 where
   pub header : Header
-  pub texts : Texts
+  pub texts : FullTexts
   pub positions : List ℕ
   pub exponents : List ℤ
   pub marks : List ℕ
@@ -34,7 +34,7 @@ pub record Entries : Type 0 where
 abbrev pub entries : List ℕ → List ℤ → List ℕ → Entries
 entries ps es ms = record { positions = ps; exponents = es; marks = ms }
 
-abbrev pub index : Header → Texts → Entries → Index
+abbrev pub index : Header → FullTexts → Entries → Index
 index h x l = record { header = h; texts = x; positions = l .positions; exponents = l .exponents; marks = l .marks }
 
 -- a valid header, lengths and marks: else 31

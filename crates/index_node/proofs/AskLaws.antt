@@ -22,7 +22,7 @@ use Rattle.mapset.specs.Grid.{layers, rows, columns, Limits}
 use Rattle.mapset.specs.Sound.{HeaderSays}
 use Rattle.mapset.specs.SoundDecided.{header-groups, groups-header, from-zero, to-three}
 use Rattle.mapset.specs.declared.Header.{Header}
-use Rattle.mapset.specs.declared.Texts.{Texts}
+use Rattle.mapset.specs.Described.{FullTexts}
 use Rattle.layout.specs.Layout.{Exponent, per-map}
 use Rattle.areas.specs.Stores.{before, first-of}
 use Rattle.ask_nodes.specs.Value.{kind-of}
@@ -38,7 +38,7 @@ use Rattle.index_node.specs.declared.Reply.the-variants.{Given, Refused}
 
 -- ---- 31
 
-module _ (h : Header) (x : Texts) (ps : List ℕ) (es : List ℤ) (ms : List ℕ) where
+module _ (h : Header) (x : FullTexts) (ps : List ℕ) (es : List ℤ) (ms : List ℕ) where
   pub no-header : ¬ HeaderSays h x → ¬ Fit (index h x (entries ps es ms))
   no-header n f = n (header-groups h x (f .header))
 
@@ -47,7 +47,7 @@ module _ (h : Header) (x : Texts) (ps : List ℕ) (es : List ℤ) (ms : List ℕ
   marks-decide s p e m true q = record { header = groups-header h x s; positions = p; exponents = e; marks = m; marked = to-three (take (h .times .maps) ms) (truth-true (all-dec (within? 0 3) (take (h .times .maps) ms)) (sym q)) }
   marks-decide s p e m false q = λ f. truth-false (all-dec (within? 0 3) (take (h .times .maps) ms)) (sym q) (from-zero (take (h .times .maps) ms) (f .marked))
 
-pub limits : (h : Header) (x : Texts) → HeaderSays h x → Limits (h .times .maps) (h .grid)
+pub limits : (h : Header) (x : FullTexts) → HeaderSays h x → Limits (h .times .maps) (h .grid)
 limits h x s = s .1 .1 .1 .1 .1 .1 .1 .1 .1
 
 pub fit-limits : (x : Index) → Fit x → Limits (x .header .times .maps) (x .header .grid)

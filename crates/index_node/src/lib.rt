@@ -2,6 +2,7 @@
 ghost use mathlib.Core.Path.{_≡_};
 ghost use Prim.Native.Nat.{_+_, _*_, _<_, _≤_};
 ghost use Rattle.kit.specs.Truth.{Says};
+ghost use Rattle.mapset.specs.Described.{full};
 ghost use Rattle.mapset.specs.Areas.{blocks};
 ghost use Rattle.mapset.specs.Grid.{rows, columns, Limits};
 ghost use Rattle.layout.specs.Layout.{per-map};
@@ -36,10 +37,17 @@ pub struct Bounds {
 }
 
 // Whether an index has a valid header, lengths and marks.
-fn fits(header: Header, texts: Texts, positions: &[u64], exponents: &[i32], marks: &[u8]) -> bool
-    ensures { λ r. ⌜ Says r (Fit (index header texts (entries (now (positions .entry)) (now (exponents .entry)) (now (marks .entry))))) ⌝ }
+fn fits(
+    header: Header,
+    texts: Texts,
+    descriptions: &[u8],
+    positions: &[u64],
+    exponents: &[i32],
+    marks: &[u8],
+) -> bool
+    ensures { λ r. ⌜ Says r (Fit (index header (full texts (now (descriptions .entry))) (entries (now (positions .entry)) (now (exponents .entry)) (now (marks .entry))))) ⌝ }
 {
-    if !sound_header::header_fits(header, texts) {
+    if !sound_header::header_fits(header, texts, descriptions) {
         return false;
     }
     let maps = header.times.maps as usize;
@@ -123,6 +131,7 @@ pub fn find_node(
     text: &[u8],
     header: Header,
     texts: Texts,
+    descriptions: &[u8],
     positions: &[u64],
     exponents: &[i32],
     marks: &[u8],
@@ -132,12 +141,12 @@ pub fn find_node(
     row: u64,
     column: u64,
 ) -> Reply
-    ensures { λ r. ⌜ Finds (index header texts (entries (now (positions .entry)) (now (exponents .entry)) (now (marks .entry)))) (now (text .entry)) (node kind map layer row column) r ⌝ }
+    ensures { λ r. ⌜ Finds (index header (full texts (now (descriptions .entry))) (entries (now (positions .entry)) (now (exponents .entry)) (now (marks .entry)))) (now (text .entry)) (node kind map layer row column) r ⌝ }
 {
     if 3 <= kind {
         return Reply::Refused(Why::Unknown);
     }
-    if !fits(header, texts, positions, exponents, marks) {
+    if !fits(header, texts, descriptions, positions, exponents, marks) {
         return Reply::Refused(Why::Unfit);
     }
     if !in_grid(header, map, layer, row, column) {
@@ -173,6 +182,7 @@ pub fn find_block<'a>(
     text: &'a [u8],
     header: Header,
     texts: Texts,
+    descriptions: &[u8],
     positions: &[u64],
     exponents: &[i32],
     marks: &[u8],
@@ -182,12 +192,13 @@ pub fn find_block<'a>(
     row: u64,
     column: u64,
 ) -> &'a [u8]
-    ensures { λ r. ⌜ HandsBack (index header texts (entries (now (positions .entry)) (now (exponents .entry)) (now (marks .entry)))) (now (text .entry)) (node kind map layer row column) (now r) ⌝ }
+    ensures { λ r. ⌜ HandsBack (index header (full texts (now (descriptions .entry))) (entries (now (positions .entry)) (now (exponents .entry)) (now (marks .entry)))) (now (text .entry)) (node kind map layer row column) (now r) ⌝ }
 {
     let reply = find_node(
         text,
         header,
         texts,
+        descriptions,
         positions,
         exponents,
         marks,

@@ -11,7 +11,7 @@ use Rattle.kit.specs.Answer.{refused, All}
 use Rattle.kit.specs.Lists.{front}
 use Rattle.mapset.specs.declared.Kind.{Kind}
 use Rattle.mapset.specs.declared.Header.{Header}
-use Rattle.mapset.specs.declared.Texts.{Texts}
+use Rattle.mapset.specs.Described.{FullTexts}
 use Rattle.mapset.specs.Grid.{columns, Limits}
 use Rattle.mapset.specs.MapSet.{MapSet}
 use Rattle.mapset.specs.Areas.{Areas, six, Room}
@@ -20,7 +20,6 @@ use Rattle.layout.specs.Layout.{per-map, plain, Rows, Makes, makes}
 use Rattle.reading.specs.Feed.{why}
 use Rattle.reading.specs.Read.{read}
 use Rattle.reading.proofs.Exact.{made-read}
-use Rattle.mapset.specs.Said.{blank-texts}
 use Rattle.areas.specs.Flat.{areas}
 use Rattle.areas.specs.Events as event
 use Rattle.areas.specs.Scan.{at-first, brought, events}
@@ -31,7 +30,7 @@ use Rattle.areas.proofs.Scanned.{scan-leaves, scan-stays}
 use Rattle.read_needs.specs.Needs.{first-short}
 use Rattle.read_needs.proofs.ShortLaws.{all-long}
 use Rattle.read_judge.specs.Scanned.{set-of}
-use Rattle.read_outcome.specs.Outcome.{accepted, at-place, eleven}
+use Rattle.read_outcome.specs.Outcome.{accepted, at-place, eleven, no-texts}
 use Rattle.index.specs.Index.{Entries, entries}
 use Rattle.index.specs.Made.{just-rows, placed-from, opened, put-starts, positions-of, entries-of, fronts}
 use Rattle.index.proofs.Lines.{lies}
@@ -111,7 +110,7 @@ module _ {m : MapSet} {rs : List (List ℕ)} (r : Rows m rs) (t : List ℕ) (x :
 
 -- ---- by what was read
 
-module _ (t : List ℕ) (h : Header) (x : Texts) (a : ReadAs t h x) where
+module _ (t : List ℕ) (h : Header) (x : FullTexts) (a : ReadAs t h x) where
   abbrev m : MapSet
   m = set-of h x (a .0)
 
@@ -145,7 +144,7 @@ module _ (t : List ℕ) (h : Header) (x : Texts) (a : ReadAs t h x) where
     made-is = ap (λ r. made-of r t l) (a .1) ∙ ap (with-room m t l) (sym short-is)
 
     -- 11
-    pub short-by : (i k : ℕ) → first-short 1 (pairs n B (length (l .positions)) (length (l .exponents)) (length (l .marks))) ≡ some (i, k) → record { told = eleven i k; texts = blank-texts; entries = l } ≡ made t l
+    pub short-by : (i k : ℕ) → first-short 1 (pairs n B (length (l .positions)) (length (l .exponents)) (length (l .marks))) ≡ some (i, k) → record { told = eleven i k; texts = no-texts; entries = l } ≡ made t l
     unfolding with-room
     short-by i k e = sym (made-is ∙ ap (with-room m t l) e)
 
@@ -163,6 +162,6 @@ module _ (t : List ℕ) (h : Header) (x : Texts) (a : ReadAs t h x) where
           let g : l′ ≡ fronts (entries-of m t) l = f ∙ (λ i. entered (p i) (q i) (o i) t l) ∙ all-entered (r .1 .0) t (r .1 .1) l roomy in
           ap (λ z. record { told = accepted h; texts = x; entries = z }) g ∙ sym (made-is ∙ ap (with-room m t l) e)
 
-pub made-refused : (t : List ℕ) (l : Entries) (k n c : ℕ) → read t ≡ refused (why k n c) → record { told = at-place k n c; texts = blank-texts; entries = l } ≡ made t l
+pub made-refused : (t : List ℕ) (l : Entries) (k n c : ℕ) → read t ≡ refused (why k n c) → record { told = at-place k n c; texts = no-texts; entries = l } ≡ made t l
 unfolding made-of
 made-refused t l k n c e = sym (ap (λ r. made-of r t l) e)

@@ -1,9 +1,11 @@
 // The index of a text, in lent areas: judged first, and stored only where nothing is wrong and each area is long enough.
 ghost use mathlib.Core.Path.{_≡_};
 ghost use Prim.Native.Nat.{_*_, _≤_};
+ghost use Rattle.mapset.specs.Described.{full};
 ghost use Rattle.index.specs.Index.{entries};
 ghost use Rattle.read_needs.specs.Needs.{first-short, fit};
 ghost use Rattle.index_text.specs.Making.{pairs, ReadAs, made, comes};
+use mapset::Descriptions;
 use mapset::Header;
 use mapset::Size;
 use mapset::Texts;
@@ -36,11 +38,12 @@ fn store(
     text: &[u8],
     header: Header,
     texts: Texts,
+    lines: &[u8; 1200],
     positions: &mut [u64],
     exponents: &mut [i32],
     marks: &mut [u8],
 ) -> ReadOut
-    requires { ⌜ ReadAs (now text) header texts ⌝ }
+    requires { ⌜ ReadAs (now text) header (full texts (now lines)) ⌝ }
     ensures { λ r. ⌜ comes r (entries (now (positions .exit)) (now (exponents .exit)) (now (marks .exit)))
         ≡ made (now (text .entry)) (entries (now (positions .entry)) (now (exponents .entry)) (now (marks .entry))) ⌝ }
 {
@@ -52,6 +55,7 @@ fn store(
             ReadOut {
                 answer: Reading::Accepted(header),
                 texts: texts,
+                descriptions: Descriptions { bytes: *lines },
             }
         }
     }
@@ -67,7 +71,8 @@ pub fn make_index(
     ensures { λ r. ⌜ comes r (entries (now (positions .exit)) (now (exponents .exit)) (now (marks .exit)))
         ≡ made (now (text .entry)) (entries (now (positions .entry)) (now (exponents .entry)) (now (marks .entry))) ⌝ }
 {
-    let scan = read_judge::judge(text);
+    let mut lines = [b' '; 1200];
+    let scan = read_judge::judge(text, &mut lines);
     let answer = scan.answer;
     let texts = scan.texts;
     match answer {
@@ -76,6 +81,8 @@ pub fn make_index(
             line,
             column,
         )),
-        Judged::Fine(header, _, _, _) => store(text, header, texts, positions, exponents, marks),
+        Judged::Fine(header, _, _, _) => {
+            store(text, header, texts, &lines, positions, exponents, marks)
+        }
     }
 }

@@ -1,8 +1,11 @@
 // The value at a place and second, and as other languages ask for it.
+ghost use Rattle.mapset.specs.Described.{full};
 ghost use Rattle.mapset.specs.Areas.{six};
 ghost use Rattle.ask.specs.Ask.{question, Answers, told};
 ghost use Rattle.c_answers.specs.AskExported.{asks, AskCrosses};
 use ask::Asked;
+use c_given::END;
+use c_given::LINES;
 use mapset::Header;
 use mapset::Texts;
 
@@ -10,6 +13,7 @@ use mapset::Texts;
 pub fn ask(
     header: Header,
     texts: Texts,
+    descriptions: &[u8],
     tec: &[i32],
     rms: &[i32],
     height: &[i32],
@@ -23,13 +27,14 @@ pub fn ask(
     lon: i32,
     second: u64,
 ) -> Asked
-    ensures outcome { λ r. ⌜ Answers (question header texts
+    ensures outcome { λ r. ⌜ Answers (question header (full texts (now (descriptions .entry)))
         (six (now (tec .entry)) (now (rms .entry)) (now (height .entry)) (now (exponents .entry)) (now (epochs .entry)) (now (marks .entry)))
         kind method layer lat lon second) (told r) ⌝ }
 {
     ask::ask(
         header,
         texts,
+        descriptions,
         tec,
         rms,
         height,
@@ -77,6 +82,7 @@ pub extern "C" fn ionex_ask(
     let answer = ask(
         h,
         x,
+        &texts[LINES..END],
         tec,
         rms,
         height,

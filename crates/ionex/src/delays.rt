@@ -1,4 +1,5 @@
 // The delay in metres of an answer, and at a place and second; and as other languages ask for them.
+ghost use Rattle.mapset.specs.Described.{full};
 ghost use Rattle.mapset.specs.Areas.{six};
 ghost use Rattle.ask.specs.Ask.{question};
 ghost use Rattle.delay.specs.Delay.{Delays, told as told-delay};
@@ -7,6 +8,8 @@ ghost use Rattle.c_answers.specs.AskExported.{asks};
 ghost use Rattle.c_answers.specs.DelayExported.{TecuDelayCrosses, DelayCrosses};
 use ask::MilliTecu;
 use ask_delay::AskedDelay;
+use c_given::END;
+use c_given::LINES;
 use delay::Delayed;
 use mapset::Header;
 use mapset::Texts;
@@ -22,6 +25,7 @@ pub fn tecu_delay(x: MilliTecu, carrier: f64) -> Delayed
 pub fn ask_delay(
     header: Header,
     texts: Texts,
+    descriptions: &[u8],
     tec: &[i32],
     rms: &[i32],
     height: &[i32],
@@ -36,13 +40,14 @@ pub fn ask_delay(
     second: u64,
     carrier: f64,
 ) -> AskedDelay
-    ensures outcome { λ r. ⌜ AskDelays (question header texts
+    ensures outcome { λ r. ⌜ AskDelays (question header (full texts (now (descriptions .entry)))
         (six (now (tec .entry)) (now (rms .entry)) (now (height .entry)) (now (exponents .entry)) (now (epochs .entry)) (now (marks .entry)))
         kind method layer lat lon second) carrier (told-asked r) ⌝ }
 {
     ask_delay::ask_delay(
         header,
         texts,
+        descriptions,
         tec,
         rms,
         height,
@@ -104,6 +109,7 @@ pub extern "C" fn ionex_delay(
     let answer = ask_delay(
         h,
         x,
+        &texts[LINES..END],
         tec,
         rms,
         height,

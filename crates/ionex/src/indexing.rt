@@ -1,10 +1,13 @@
 // A text's index, and one node or one block by index and text; and as other languages have them.
+ghost use Rattle.mapset.specs.Described.{full};
 ghost use mathlib.Core.Path.{_≡_};
 ghost use Rattle.index.specs.Index.{entries, index, node};
 ghost use Rattle.index_text.specs.Making.{made, comes};
 ghost use Rattle.index_node.specs.Told.{Finds, HandsBack};
 ghost use Rattle.c_index.specs.Crossed.{NodeCrosses, BlockCrosses};
 ghost use Rattle.c_index.specs.IndexExported.{crossed, index-crossed};
+use c_given::END;
+use c_given::LINES;
 use index_node::Reply;
 use mapset::Header;
 use mapset::Texts;
@@ -28,6 +31,7 @@ pub fn indexed_node(
     text: &[u8],
     header: Header,
     texts: Texts,
+    descriptions: &[u8],
     positions: &[u64],
     exponents: &[i32],
     marks: &[u8],
@@ -37,12 +41,13 @@ pub fn indexed_node(
     row: u64,
     column: u64,
 ) -> Reply
-    ensures outcome { λ r. ⌜ Finds (index header texts (entries (now (positions .entry)) (now (exponents .entry)) (now (marks .entry)))) (now (text .entry)) (node kind map layer row column) r ⌝ }
+    ensures outcome { λ r. ⌜ Finds (index header (full texts (now (descriptions .entry))) (entries (now (positions .entry)) (now (exponents .entry)) (now (marks .entry)))) (now (text .entry)) (node kind map layer row column) r ⌝ }
 {
     index_node::find_node(
         text,
         header,
         texts,
+        descriptions,
         positions,
         exponents,
         marks,
@@ -59,6 +64,7 @@ pub fn indexed_block<'a>(
     text: &'a [u8],
     header: Header,
     texts: Texts,
+    descriptions: &[u8],
     positions: &[u64],
     exponents: &[i32],
     marks: &[u8],
@@ -68,12 +74,13 @@ pub fn indexed_block<'a>(
     row: u64,
     column: u64,
 ) -> &'a [u8]
-    ensures outcome { λ r. ⌜ HandsBack (index header texts (entries (now (positions .entry)) (now (exponents .entry)) (now (marks .entry)))) (now (text .entry)) (node kind map layer row column) (now r) ⌝ }
+    ensures outcome { λ r. ⌜ HandsBack (index header (full texts (now (descriptions .entry))) (entries (now (positions .entry)) (now (exponents .entry)) (now (marks .entry)))) (now (text .entry)) (node kind map layer row column) (now r) ⌝ }
 {
     index_node::find_block(
         text,
         header,
         texts,
+        descriptions,
         positions,
         exponents,
         marks,
@@ -137,6 +144,7 @@ pub extern "C" fn ionex_indexed_node(
         text,
         h,
         x,
+        &texts[LINES..END],
         positions,
         exponents,
         marks,
@@ -179,6 +187,7 @@ pub extern "C" fn ionex_indexed_block(
         text,
         h,
         x,
+        &texts[LINES..END],
         positions,
         exponents,
         marks,

@@ -1,10 +1,13 @@
 // Two map sets joined, and as other languages have them joined.
 ghost use mathlib.Core.Path.{_≡_};
+ghost use Rattle.mapset.specs.Described.{full};
 ghost use Rattle.mapset.specs.Areas.{six};
 ghost use Rattle.join.specs.Into.{lent-of, join-into};
 ghost use Rattle.join_areas.specs.Joined.{comes, came};
 ghost use Rattle.c_answers.specs.ReadExported.{crossed};
 ghost use Rattle.c_answers.specs.JoinExported.{join-crossed};
+use c_given::END;
+use c_given::LINES;
 use join_areas::Joining;
 use mapset::Header;
 use mapset::Texts;
@@ -13,6 +16,7 @@ use mapset::Texts;
 pub fn join(
     early: Header,
     etexts: Texts,
+    edescriptions: &[u8],
     atec: &[i32],
     arms: &[i32],
     aheight: &[i32],
@@ -21,6 +25,7 @@ pub fn join(
     amarks: &[u8],
     late: Header,
     ltexts: Texts,
+    ldescriptions: &[u8],
     btec: &[i32],
     brms: &[i32],
     bheight: &[i32],
@@ -34,10 +39,10 @@ pub fn join(
     epochs: &mut [u64],
     marks: &mut [u8],
 ) -> Joining
-    ensures outcome { λ r. ⌜ comes r ltexts (six (now (tec .exit)) (now (rms .exit)) (now (height .exit)) (now (exponents .exit)) (now (epochs .exit)) (now (marks .exit)))
-        ≡ came (join-into (lent-of early etexts
+    ensures outcome { λ r. ⌜ comes r (full ltexts (now (ldescriptions .entry))) (six (now (tec .exit)) (now (rms .exit)) (now (height .exit)) (now (exponents .exit)) (now (epochs .exit)) (now (marks .exit)))
+        ≡ came (join-into (lent-of early (full etexts (now (edescriptions .entry)))
         (six (now (atec .entry)) (now (arms .entry)) (now (aheight .entry)) (now (aexponents .entry)) (now (aepochs .entry)) (now (amarks .entry))))
-        (lent-of late ltexts
+        (lent-of late (full ltexts (now (ldescriptions .entry)))
         (six (now (btec .entry)) (now (brms .entry)) (now (bheight .entry)) (now (bexponents .entry)) (now (bepochs .entry)) (now (bmarks .entry))))
         (six (now (tec .entry)) (now (rms .entry)) (now (height .entry)) (now (exponents .entry)) (now (epochs .entry)) (now (marks .entry))))
         (six (now (tec .entry)) (now (rms .entry)) (now (height .entry)) (now (exponents .entry)) (now (epochs .entry)) (now (marks .entry))) ⌝ }
@@ -45,6 +50,7 @@ pub fn join(
     join_areas::join_sets(
         early,
         etexts,
+        edescriptions,
         atec,
         arms,
         aheight,
@@ -53,6 +59,7 @@ pub fn join(
         amarks,
         late,
         ltexts,
+        ldescriptions,
         btec,
         brms,
         bheight,
@@ -120,6 +127,7 @@ pub extern "C" fn ionex_join(
     let r = join(
         early,
         etexts,
+        &atexts[LINES..END],
         atec,
         arms,
         aheight,
@@ -128,6 +136,7 @@ pub extern "C" fn ionex_join(
         amarks,
         late,
         ltexts,
+        &btexts[LINES..END],
         btec,
         brms,
         bheight,
@@ -141,5 +150,5 @@ pub extern "C" fn ionex_join(
         epochs,
         marks,
     );
-    c_answers::put_joined(r, ltexts, header, texts, place)
+    c_answers::put_joined(r, ltexts, &btexts[LINES..END], header, texts, place)
 }

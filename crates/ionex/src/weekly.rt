@@ -1,9 +1,12 @@
 // A map set into the figures of a week, and as other languages have it added.
 ghost use mathlib.Core.Path.{_≡_};
+ghost use Rattle.mapset.specs.Described.{full};
 ghost use Rattle.mapset.specs.Areas.{six};
 ghost use Rattle.week.specs.Week.{given-as};
 ghost use Rattle.week.specs.Sane.{comes, outcome};
 ghost use Rattle.c_week.specs.WeekExported.{crossed, week-crossed};
+use c_given::END;
+use c_given::LINES;
 use mapset::Header;
 use mapset::Texts;
 use week::Added;
@@ -14,6 +17,7 @@ pub fn add(
     week: Week,
     header: Header,
     texts: Texts,
+    descriptions: &[u8],
     tec: &[i32],
     rms: &[i32],
     height: &[i32],
@@ -22,7 +26,7 @@ pub fn add(
     marks: &[u8],
     rows: &mut [i64],
 ) -> Added
-    ensures outcome { λ r. ⌜ comes r (now (rows .exit)) ≡ outcome week (given-as header texts
+    ensures outcome { λ r. ⌜ comes r (now (rows .exit)) ≡ outcome week (given-as header (full texts (now (descriptions .entry)))
         (six (now (tec .entry)) (now (rms .entry)) (now (height .entry)) (now (exponents .entry)) (now (epochs .entry)) (now (marks .entry)))
         (now (rows .entry))) ⌝ }
 {
@@ -30,6 +34,7 @@ pub fn add(
         week,
         header,
         texts,
+        descriptions,
         tec,
         rms,
         height,
@@ -67,6 +72,18 @@ pub extern "C" fn ionex_week_add(
     let w = c_week::week_in(week);
     let h = c_given::header_in(header);
     let x = c_given::texts_in(texts);
-    let answer = add(w, h, x, tec, rms, height, exponents, epochs, marks, rows);
+    let answer = add(
+        w,
+        h,
+        x,
+        &texts[LINES..END],
+        tec,
+        rms,
+        height,
+        exponents,
+        epochs,
+        marks,
+        rows,
+    );
     c_week::put_added(answer, week, place)
 }

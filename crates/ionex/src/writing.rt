@@ -2,9 +2,12 @@
 ghost use mathlib.Core.Path.{_≡_};
 ghost use mathlib.Core.List.{List};
 ghost use Prim.Native.Nat.{ℕ};
+ghost use Rattle.mapset.specs.Described.{full};
 ghost use Rattle.mapset.specs.Areas.{six};
 ghost use Rattle.write_text.specs.Write.{Told, told, written};
 ghost use Rattle.c_answers.specs.WriteExported.{crossed, write-crossed};
+use c_given::END;
+use c_given::LINES;
 use mapset::Header;
 use mapset::Texts;
 use write_text::Written;
@@ -13,6 +16,7 @@ use write_text::Written;
 pub fn write(
     header: Header,
     texts: Texts,
+    descriptions: &[u8],
     tec: &[i32],
     rms: &[i32],
     height: &[i32],
@@ -21,13 +25,14 @@ pub fn write(
     marks: &[u8],
     out: &mut [u8],
 ) -> Written
-    ensures outcome { λ r. ⌜ _≡_ {A = Told × List ℕ} (told r, now (out .exit)) (written header texts
+    ensures outcome { λ r. ⌜ _≡_ {A = Told × List ℕ} (told r, now (out .exit)) (written header (full texts (now (descriptions .entry)))
         (six (now (tec .entry)) (now (rms .entry)) (now (height .entry)) (now (exponents .entry)) (now (epochs .entry)) (now (marks .entry)))
         (now (out .entry))) ⌝ }
 {
     write_text::write_text(
         header,
         texts,
+        descriptions,
         tec,
         rms,
         height,
@@ -62,6 +67,17 @@ pub extern "C" fn ionex_write(
     }
     let h = c_given::header_in(header);
     let x = c_given::texts_in(texts);
-    let answer = write(h, x, tec, rms, height, exponents, epochs, marks, out);
+    let answer = write(
+        h,
+        x,
+        &texts[LINES..END],
+        tec,
+        rms,
+        height,
+        exponents,
+        epochs,
+        marks,
+        out,
+    );
     c_answers::put_written(answer, count)
 }

@@ -110,6 +110,7 @@ module _ (a b c : MapSet) (p : Formed a) (q : Formed b) where
           stations = c .header .stations;
           satellites = c .header .satellites;
           systems = c .header .systems;
+          descriptions = c .header .descriptions;
         };
         texts = c .texts;
         maps = (ap (λ n. maps n (maps j (a .maps) (b .maps)) (c .maps)) stays ∙ maps-either) i;

@@ -5,14 +5,15 @@ use mathlib.Core.List.{List, [], _∷_}
 use Prim.Native.Nat.{ℕ}
 use native.Mathlib.Decide.{ℕ-discrete, decLe, decLt}
 use lib.IntN.{pos, negsuc}
-use lib.ListN.{replicate}
+use lib.ListN.{length, replicate}
 use Rattle.kit.specs.Answer.{ok, refused, need, bind, pick, ×-dec, ⊎-dec, ¬-dec, all-dec}
 use Rattle.kit.specs.Integer.{int?, le?, lt?, between?}
 use Rattle.kit.specs.Range.{within?}
 use Rattle.kit.specs.Truth.{dec-by}
 use Rattle.mapset.specs.declared.System.{System}
+use Rattle.mapset.specs.Described.{end-to-end, described}
 use Rattle.mapset.specs.Decisions.{×₃-dec, ×₄-dec, end?, step?, multiple?, together?, limits?, dimension?, follows?}
-use Rattle.mapset.specs.Sound.{version?, printable?, written?, texts?, times?, model?, axis?, grid?, count?, system?, systems?, header?, run?}
+use Rattle.mapset.specs.Sound.{version?, printable?, written?, lines?, texts?, times?, model?, axis?, grid?, count?, system?, systems?, header?, run?}
 use Rattle.mapset.specs.MapSet.{Block, TecMap, OtherMap, MapSet}
 use Rattle.layout.specs.Layout.{exponent?}
 use Rattle.areas.specs.ValidDecided.{value?}
@@ -26,9 +27,9 @@ none = record { stands = false; stations = 0; satellites = 0 }
 abbrev spaces : ℕ → List ℕ
 spaces n = replicate n 32
 
--- one node, maps at the seconds given, and RMS maps
-abbrev pub a-set : (radius interval first last n : ℕ) → List TecMap → List OtherMap → MapSet
-a-set radius interval first last n tec rms =
+-- DESCRIPTION lines, one node, maps at the seconds given, and RMS maps
+abbrev pub a-set : (lines : List (List ℕ)) (radius interval first last n : ℕ) → List TecMap → List OtherMap → MapSet
+a-set lines radius interval first last n tec rms =
     record {
       header = record {
         version = record { tenths = 11; kind = 73; code = 6 };
@@ -42,10 +43,14 @@ a-set radius interval first last n tec rms =
         stations = record { stands = false; count = 0 };
         satellites = record { stands = false; count = 0 };
         systems = record { g = none; r = none; e = none; c = none; j = none; i = none; s = none };
+        descriptions = length lines;
       };
-      texts = record { program = spaces 20; agency = spaces 20; date = spaces 20; mapping = spaces 4; observables = spaces 60 };
+      texts = record { program = spaces 20; agency = spaces 20; date = spaces 20; mapping = spaces 4; observables = spaces 60; descriptions = described lines };
       maps = record { tec = tec; rms = rms; height = [] };
     }
+
+abbrev line-of : ℕ → List ℕ
+line-of b = replicate 60 b
 
 abbrev node : ℕ → List Block
 node v = record { exponent = negsuc 0; values = pos v ∷ [] } ∷ []
@@ -56,27 +61,27 @@ tec-at e v = record { epoch = e; blocks = node v }
 abbrev rms-of : ℕ → ℕ → OtherMap
 rms-of i v = record { of = i; blocks = node v }
 
--- the shared map is the later set's, with its RMS map; the earlier one's is gone; 3600 and 900 make 0
+-- the shared map is the later set's, with its RMS map; the earlier one's is gone; 3600 and 900 make 0; the one line of M's gives way to the T's and U's
 abbrev monday : MapSet
-monday = a-set 63710 3600 0 3600 2 (tec-at 0 1 ∷ tec-at 3600 2 ∷ []) (rms-of 1 11 ∷ rms-of 2 12 ∷ [])
+monday = a-set (line-of 77 ∷ []) 63710 3600 0 3600 2 (tec-at 0 1 ∷ tec-at 3600 2 ∷ []) (rms-of 1 11 ∷ rms-of 2 12 ∷ [])
 
 abbrev tuesday : MapSet
-tuesday = a-set 63710 900 3600 4500 2 (tec-at 3600 3 ∷ tec-at 4500 4 ∷ []) (rms-of 2 14 ∷ [])
+tuesday = a-set (line-of 84 ∷ line-of 85 ∷ []) 63710 900 3600 4500 2 (tec-at 3600 3 ∷ tec-at 4500 4 ∷ []) (rms-of 2 14 ∷ [])
 
-pub two-days : join monday tuesday ≡ ok (a-set 63710 0 0 4500 3 (tec-at 0 1 ∷ tec-at 3600 3 ∷ tec-at 4500 4 ∷ []) (rms-of 1 11 ∷ rms-of 3 14 ∷ []))
-unfolding join need pick ×-dec ⊎-dec ¬-dec all-dec ℕ-discrete decLe decLt int? le? lt? between? within? dec-by ×₃-dec ×₄-dec end? step? multiple? together? limits? dimension? follows? version? printable? written? texts? times? model? axis? grid? count? system? systems? header? run? exponent? value? block-rules? map-rules? rising? maps-rules? epoch-rules? formed? alike? meet? in-limits? J.axis? J.grid?
+pub two-days : join monday tuesday ≡ ok (a-set (line-of 84 ∷ line-of 85 ∷ []) 63710 0 0 4500 3 (tec-at 0 1 ∷ tec-at 3600 3 ∷ tec-at 4500 4 ∷ []) (rms-of 1 11 ∷ rms-of 3 14 ∷ []))
+unfolding join need pick ×-dec ⊎-dec ¬-dec all-dec ℕ-discrete decLe decLt int? le? lt? between? within? dec-by ×₃-dec ×₄-dec end? step? multiple? together? limits? dimension? follows? version? printable? written? lines? described end-to-end texts? times? model? axis? grid? count? system? systems? header? run? exponent? value? block-rules? map-rules? rising? maps-rules? epoch-rules? formed? alike? meet? in-limits? J.axis? J.grid?
 two-days = refl
 
 abbrev other-radius : MapSet
-other-radius = a-set 63711 3600 0 3600 2 (tec-at 0 1 ∷ tec-at 3600 2 ∷ []) []
+other-radius = a-set [] 63711 3600 0 3600 2 (tec-at 0 1 ∷ tec-at 3600 2 ∷ []) []
 
 abbrev late : MapSet
-late = a-set 63710 900 9000 9000 1 (tec-at 9000 5 ∷ []) []
+late = a-set [] 63710 900 9000 9000 1 (tec-at 9000 5 ∷ []) []
 
 pub leftwards-40 : bind (join other-radius tuesday) (λ ab. join ab late) ≡ refused 40
-unfolding bind join need pick ×-dec ⊎-dec ¬-dec all-dec ℕ-discrete decLe decLt int? le? lt? between? within? dec-by ×₃-dec ×₄-dec end? step? multiple? together? limits? dimension? follows? version? printable? written? texts? times? model? axis? grid? count? system? systems? header? run? exponent? value? block-rules? map-rules? rising? maps-rules? epoch-rules? formed? alike? meet? in-limits? J.axis? J.grid?
+unfolding bind join need pick ×-dec ⊎-dec ¬-dec all-dec ℕ-discrete decLe decLt int? le? lt? between? within? dec-by ×₃-dec ×₄-dec end? step? multiple? together? limits? dimension? follows? version? printable? written? lines? described end-to-end texts? times? model? axis? grid? count? system? systems? header? run? exponent? value? block-rules? map-rules? rising? maps-rules? epoch-rules? formed? alike? meet? in-limits? J.axis? J.grid?
 leftwards-40 = refl
 
 pub rightwards-41 : bind (join tuesday late) (λ bc. join other-radius bc) ≡ refused 41
-unfolding bind join need pick ×-dec ⊎-dec ¬-dec all-dec ℕ-discrete decLe decLt int? le? lt? between? within? dec-by ×₃-dec ×₄-dec end? step? multiple? together? limits? dimension? follows? version? printable? written? texts? times? model? axis? grid? count? system? systems? header? run? exponent? value? block-rules? map-rules? rising? maps-rules? epoch-rules? formed? alike? meet? in-limits? J.axis? J.grid?
+unfolding bind join need pick ×-dec ⊎-dec ¬-dec all-dec ℕ-discrete decLe decLt int? le? lt? between? within? dec-by ×₃-dec ×₄-dec end? step? multiple? together? limits? dimension? follows? version? printable? written? lines? described end-to-end texts? times? model? axis? grid? count? system? systems? header? run? exponent? value? block-rules? map-rules? rising? maps-rules? epoch-rules? formed? alike? meet? in-limits? J.axis? J.grid?
 rightwards-41 = refl

@@ -11,8 +11,9 @@ use Rattle.kit.specs.Range.{within?}
 use Rattle.kit.specs.Truth.{truth, dec-by}
 use Rattle.mapset.specs.declared.Axis.{Axis}
 use Rattle.mapset.specs.declared.Grid.{Grid}
+use Rattle.mapset.specs.Described.{end-to-end, described}
 use Rattle.mapset.specs.Decisions.{×₃-dec, ×₄-dec, end?, step?, multiple?, together?, limits?, dimension?, follows?}
-use Rattle.mapset.specs.Sound.{version?, printable?, written?, texts?, times?, model?, axis?, grid?, count?, system?, systems?, header?, run?}
+use Rattle.mapset.specs.Sound.{version?, printable?, written?, lines?, texts?, times?, model?, axis?, grid?, count?, system?, systems?, header?, run?}
 use Rattle.mapset.specs.MapSet.{MapSet}
 use Rattle.layout.specs.Layout.{exponent?}
 use Rattle.areas.specs.ValidDecided.{value?}
@@ -33,11 +34,11 @@ unfolding truth in-limits? ×-dec decLe
 limits-at = (refl, refl, refl, refl)
 
 abbrev one-map : (radius second n : ℕ) → MapSet
-one-map radius second n = a-set radius 0 second second n (record { epoch = second; blocks = record { exponent = pos 0; values = pos 1 ∷ [] } ∷ [] } ∷ []) []
+one-map radius second n = a-set [] radius 0 second second n (record { epoch = second; blocks = record { exponent = pos 0; values = pos 1 ∷ [] } ∷ [] } ∷ []) []
 
 -- a set that says two maps and has one, with another radius and another epoch; the same with one map; the same radius
 pub refusals-in-order : (join (one-map 63710 0 1) (one-map 63711 900 2) ≡ refused 31)
     × (join (one-map 63710 0 1) (one-map 63711 900 1) ≡ refused 40)
     × (join (one-map 63710 0 1) (one-map 63710 900 1) ≡ refused 41)
-unfolding join need pick ×-dec ⊎-dec ¬-dec all-dec ℕ-discrete decLe decLt int? le? lt? between? within? dec-by ×₃-dec ×₄-dec end? step? multiple? together? limits? dimension? follows? version? printable? written? texts? times? model? axis? grid? count? system? systems? header? run? exponent? value? block-rules? map-rules? rising? maps-rules? epoch-rules? formed? alike? meet? in-limits? J.axis? J.grid?
+unfolding join need pick ×-dec ⊎-dec ¬-dec all-dec ℕ-discrete decLe decLt int? le? lt? between? within? dec-by ×₃-dec ×₄-dec end? step? multiple? together? limits? dimension? follows? version? printable? written? lines? described end-to-end texts? times? model? axis? grid? count? system? systems? header? run? exponent? value? block-rules? map-rules? rising? maps-rules? epoch-rules? formed? alike? meet? in-limits? J.axis? J.grid?
 refusals-in-order = (refl, refl, refl)

@@ -3,7 +3,7 @@ use mathlib.Core.Option.{Option, none, some}
 use Prim.Native.Nat.{ℕ}
 use Rattle.kit.specs.Answer.{Answer, ok, refused, need, bind}
 use Rattle.mapset.specs.declared.Header.{Header}
-use Rattle.mapset.specs.declared.Texts.{Texts}
+use Rattle.mapset.specs.Described.{FullTexts}
 use Rattle.mapset.specs.MapSet.{MapSet}
 use Rattle.mapset.specs.Areas.{Areas}
 use Rattle.mapset.specs.SoundDecided.{sound?}
@@ -20,10 +20,10 @@ use Rattle.areas.specs.Formed.{Formed}
 -- a header record, its texts, and six areas that may be longer than needed
 pub record Lent : Type 0 where
   pub header : Header
-  pub texts : Texts
+  pub texts : FullTexts
   pub areas : Areas
 
-abbrev pub lent-of : Header → Texts → Areas → Lent
+abbrev pub lent-of : Header → FullTexts → Areas → Lent
 lent-of h t a = record { header = h; texts = t; areas = a }
 
 -- the map set in front of areas, and behind it what was there

@@ -41,6 +41,7 @@ header-from a b =
       stations = b .stations;
       satellites = b .satellites;
       systems = b .systems;
+      descriptions = b .descriptions;
     }
 
 abbrev pub header : (earlier later : Header) → Header

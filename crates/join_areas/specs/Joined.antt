@@ -12,7 +12,7 @@ use Rattle.mapset.specs.declared.Kind.{Kind}
 use Rattle.mapset.specs.declared.Kind.the-variants.{Rms, Height}
 use Rattle.mapset.specs.declared.Header.{Header}
 use Rattle.mapset.specs.declared.Times.{Times}
-use Rattle.mapset.specs.declared.Texts.{Texts}
+use Rattle.mapset.specs.Described.{FullTexts}
 use Rattle.mapset.specs.Grid.{Limits, columns}
 use Rattle.mapset.specs.Areas.{Areas, nowhere?}
 use Rattle.read_needs.specs.Needs.{lengths, first-short, needs-of, pairs}
@@ -134,7 +134,7 @@ pub record Outcome : Type 0 where
   pub areas : Areas
 
 -- of the code's answer: the joined set has the later texts t
-abbrev pub comes : Joining → Texts → Areas → Outcome
+abbrev pub comes : Joining → FullTexts → Areas → Outcome
 comes (Done h) t l = record { told = ok (lent-of h t l); areas = l }
 comes (Refused w) t l = record { told = refused (told-why w); areas = l }
 

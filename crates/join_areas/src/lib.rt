@@ -3,6 +3,7 @@ ghost use mathlib.Core.Path.{_≡_};
 ghost use Prim.Native.Nat.{_≤_};
 ghost use lib.ListN.{length, take};
 ghost use Rattle.kit.specs.Lists.{front};
+ghost use Rattle.mapset.specs.Described.{full};
 ghost use Rattle.mapset.specs.Areas.{six};
 ghost use Rattle.join.specs.Into.{lent-of, join-into};
 ghost use Rattle.join_areas.specs.Joined.{some-of, kinds-left, KindFits, kind-beside, Fillable, all-beside, Ready, puts, stored, Said, comes, came};
@@ -212,6 +213,7 @@ fn store(
 fn judged(
     early: Header,
     etexts: Texts,
+    edescriptions: &[u8],
     atec: &[i32],
     arms: &[i32],
     aheight: &[i32],
@@ -220,6 +222,7 @@ fn judged(
     amarks: &[u8],
     late: Header,
     ltexts: Texts,
+    ldescriptions: &[u8],
     btec: &[i32],
     brms: &[i32],
     bheight: &[i32],
@@ -227,11 +230,12 @@ fn judged(
     bepochs: &[u64],
     bmarks: &[u8],
 ) -> Verdict
-    ensures { λ r. ⌜ Said (lent-of early etexts (six (now (atec .entry)) (now (arms .entry)) (now (aheight .entry)) (now (aexponents .entry)) (now (aepochs .entry)) (now (amarks .entry)))) (lent-of late ltexts (six (now (btec .entry)) (now (brms .entry)) (now (bheight .entry)) (now (bexponents .entry)) (now (bepochs .entry)) (now (bmarks .entry)))) r ⌝ }
+    ensures { λ r. ⌜ Said (lent-of early (full etexts (now (edescriptions .entry))) (six (now (atec .entry)) (now (arms .entry)) (now (aheight .entry)) (now (aexponents .entry)) (now (aepochs .entry)) (now (amarks .entry)))) (lent-of late (full ltexts (now (ldescriptions .entry))) (six (now (btec .entry)) (now (brms .entry)) (now (bheight .entry)) (now (bexponents .entry)) (now (bepochs .entry)) (now (bmarks .entry)))) r ⌝ }
 {
     if !valid::valid(
         early,
         etexts,
+        edescriptions,
         atec,
         arms,
         aheight,
@@ -244,6 +248,7 @@ fn judged(
     if !valid::valid(
         late,
         ltexts,
+        ldescriptions,
         btec,
         brms,
         bheight,
@@ -269,6 +274,7 @@ fn judged(
 pub fn join_sets(
     early: Header,
     etexts: Texts,
+    edescriptions: &[u8],
     atec: &[i32],
     arms: &[i32],
     aheight: &[i32],
@@ -277,6 +283,7 @@ pub fn join_sets(
     amarks: &[u8],
     late: Header,
     ltexts: Texts,
+    ldescriptions: &[u8],
     btec: &[i32],
     brms: &[i32],
     bheight: &[i32],
@@ -290,12 +297,13 @@ pub fn join_sets(
     epochs: &mut [u64],
     marks: &mut [u8],
 ) -> Joining
-    ensures { λ r. ⌜ comes r ltexts (six (now (tec .exit)) (now (rms .exit)) (now (height .exit)) (now (exponents .exit)) (now (epochs .exit)) (now (marks .exit)))
-        ≡ came (join-into (lent-of early etexts (six (now (atec .entry)) (now (arms .entry)) (now (aheight .entry)) (now (aexponents .entry)) (now (aepochs .entry)) (now (amarks .entry)))) (lent-of late ltexts (six (now (btec .entry)) (now (brms .entry)) (now (bheight .entry)) (now (bexponents .entry)) (now (bepochs .entry)) (now (bmarks .entry)))) (six (now (tec .entry)) (now (rms .entry)) (now (height .entry)) (now (exponents .entry)) (now (epochs .entry)) (now (marks .entry)))) (six (now (tec .entry)) (now (rms .entry)) (now (height .entry)) (now (exponents .entry)) (now (epochs .entry)) (now (marks .entry))) ⌝ }
+    ensures { λ r. ⌜ comes r (full ltexts (now (ldescriptions .entry))) (six (now (tec .exit)) (now (rms .exit)) (now (height .exit)) (now (exponents .exit)) (now (epochs .exit)) (now (marks .exit)))
+        ≡ came (join-into (lent-of early (full etexts (now (edescriptions .entry))) (six (now (atec .entry)) (now (arms .entry)) (now (aheight .entry)) (now (aexponents .entry)) (now (aepochs .entry)) (now (amarks .entry)))) (lent-of late (full ltexts (now (ldescriptions .entry))) (six (now (btec .entry)) (now (brms .entry)) (now (bheight .entry)) (now (bexponents .entry)) (now (bepochs .entry)) (now (bmarks .entry)))) (six (now (tec .entry)) (now (rms .entry)) (now (height .entry)) (now (exponents .entry)) (now (epochs .entry)) (now (marks .entry)))) (six (now (tec .entry)) (now (rms .entry)) (now (height .entry)) (now (exponents .entry)) (now (epochs .entry)) (now (marks .entry))) ⌝ }
 {
     match judged(
         early,
         etexts,
+        edescriptions,
         atec,
         arms,
         aheight,
@@ -304,6 +312,7 @@ pub fn join_sets(
         amarks,
         late,
         ltexts,
+        ldescriptions,
         btec,
         brms,
         bheight,

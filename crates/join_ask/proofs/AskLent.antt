@@ -15,7 +15,7 @@ use Rattle.mapset.specs.Areas.{Areas, Present, nowhere?, Sound, values, blocks}
 use Rattle.mapset.specs.declared.Kind.{Kind}
 use Rattle.mapset.specs.declared.Kind.the-variants.{Tec, Rms, Height}
 use Rattle.mapset.specs.declared.Header.{Header}
-use Rattle.mapset.specs.declared.Texts.{Texts}
+use Rattle.mapset.specs.Described.{FullTexts}
 use Rattle.mapset.specs.SoundDecided.{marked}
 use Rattle.areas.specs.Flat.{areas-of, areas}
 use Rattle.areas.specs.Stores.{fronts}
@@ -41,7 +41,7 @@ use Rattle.join_ask.proofs.Parts.{Stands, asked-of-whole}
 use Rattle.join_ask.proofs.AskJoined.{asking, formed-sound, ask-late, ask-early}
 
 -- ---- only what is needed is looked at
-module _ (h : Header) (t : Texts) (a : Areas) (v : Valid h t a) where
+module _ (h : Header) (t : FullTexts) (a : Areas) (v : Valid h t a) where
   abbrev n : ℕ
   n = h .times .maps
 

@@ -11,7 +11,7 @@ use Rattle.mapset.specs.Grid.{layers, rows, columns}
 use Rattle.mapset.specs.Areas.{Areas, Sound}
 use Rattle.mapset.specs.declared.Grid.{Grid}
 use Rattle.mapset.specs.declared.Header.{Header}
-use Rattle.mapset.specs.declared.Texts.{Texts}
+use Rattle.mapset.specs.Described.{FullTexts}
 use Rattle.ask_cells.specs.Place.{InCell}
 use Rattle.ask_cells.specs.declared.Cell.{Cell}
 use Rattle.ask_spans.specs.Time.{epoch, Uses}
@@ -26,7 +26,7 @@ use Rattle.join_ask.proofs.Epochs.{moved}
 
 abbrev pub with-grid : Grid → Header → Header
 with-grid g h =
-    record { version = h .version; times = h .times; model = h .model; grid = g; stations = h .stations; satellites = h .satellites; systems = h .systems }
+    record { version = h .version; times = h .times; model = h .model; grid = g; stations = h .stations; satellites = h .satellites; systems = h .systems; descriptions = h .descriptions }
 
 -- ---- the nodes d maps later
 spread-later : (d : ℕ) (s : Shares) (c e : Cell) → map (later d) (spread s c e) ≡ spread (moved d s) c e
@@ -92,7 +92,7 @@ cells-later method g lat lon t es fs d s c e p q x =
     both (inr z) (inr w) = inr (z .0, subst (λ y. CellAt method g lat lon t y e) w (z .1))
 
 -- ---- the theorem
-module _ (g : Grid) (part whole : Header) (t u : Texts) (a b : Areas) (kind method layer : ℕ) (lat lon : ℤ) (second N d : ℕ) where
+module _ (g : Grid) (part whole : Header) (t u : FullTexts) (a b : Areas) (kind method layer : ℕ) (lat lon : ℤ) (second N d : ℕ) where
   abbrev p : Question
   p = question (with-grid g part) t a kind method layer lat lon second
 

@@ -77,6 +77,7 @@ pub fn joined_header(early: Times, late: Header) -> Header
     let stations = late.stations;
     let satellites = late.satellites;
     let systems = late.systems;
+    let descriptions = late.descriptions;
     let times = Times {
         first: early.first,
         last: late.times.last,
@@ -91,5 +92,6 @@ pub fn joined_header(early: Times, late: Header) -> Header
         stations,
         satellites,
         systems,
+        descriptions,
     }
 }

@@ -52,6 +52,8 @@ pub const VERSION: usize = 0;
 
 pub const PROGRAM: usize = 1;
 
+pub const DESCRIPTION: usize = 2;
+
 pub const COMMENT: usize = 3;
 
 pub const FIRST_EPOCH: usize = 4;

@@ -78,7 +78,7 @@ content i = getD contents i a-system
 -- columns 1 to 60
 abbrev pub layout : Label → List Item
 layout version = F 8 ∷ X 12 ∷ A 1 ∷ U 19 ∷ A 3 ∷ U 17 ∷ []
-layout description = U 60 ∷ []
+layout description = A 60 ∷ []
 layout comment = U 60 ∷ []
 layout (head i) = items (content i)
 layout system = items a-system

@@ -15,7 +15,8 @@ use Rattle.mapset.specs.declared.Kind.the-variants.{Tec, Rms, Height}
 use Rattle.mapset.specs.declared.Axis.{Axis}
 use Rattle.mapset.specs.declared.Header.{Header}
 use Rattle.mapset.specs.Grid.{Line, layers, rows, columns, Limits}
-use Rattle.mapset.specs.Header.{Content, count, tenths, epoch as an-epoch, axis, program, mapping, observables, system as a-system, Said, number, along, words, counts, Accepts, says, VersionRules, Fillers, Dimension}
+use Rattle.mapset.specs.Described.{lines-in}
+use Rattle.mapset.specs.Header.{Content, count, tenths, epoch as an-epoch, axis, program, mapping, observables, system as a-system, Said, number, along, words, counts, Accepts, says, VersionRules, Fillers, Dimension, DescriptionRules}
 use Rattle.mapset.specs.Areas.{Follows}
 use Rattle.mapset.specs.MapSet.{Block, TecMap, OtherMap, Maps, MapSet}
 use Rattle.layout.specs.Text.{Ended, Laid}
@@ -156,6 +157,10 @@ pub data Writes (h : Header) : Force → Left → List (List ℕ) → Type 0 whe
 abbrev pub Slots : Type 0
 Slots = List (Option Said)
 
+-- the columns 1 to 60 of DESCRIPTION lines
+abbrev pub Lines : Type 0
+Lines = List (List ℕ)
+
 -- `Shows k v s`: the values v of a record that holds k say s
 pub data Shows : (k : Content) → Vals (items k) → Said → Type 0 where
   s-count : {low high n : ℕ} → Shows (count low high) (pos n, tt) (number n)
@@ -178,35 +183,39 @@ abbrev pub mode : Bool → Mode
 mode true = aux
 mode false = plain
 
--- `Heads m a e left rs`: with the exponent e in force and the records `left` still to be written, rs write those, in any order, and then the maps
-pub data Heads (m : MapSet) : Mode → ℤ → Slots → List (List ℕ) → Type 0 where
-  h-description : {e : ℤ} {left : Slots} {r : List ℕ} {rs : List (List ℕ)} → Rec description tt r → Heads m plain e left rs → Heads m plain e left (r ∷ rs)
-  h-comment : {e : ℤ} {left : Slots} {r : List ℕ} {rs : List (List ℕ)} → Rec comment tt r → Heads m plain e left rs → Heads m plain e left (r ∷ rs)
-  h-exponent : {e e′ : ℤ} {left : Slots} {r : List ℕ} {rs : List (List ℕ)}
-      → Rec exponent (e′, tt) r → Exponent e′ → Heads m plain e′ left rs → Heads m plain e left (r ∷ rs)
-  h-field : {e : ℤ} (i : ℕ) {s : Said} (v : Vals (items (content i))) {left : Slots} {r : List ℕ} {rs : List (List ℕ)}
+-- `Heads m a e left ds rs`: with the exponent e in force, the records `left` and the DESCRIPTION lines ds still to be written, rs write those, the
+-- records in any order and the lines in theirs, and then the maps
+pub data Heads (m : MapSet) : Mode → ℤ → Slots → Lines → List (List ℕ) → Type 0 where
+  h-description : {e : ℤ} {left : Slots} {d : List ℕ} {ds : Lines} {r : List ℕ} {rs : List (List ℕ)}
+      → Rec description (d, tt) r → Heads m plain e left ds rs → Heads m plain e left (d ∷ ds) (r ∷ rs)
+  h-comment : {e : ℤ} {left : Slots} {ds : Lines} {r : List ℕ} {rs : List (List ℕ)} → Rec comment tt r → Heads m plain e left ds rs → Heads m plain e left ds (r ∷ rs)
+  h-exponent : {e e′ : ℤ} {left : Slots} {ds : Lines} {r : List ℕ} {rs : List (List ℕ)}
+      → Rec exponent (e′, tt) r → Exponent e′ → Heads m plain e′ left ds rs → Heads m plain e left ds (r ∷ rs)
+  h-field : {e : ℤ} (i : ℕ) {s : Said} (v : Vals (items (content i))) {left : Slots} {ds : Lines} {r : List ℕ} {rs : List (List ℕ)}
       → i < systems → getD left i none ≡ some s → Rec (head i) v r → Shows (content i) v s → Accepts (content i) s
-      → Heads m plain e (set left i none) rs → Heads m plain e left (r ∷ rs)
+      → Heads m plain e (set left i none) ds rs → Heads m plain e left ds (r ∷ rs)
   -- SYS once per letter
-  h-system : {e : ℤ} (j a b : ℕ) {left : Slots} {r : List ℕ} {rs : List (List ℕ)}
+  h-system : {e : ℤ} (j a b : ℕ) {left : Slots} {ds : Lines} {r : List ℕ} {rs : List (List ℕ)}
       → j < length letters → getD left (systems + j) none ≡ some (counts a b) → Rec system (getD letters j 0 ∷ [], (pos a, (pos b, tt))) r
-      → Accepts a-system (counts a b) → Heads m plain e (set left (systems + j) none) rs → Heads m plain e left (r ∷ rs)
+      → Accepts a-system (counts a b) → Heads m plain e (set left (systems + j) none) ds rs → Heads m plain e left ds (r ∷ rs)
   -- aux blocks: lines between are skipped
-  h-aux : {e : ℤ} {left : Slots} {r : List ℕ} {rs : List (List ℕ)} → Rec aux-start tt r → Heads m aux e left rs → Heads m plain e left (r ∷ rs)
-  h-skip : {e : ℤ} {left : Slots} {r : List ℕ} {rs : List (List ℕ)} → ¬ (drop 60 r ≡ name aux-end) → Heads m aux e left rs → Heads m aux e left (r ∷ rs)
-  h-back : {e : ℤ} {left : Slots} {r : List ℕ} {rs : List (List ℕ)} → Rec aux-end tt r → Heads m plain e left rs → Heads m aux e left (r ∷ rs)
+  h-aux : {e : ℤ} {left : Slots} {ds : Lines} {r : List ℕ} {rs : List (List ℕ)} → Rec aux-start tt r → Heads m aux e left ds rs → Heads m plain e left ds (r ∷ rs)
+  h-skip : {e : ℤ} {left : Slots} {ds : Lines} {r : List ℕ} {rs : List (List ℕ)} → ¬ (drop 60 r ≡ name aux-end) → Heads m aux e left ds rs → Heads m aux e left ds (r ∷ rs)
+  h-back : {e : ℤ} {left : Slots} {ds : Lines} {r : List ℕ} {rs : List (List ℕ)} → Rec aux-end tt r → Heads m plain e left ds rs → Heads m aux e left ds (r ∷ rs)
+  -- END OF HEADER needs no line left
   h-end : {e : ℤ} {left : Slots} {r : List ℕ} {rs : List (List ℕ)}
       → Rec header-end tt r → All (λ o. o ≡ none) left → Fillers (m .header)
       → Dimension (m .header .model .dimension) (m .header .grid .heights) → Limits (m .header .times .maps) (m .header .grid)
-      → Writes (m .header) (begins e) (maps (m .maps)) rs → Heads m plain e left (r ∷ rs)
+      → Writes (m .header) (begins e) (maps (m .maps)) rs → Heads m plain e left [] (r ∷ rs)
 
 -- ---- the text
 
--- the version record comes first; the exponent starts at -1
+-- the version record comes first; the exponent starts at -1; the DESCRIPTION lines are those in the texts
 pub data Rows (m : MapSet) : List (List ℕ) → Type 0 where
   rows-of : {r : List ℕ} {rs : List (List ℕ)}
-      → VersionRules (m .header .version) → Rec version (pos (m .header .version .tenths), (73 ∷ [], (getD codes (m .header .version .code) [], tt))) r
-      → Heads m plain (negsuc 0) (says (m .header) (m .texts)) rs → Rows m (r ∷ rs)
+      → VersionRules (m .header .version) → DescriptionRules (m .header .descriptions) (m .texts .descriptions)
+      → Rec version (pos (m .header .version .tenths), (73 ∷ [], (getD codes (m .header .version .code) [], tt))) r
+      → Heads m plain (negsuc 0) (says (m .header) (m .texts)) (lines-in (m .header .descriptions) (m .texts .descriptions)) rs → Rows m (r ∷ rs)
 
 -- `Makes m t`: the map set m makes the text t
 pub data Makes (m : MapSet) : List ℕ → Type 0 where

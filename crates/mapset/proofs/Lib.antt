@@ -1,2 +1,3 @@
+pub mod DescribedLaws
 pub mod JudgedLaws
 pub mod SoundLaws

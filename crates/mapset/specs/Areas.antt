@@ -12,7 +12,7 @@ use Rattle.mapset.specs.Header.{HeaderRules}
 use Rattle.mapset.specs.declared.Kind.{Kind}
 use Rattle.mapset.specs.declared.Kind.the-variants.{Tec, Rms, Height}
 use Rattle.mapset.specs.declared.Header.{Header}
-use Rattle.mapset.specs.declared.Texts.{Texts}
+use Rattle.mapset.specs.Described.{FullTexts}
 
 -- values map by map, layer, row, column; exponents per block, the three kinds one after the other; epochs; marks
 pub record Areas : Type 0 where
@@ -82,7 +82,7 @@ EpochRules h [] = ⊥
 EpochRules h (e ∷ es) = (e ≡ h .times .first) × Run (h .times .interval) (h .times .last) e es
 
 -- ---- header, area lengths, epochs and marks: where one of these does not hold, writing and asking answer 31
-pub record Sound (h : Header) (t : Texts) (a : Areas) : Type 0 where
+pub record Sound (h : Header) (t : FullTexts) (a : Areas) : Type 0 where
   pub header : HeaderRules h t
   pub room : Room h (take (h .times .maps) (a .marks)) a
   pub epochs : EpochRules h (take (h .times .maps) (a .epochs))

@@ -4,8 +4,8 @@ use mathlib.Core.Bool.{Bool, true, false}
 use mathlib.Core.Logic.{_⊎_}
 use mathlib.Core.Option.{Option, none, some}
 use mathlib.Core.List.{List, [], _∷_}
-use Prim.Native.Nat.{ℕ, _<_}
-use lib.ListN.{length}
+use Prim.Native.Nat.{ℕ, _*_, _≤_, _<_}
+use lib.ListN.{length, drop}
 use lib.IntN.{pos}
 use Rattle.kit.specs.Answer.{All}
 use Rattle.kit.specs.Range.{Within}
@@ -16,7 +16,7 @@ use Rattle.mapset.specs.declared.Version.{Version}
 use Rattle.mapset.specs.declared.Counted.{Counted}
 use Rattle.mapset.specs.declared.System.{System}
 use Rattle.mapset.specs.declared.Header.{Header}
-use Rattle.mapset.specs.declared.Texts.{Texts}
+use Rattle.mapset.specs.Described.{most-lines, line-width, lines-width, FullTexts}
 
 -- what a record may hold: a whole number or tenths in a range, an epoch, an axis, texts, or the two counts of a system
 pub data Content : Type 0 where
@@ -89,7 +89,7 @@ abbrev pub of-system : System → Option Said
 of-system s = if-stands (s .stands) (counts (s .stations) (s .satellites))
 
 -- what each record of `contents` says in a header
-abbrev pub says : Header → Texts → List (Option Said)
+abbrev pub says : Header → FullTexts → List (Option Said)
 says h t =
     some (words (t .program ∷ t .agency ∷ t .date ∷ []))
     ∷ some (number (h .times .first))
@@ -154,10 +154,17 @@ pub data Stand : List Content → List (Option Said) → Type 0 where
   stand-some : {k : Content} {s : Said} {ks : List Content} {ss : List (Option Said)} → Accepts k s → Stand ks ss → Stand (k ∷ ks) (some s ∷ ss)
   stand-none : {k : Content} {ks : List Content} {ss : List (Option Said)} → Stand ks ss → Stand (k ∷ ks) (none ∷ ss)
 
+-- the DESCRIPTION lines: at most 20, in 1,200 printable bytes; what stands behind the last line is blank, so one map set has one form
+pub record DescriptionRules (n : ℕ) (bs : List ℕ) : Type 0 where
+  pub few : n ≤ most-lines
+  pub written : Written lines-width bs
+  pub blank : All (λ b. b ≡ 32) (drop (line-width * n) bs)
+
 -- a header that some text can have
-pub record HeaderRules (h : Header) (t : Texts) : Type 0 where
+pub record HeaderRules (h : Header) (t : FullTexts) : Type 0 where
   pub version : VersionRules (h .version)
   pub records : Stand contents (says h t)
   pub fillers : Fillers h
   pub dimension : Dimension (h .model .dimension) (h .grid .heights)
   pub limits : Limits (h .times .maps) (h .grid)
+  pub descriptions : DescriptionRules (h .descriptions) (t .descriptions)

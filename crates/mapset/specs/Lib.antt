@@ -1,4 +1,5 @@
 pub mod Grid
+pub mod Described
 pub mod Header
 pub mod MapSet
 pub mod Areas

@@ -3,7 +3,7 @@ use mathlib.Core.List.{List}
 use Prim.Native.Nat.{ℕ}
 use lib.IntN.{ℤ}
 use Rattle.mapset.specs.declared.Header.{Header}
-use Rattle.mapset.specs.declared.Texts.{Texts}
+use Rattle.mapset.specs.Described.{FullTexts}
 
 -- the values of a row of nodes, and the exponent they stand under
 pub record Block : Type 0 where
@@ -26,5 +26,5 @@ pub record Maps : Type 0 where
 
 pub record MapSet : Type 0 where
   pub header : Header
-  pub texts : Texts
+  pub texts : FullTexts
   pub maps : Maps

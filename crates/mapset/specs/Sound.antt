@@ -4,7 +4,7 @@ use mathlib.Core.Bool.{Bool, true, false}
 use mathlib.Core.List.{List, [], _∷_}
 use Prim.Native.Nat.{ℕ, _*_, _≤_, _<_}
 use native.Mathlib.Decide.{ℕ-discrete, decLe, decLt}
-use lib.ListN.{length, take}
+use lib.ListN.{length, take, drop}
 use Rattle.kit.specs.Answer.{All, all-dec, ×-dec}
 use Rattle.kit.specs.Range.{Within, within?, Printable}
 use Rattle.kit.specs.Truth.{dec-by}
@@ -22,7 +22,7 @@ use Rattle.mapset.specs.declared.Model.{Model}
 use Rattle.mapset.specs.declared.System.{System}
 use Rattle.mapset.specs.declared.Systems.{Systems}
 use Rattle.mapset.specs.declared.Header.{Header}
-use Rattle.mapset.specs.declared.Texts.{Texts}
+use Rattle.mapset.specs.Described.{most-lines, line-width, lines-width, FullTexts}
 use Rattle.mapset.specs.declared.Lengths.{Lengths}
 
 -- ---- the groups of a header
@@ -30,8 +30,15 @@ use Rattle.mapset.specs.declared.Lengths.{Lengths}
 abbrev pub VersionSays : Version → Type 0
 VersionSays v = Within 10 11 (v .tenths) × ((v .kind ≡ 73) × TakesCode (v .tenths) (v .code))
 
-abbrev pub TextsSay : Texts → Type 0
-TextsSay t = Written 20 (t .program) × (Written 20 (t .agency) × (Written 20 (t .date) × (Written 4 (t .mapping) × Written 60 (t .observables))))
+-- the bytes of n DESCRIPTION lines
+abbrev pub LinesSay : ℕ → List ℕ → Type 0
+LinesSay n bs = (n ≤ most-lines) × (Written lines-width bs × All (λ b. b ≡ 32) (drop (line-width * n) bs))
+
+-- with n DESCRIPTION lines
+abbrev pub TextsSay : ℕ → FullTexts → Type 0
+TextsSay n t =
+    Written 20 (t .program) × (Written 20 (t .agency) × (Written 20 (t .date) × (Written 4 (t .mapping) × (Written 60 (t .observables)
+    × LinesSay n (t .descriptions)))))
 
 abbrev pub TimesSay : Times → Type 0
 TimesSay t = (t .first < end) × ((t .last < end) × (Within 0 21600 (t .interval) × Within 1 300 (t .maps)))
@@ -53,9 +60,9 @@ SystemSays s = Count (s .stands) (s .stations) × Count (s .stands) (s .satellit
 abbrev pub SystemsSay : Systems → Type 0
 SystemsSay s = SystemSays (s .g) × (SystemSays (s .r) × (SystemSays (s .e) × (SystemSays (s .c) × (SystemSays (s .j) × (SystemSays (s .i) × SystemSays (s .s))))))
 
-abbrev pub HeaderSays : Header → Texts → Type 0
+abbrev pub HeaderSays : Header → FullTexts → Type 0
 HeaderSays h t =
-    VersionSays (h .version) × (TextsSay t × (TimesSay (h .times) × (ModelSays (h .model) × (GridSays (h .grid)
+    VersionSays (h .version) × (TextsSay (h .descriptions) t × (TimesSay (h .times) × (ModelSays (h .model) × (GridSays (h .grid)
     × (Count (h .stations .stands) (h .stations .count) × (Count (h .satellites .stands) (h .satellites .count)
     × (SystemsSay (h .systems) × (Dimension (h .model .dimension) (h .grid .heights) × Limits (h .times .maps) (h .grid)))))))))
 
@@ -69,9 +76,13 @@ printable? t = all-dec (within? 32 126) t
 unfoldable pub written? : (w : ℕ) (t : List ℕ) → Dec (Written w t)
 written? w t = ×-dec (ℕ-discrete (length t) w) (printable? t)
 
-unfoldable pub texts? : (t : Texts) → Dec (TextsSay t)
-texts? t =
-    ×-dec (written? 20 (t .program)) (×-dec (written? 20 (t .agency)) (×-dec (written? 20 (t .date)) (×-dec (written? 4 (t .mapping)) (written? 60 (t .observables)))))
+unfoldable pub lines? : (n : ℕ) (bs : List ℕ) → Dec (LinesSay n bs)
+lines? n bs = ×-dec (decLe n most-lines) (×-dec (written? lines-width bs) (all-dec (λ b. ℕ-discrete b 32) (drop (line-width * n) bs)))
+
+unfoldable pub texts? : (n : ℕ) (t : FullTexts) → Dec (TextsSay n t)
+texts? n t =
+    ×-dec (written? 20 (t .program)) (×-dec (written? 20 (t .agency)) (×-dec (written? 20 (t .date)) (×-dec (written? 4 (t .mapping)) (×-dec (written? 60 (t .observables))
+    (lines? n (t .descriptions))))))
 
 unfoldable pub times? : (t : Times) → Dec (TimesSay t)
 times? t = ×-dec (decLt (t .first) end) (×-dec (decLt (t .last) end) (×-dec (within? 0 21600 (t .interval)) (within? 1 300 (t .maps))))
@@ -99,9 +110,9 @@ unfoldable pub systems? : (s : Systems) → Dec (SystemsSay s)
 systems? s =
     ×-dec (system? (s .g)) (×-dec (system? (s .r)) (×-dec (system? (s .e)) (×-dec (system? (s .c)) (×-dec (system? (s .j)) (×-dec (system? (s .i)) (system? (s .s)))))))
 
-unfoldable pub header? : (h : Header) (t : Texts) → Dec (HeaderSays h t)
+unfoldable pub header? : (h : Header) (t : FullTexts) → Dec (HeaderSays h t)
 header? h t =
-    ×-dec (version? (h .version)) (×-dec (texts? t) (×-dec (times? (h .times)) (×-dec (model? (h .model)) (×-dec (grid? (h .grid))
+    ×-dec (version? (h .version)) (×-dec (texts? (h .descriptions) t) (×-dec (times? (h .times)) (×-dec (model? (h .model)) (×-dec (grid? (h .grid))
     (×-dec (count? (h .stations .stands) (h .stations .count)) (×-dec (count? (h .satellites .stands) (h .satellites .count))
     (×-dec (systems? (h .systems)) (×-dec (dimension? (h .model .dimension) (h .grid .heights)) (limits? (h .times .maps) (h .grid))))))))))
 
@@ -151,13 +162,13 @@ lengths? h ms l =
 abbrev pub lengths : Areas → Lengths
 lengths a = record { tec = length (a .tec); rms = length (a .rms); height = length (a .height); exponents = length (a .exponents) }
 
-abbrev pub SoundSays : Header → Texts → Areas → Type 0
+abbrev pub SoundSays : Header → FullTexts → Areas → Type 0
 SoundSays h t a =
     HeaderSays h t × ((h .times .maps ≤ length (a .epochs)) × ((h .times .maps ≤ length (a .marks))
     × (EpochsSay (h .times) (take (h .times .maps) (a .epochs)) × (All (Within 0 3) (take (h .times .maps) (a .marks))
     × LengthsSay h (take (h .times .maps) (a .marks)) (lengths a)))))
 
-unfoldable pub sound-says? : (h : Header) (t : Texts) (a : Areas) → Dec (SoundSays h t a)
+unfoldable pub sound-says? : (h : Header) (t : FullTexts) (a : Areas) → Dec (SoundSays h t a)
 sound-says? h t a =
     ×-dec (header? h t) (×-dec (decLe (h .times .maps) (length (a .epochs))) (×-dec (decLe (h .times .maps) (length (a .marks)))
     (×-dec (epochs? (h .times) (take (h .times .maps) (a .epochs))) (×-dec (marks? (take (h .times .maps) (a .marks)))

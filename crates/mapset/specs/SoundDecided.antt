@@ -16,7 +16,7 @@ use Rattle.mapset.specs.Areas.{Areas, EpochRules, Sound, Run, Present, N
 use Rattle.mapset.specs.Sound.{Count, HeaderSays, EpochsSay, SoundSays, sound-says?}
 use Rattle.mapset.specs.declared.Axis.{Axis}
 use Rattle.mapset.specs.declared.Header.{Header}
-use Rattle.mapset.specs.declared.Texts.{Texts}
+use Rattle.mapset.specs.Described.{FullTexts}
 use Rattle.mapset.specs.declared.Kind.{Kind}
 
 -- a code that a version takes is one of the list's eleven
@@ -78,7 +78,7 @@ system-filled : (b : Bool) (m n : ℕ) → Count b m × Count b n → Filled b m
 system-filled b m n c = (filled b m (c .0), filled b n (c .1))
 
 -- ---- the header
-pub header-groups : (h : Header) (t : Texts) → HeaderRules h t → HeaderSays h t
+pub header-groups : (h : Header) (t : FullTexts) → HeaderRules h t → HeaderSays h t
 header-groups h t r =
     let f = r .fillers in
     let pgm = here (r .records) in
@@ -107,7 +107,7 @@ header-groups h t r =
     let p = took-program (pgm .0) in (
       (r .version .tenths, (r .version .kind, r .version .code)),
       (
-        (p .0, (p .1 .0, (p .1 .1, (took-mapping (map .0), took-observables (obs .0))))),
+        (p .0, (p .1 .0, (p .1 .1, (took-mapping (map .0), (took-observables (obs .0), (r .descriptions .few, (r .descriptions .written, r .descriptions .blank))))))),
         (
           (took-epoch (first .0), (took-epoch (last .0), (took-count (interval .0), took-count (maps .0)))),
           (
@@ -130,7 +130,7 @@ header-groups h t r =
       ),
     )
 
-pub groups-header : (h : Header) (t : Texts) → HeaderSays h t → HeaderRules h t
+pub groups-header : (h : Header) (t : FullTexts) → HeaderSays h t → HeaderRules h t
 groups-header h t (v, (x, (m, (o, (a, (sta, (sat, ((g, (r, (e, (c, (j, (i, s)))))), (d, l))))))))) =
     let y = h .systems in
     record {
@@ -143,7 +143,7 @@ groups-header h t (v, (x, (m, (o, (a, (sta, (sat, ((g, (r, (e, (c, (j, (i, s))))
           (stand-some (a-count (m .1 .1 .1))
           (stand-some (a-mapping (x .1 .1 .1 .0))
           (stand-some (a-tenths (o .0))
-          (stand-some (a-observables (x .1 .1 .1 .1))
+          (stand-some (a-observables (x .1 .1 .1 .1 .0))
           (count-on (h .stations .stands) (h .stations .count) sta
           (count-on (h .satellites .stands) (h .satellites .count) sat
           (stand-some (a-tenths (o .1 .0))
@@ -172,6 +172,7 @@ groups-header h t (v, (x, (m, (o, (a, (sta, (sat, ((g, (r, (e, (c, (j, (i, s))))
       };
       dimension = d;
       limits = l;
+      descriptions = record { few = x .1 .1 .1 .1 .1 .0; written = x .1 .1 .1 .1 .1 .1 .0; blank = x .1 .1 .1 .1 .1 .1 .1 };
     }
 
 -- ---- epochs and marks
@@ -201,11 +202,11 @@ to-three [] a = tt
 to-three (m ∷ ms) a = (a .0 .1, to-three ms (a .1))
 
 -- ---- all of it
-pub sound-groups : (h : Header) (t : Texts) (a : Areas) → Sound h t a → SoundSays h t a
+pub sound-groups : (h : Header) (t : FullTexts) (a : Areas) → Sound h t a → SoundSays h t a
 sound-groups h t a s =
     (header-groups h t (s .header), (s .room .epochs, (s .room .marks, (epochs-say h (take (h .times .maps) (a .epochs)) (s .epochs), (from-zero (take (h .times .maps) (a .marks)) (s .marks), (s .room .tec, (s .room .rms, (s .room .height, s .room .exponents))))))))
 
-pub groups-sound : (h : Header) (t : Texts) (a : Areas) → SoundSays h t a → Sound h t a
+pub groups-sound : (h : Header) (t : FullTexts) (a : Areas) → SoundSays h t a → Sound h t a
 groups-sound h t a (r, (e, (m, (es, (ms, (p, (q, (u, x)))))))) =
     record {
       header = groups-header h t r;
@@ -214,6 +215,6 @@ groups-sound h t a (r, (e, (m, (es, (ms, (p, (q, (u, x)))))))) =
       marks = to-three (take (h .times .maps) (a .marks)) ms;
     }
 
-unfoldable pub sound? : (h : Header) (t : Texts) (a : Areas) → Dec (Sound h t a)
+unfoldable pub sound? : (h : Header) (t : FullTexts) (a : Areas) → Dec (Sound h t a)
 unfolding dec-by
 sound? h t a = dec-by (groups-sound h t a) (sound-groups h t a) (sound-says? h t a)

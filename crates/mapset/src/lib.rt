@@ -74,6 +74,7 @@ pub struct Systems {
     pub s: System,
 }
 
+// The last is the number of DESCRIPTION lines.
 pub struct Header {
     pub version: Version,
     pub times: Times,
@@ -82,6 +83,7 @@ pub struct Header {
     pub stations: Counted,
     pub satellites: Counted,
     pub systems: Systems,
+    pub descriptions: u32,
 }
 
 // What a map holds: total electron content, its error, or the height it stands at.
@@ -98,6 +100,11 @@ pub struct Texts {
     pub date: [u8; 20],
     pub mapping: [u8; 4],
     pub observables: [u8; 60],
+}
+
+// The DESCRIPTION lines of 60 columns, one behind the other, then blanks: room for 20.
+pub struct Descriptions {
+    pub bytes: [u8; 1200],
 }
 
 // How large the map set is: n, L·R and C.

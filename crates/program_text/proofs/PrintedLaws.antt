@@ -10,7 +10,7 @@ use lib.Seq.{take-at}
 use Rattle.kit.specs.Answer.{Answer, ok, refused, pick}
 use Rattle.kit.proofs.AnswerLaws.{pick-yes, pick-no}
 use Rattle.mapset.specs.declared.Header.{Header}
-use Rattle.mapset.specs.declared.Texts.{Texts}
+use Rattle.mapset.specs.Described.{FullTexts}
 use Rattle.mapset.specs.Areas.{Areas}
 use Rattle.mapset.specs.MapSet.{MapSet}
 use Rattle.layout.specs.Layout.{Makes}
@@ -30,7 +30,7 @@ use Rattle.write_text.specs.Write as W
 use Rattle.write_text.specs.declared.Written.{Written}
 use Rattle.read_needs.specs.Needs.{needed-and-lent, first-short}
 use Rattle.read_needs.proofs.ShortLaws.{none-short}
-use Rattle.read_outcome.specs.Outcome.{Told, with-room, outcome-of, told-reason, told}
+use Rattle.read_outcome.specs.Outcome.{Told, with-room, outcome-of, told-reason, told, texts-in}
 use Rattle.read_outcome.proofs.Once.{told-once}
 use Rattle.read_text.proofs.Once.{Reads, accepts-exactly}
 use Rattle.read_outcome.specs.declared.Reason.{Reason}
@@ -45,7 +45,7 @@ use Rattle.program_text.specs.Printed.{fitted, canonical, shown, Stands,
 abbrev pub Due : W.Told → (o′ y : List ℕ) → Type 0
 Due w o′ y = Stands w (length o′) × (shown w o′ ≡ y)
 
-module _ (h : Header) (t : Texts) (a : Areas) (o : List ℕ) where
+module _ (h : Header) (t : FullTexts) (a : Areas) (o : List ℕ) where
   by-cases : (x : List ℕ) (d : Dec (Valid h t a)) (e : Dec (length x ≤ length o))
       → let w : W.Told × List ℕ = pick d (pick e (W.done (length x), x ++ drop (length x) o) (W.refused 30 (length x ∷ []), o)) (W.refused 31 [], o) in
       Due (w .0) (w .1) (pick d (pick e x (need-line (length x))) unsound-line)
@@ -95,7 +95,7 @@ room-printed w m l none q =
 room-printed w m l (some s) q = ap line-of q
 
 module _ (t : List ℕ) (l : Areas) (r : ReadOut) (l′ : Areas) (c : Reads t l r l′) (z : Had l) where
-  accepted-printed : (h : Header) → r .answer ≡ Accepted h → canonical 65536 h (r .texts) l′ ≡ answer-printed (read t)
+  accepted-printed : (h : Header) → r .answer ≡ Accepted h → canonical 65536 h (texts-in r) l′ ≡ answer-printed (read t)
   unfolding answer-printed set-printed
   accepted-printed h e =
       let (m, (k, (f, g))) = accepts-exactly t l r l′ c .0 (h, e) in
@@ -112,10 +112,10 @@ module _ (t : List ℕ) (l : Areas) (r : ReadOut) (l′ : Areas) (c : Reads t l 
   refused-printed : (w : Reason) → r .answer ≡ Refused w → line-of (told-reason w) ≡ answer-printed (read t)
   refused-printed w e = told-printed w (read t) (sym (ap told e) ∙ ap (λ o. o .told) c)
 
-  pub read-printed : answered 65536 (r .answer) (r .texts) l′ ≡ answer-printed (read t)
+  pub read-printed : answered 65536 (r .answer) (texts-in r) l′ ≡ answer-printed (read t)
   read-printed = by (r .answer) refl
     where
-      by : (x : Reading) → r .answer ≡ x → answered 65536 x (r .texts) l′ ≡ answer-printed (read t)
+      by : (x : Reading) → r .answer ≡ x → answered 65536 x (texts-in r) l′ ≡ answer-printed (read t)
       by (Accepted h) e = accepted-printed h e
       by (Refused w) e = refused-printed w e
 

@@ -7,7 +7,7 @@ use native.Mathlib.Decide.{decLe}
 use lib.ListN.{length, take}
 use Rattle.kit.specs.Answer.{Answer, ok, refused, pick}
 use Rattle.mapset.specs.declared.Header.{Header}
-use Rattle.mapset.specs.declared.Texts.{Texts}
+use Rattle.mapset.specs.Described.{FullTexts}
 use Rattle.mapset.specs.Areas.{Areas}
 use Rattle.mapset.specs.MapSet.{MapSet}
 use Rattle.reading.specs.Feed.{Why}
@@ -28,7 +28,7 @@ unfoldable pub fitted : (room : ℕ) → List ℕ → List ℕ
 fitted room x = pick (decLe (length x) room) x (need-line (length x))
 
 -- what is lent as canonical text
-unfoldable pub canonical : (room : ℕ) → Header → Texts → Areas → List ℕ
+unfoldable pub canonical : (room : ℕ) → Header → FullTexts → Areas → List ℕ
 canonical room h t a = pick (validity h t a) (fitted room (canon-of h t a)) unsound-line
 
 -- after writing, the output then being o: what stands in front of it, or why nothing does
@@ -43,7 +43,7 @@ Stands (W.done n) room = n ≤ room
 Stands (W.refused k b) room = Unit {0}
 
 -- after reading, the areas then being a
-abbrev pub answered : (room : ℕ) → Reading → Texts → Areas → List ℕ
+abbrev pub answered : (room : ℕ) → Reading → FullTexts → Areas → List ℕ
 answered room (Accepted h) t a = canonical room h t a
 answered room (Refused w) t a = line-of (told-reason w)
 

@@ -2,7 +2,9 @@
 ghost use mathlib.Core.Path.{_≡_};
 ghost use Prim.Native.Nat.{_≤_};
 ghost use lib.ListN.{length, take};
+ghost use Rattle.mapset.specs.Described.{full};
 ghost use Rattle.mapset.specs.Areas.{six};
+ghost use Rattle.read_outcome.specs.Outcome.{texts-in};
 ghost use Rattle.write_text.specs.Write.{told};
 ghost use Rattle.program_line.specs.Lines.{Begins};
 ghost use Rattle.program_text.specs.Printed.{Stands, shown, canonical, answered, Had, printed};
@@ -30,6 +32,7 @@ fn put_written(written: Written, out: &mut [u8]) -> usize
 fn put_canonical(
     header: Header,
     texts: Texts,
+    descriptions: &[u8],
     tec: &[i32],
     rms: &[i32],
     height: &[i32],
@@ -39,11 +42,12 @@ fn put_canonical(
     out: &mut [u8],
 ) -> usize
     requires { ⌜ 128 ≤ length (now out) ⌝ }
-    ensures { λ r. ⌜ Begins (now (out .exit)) r (canonical (length (now (out .entry))) header texts (six (now (tec .entry)) (now (rms .entry)) (now (height .entry)) (now (exponents .entry)) (now (epochs .entry)) (now (marks .entry)))) ⌝ }
+    ensures { λ r. ⌜ Begins (now (out .exit)) r (canonical (length (now (out .entry))) header (full texts (now (descriptions .entry))) (six (now (tec .entry)) (now (rms .entry)) (now (height .entry)) (now (exponents .entry)) (now (epochs .entry)) (now (marks .entry)))) ⌝ }
 {
     let written = write_text::write_text(
         header,
         texts,
+        descriptions,
         tec,
         rms,
         height,
@@ -67,13 +71,16 @@ fn put_answer(
     out: &mut [u8],
 ) -> usize
     requires { ⌜ 128 ≤ length (now out) ⌝ }
-    ensures { λ r. ⌜ Begins (now (out .exit)) r (answered (length (now (out .entry))) (read .answer) (read .texts) (six (now (tec .entry)) (now (rms .entry)) (now (height .entry)) (now (exponents .entry)) (now (epochs .entry)) (now (marks .entry)))) ⌝ }
+    ensures { λ r. ⌜ Begins (now (out .exit)) r (answered (length (now (out .entry))) (read .answer) (texts-in read) (six (now (tec .entry)) (now (rms .entry)) (now (height .entry)) (now (exponents .entry)) (now (epochs .entry)) (now (marks .entry)))) ⌝ }
 {
     let reading = read.answer;
+    let descriptions = read.descriptions;
+    let lines = descriptions.bytes;
     match reading {
         Reading::Accepted(header) => put_canonical(
             header,
             read.texts,
+            &lines,
             tec,
             rms,
             height,

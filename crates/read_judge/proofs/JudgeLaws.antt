@@ -11,6 +11,7 @@ use Rattle.kit.specs.Answer.{Answer, ok, refused, amap}
 use Rattle.kit.proofs.AnswerLaws.{yields}
 use Rattle.kit.specs.Range.{Within}
 use Rattle.mapset.specs.declared.Header.{Header}
+use Rattle.mapset.specs.Described.{full}
 use Rattle.mapset.specs.MapSet.{Maps, MapSet}
 use Rattle.layout.specs.Layout.{Force, begins}
 use Rattle.reading.specs.Feed.{Why, why, split, feed}
@@ -58,10 +59,10 @@ bare-run h p n ls w e =
 
 -- ---- a text, by its header
 
-module _ (t : List ℕ) (r : HeaderRead) (o : ReadsHeader (read t) t r) where
+module _ (t : List ℕ) (r : HeaderRead) (bs : List ℕ) (o : ReadsHeader (read t) t r bs) where
   pub refused-head : {k l c : ℕ} → r .answer ≡ Headed.Refused k l c → read t ≡ refused (why k l c)
   unfolding opened
-  refused-head e = o .same ∙ ap (λ a. opened a (r .texts) t) e
+  refused-head e = o .same ∙ ap (λ a. opened a (full (r .texts) bs) t) e
 
   module _ {h : Header} {e : ℤ} {at n : ℕ} (q : r .answer ≡ Headed.Accepted h e at n) where
     pub maps-start : MapsStart t h at n
@@ -70,21 +71,21 @@ module _ (t : List ℕ) (r : HeaderRead) (o : ReadsHeader (read t) t r) where
     abbrev rest : Answer Why (List ℤ × Maps)
     rest = run h Between (begins e) 0 (feed (suc n) (split (drop at t)))
 
-    read-is : read t ≡ amap (λ w. set-of h (r .texts) (w .1)) rest
+    read-is : read t ≡ amap (λ w. set-of h (full (r .texts) bs) (w .1)) rest
     unfolding opened
-    read-is = o .same ∙ ap (λ a. opened a (r .texts) t) q
+    read-is = o .same ∙ ap (λ a. opened a (full (r .texts) bs) t) q
 
     pub refused-maps : {k l c : ℕ} → Verdict.Wrong k l c ≡ told rest → read t ≡ refused (why k l c)
     unfolding amap
-    refused-maps u = read-is ∙ ap (amap (λ w. set-of h (r .texts) (w .1))) (wrong-run rest (sym u))
+    refused-maps u = read-is ∙ ap (amap (λ w. set-of h (full (r .texts) bs) (w .1))) (wrong-run rest (sym u))
 
-    pub accepted-maps : {a b : Bool} → Verdict.Fine a b ≡ told rest → Accepts t (r .texts) h e at (record { rms = a; height = b })
+    pub accepted-maps : {a b : Bool} → Verdict.Fine a b ≡ told rest → Accepts t (full (r .texts) bs) h e at (record { rms = a; height = b })
     unfolding amap
     accepted-maps u =
         let w = fine-run rest (sym u) in
         record {
           maps = w .with-values .1;
-          reads = read-is ∙ ap (amap (λ w. set-of h (r .texts) (w .1))) (w .is);
+          reads = read-is ∙ ap (amap (λ w. set-of h (full (r .texts) bs) (w .1))) (w .is);
           within = maps-start .within;
           line = suc n;
           behind = bare-run h (begins e) (suc n) (split (drop at t)) (w .with-values) (w .is);

@@ -6,7 +6,7 @@ use Prim.Native.Nat.{ℕ, _*_, _≤_}
 use lib.IntN.{ℤ}
 use lib.ListN.{length}
 use Rattle.mapset.specs.declared.Header.{Header}
-use Rattle.mapset.specs.declared.Texts.{Texts}
+use Rattle.mapset.specs.Described.{FullTexts}
 use Rattle.mapset.specs.Grid.{columns, Limits}
 use Rattle.mapset.specs.MapSet.{OtherMap, MapSet}
 use Rattle.mapset.proofs.SoundLaws.{few-values, few-blocks}
@@ -24,7 +24,7 @@ use Rattle.read_needs.specs.declared.Others.{Others}
 use Rattle.read_judge.specs.Scanned.{set-of, Accepts, Judges}
 use Rattle.read_judge.specs.declared.Judged.{Judged}
 
-pub judged : (t : List ℕ) (x : Texts) (a b : Judged) → Judges t a x → a ≡ b → Judges t b x
+pub judged : (t : List ℕ) (x : FullTexts) (a b : Judged) → Judges t a x → a ≡ b → Judges t b x
 judged t x a b j e = subst (λ z. Judges t z x) e j
 
 -- a kind with no map needs no value area
@@ -32,7 +32,7 @@ stands-length : (n B C : ℕ) (xs : List OtherMap) → Rising n B C 0 xs → len
 stands-length n B C [] r = refl
 stands-length n B C (x ∷ xs) r = kind-values n B C 0 (x ∷ xs) r
 
-module _ (t : List ℕ) (x : Texts) (h : Header) (e : ℤ) (at : ℕ) (o : Others) (a : Accepts t x h e at o) where
+module _ (t : List ℕ) (x : FullTexts) (h : Header) (e : ℤ) (at : ℕ) (o : Others) (a : Accepts t x h e at o) where
   abbrev m : MapSet
   m = set-of h x (a .maps)
 

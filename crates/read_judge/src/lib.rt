@@ -1,4 +1,6 @@
 // The first scan of a text as a whole: its header, then its maps.
+ghost use mathlib.Core.Path.{_≡_};
+ghost use Rattle.mapset.specs.Described.{full, no-lines};
 ghost use Rattle.read_judge.specs.Scanned.{Judges};
 use head::Headed;
 use head::opening;
@@ -19,11 +21,12 @@ pub struct FirstScan {
     pub texts: Texts,
 }
 
-// The first time over a text: nothing that is lent is written.
-pub fn judge(text: &[u8]) -> FirstScan
-    ensures { λ r. ⌜ Judges (now (text .entry)) (r .answer) (r .texts) ⌝ }
+// The first time over a text; `lines` is blank, and holds the DESCRIPTION lines where the text is accepted.
+pub fn judge(text: &[u8], lines: &mut [u8]) -> FirstScan
+    requires { ⌜ now lines ≡ no-lines ⌝ }
+    ensures { λ r. ⌜ Judges (now (text .entry)) (r .answer) (full (r .texts) (now (lines .exit))) ⌝ }
 {
-    let h = opening::read_header(text);
+    let h = opening::read_header(text, lines);
     let answer = h.answer;
     let texts = h.texts;
     match answer {
@@ -31,8 +34,8 @@ pub fn judge(text: &[u8]) -> FirstScan
             answer: Judged::Wrong(number, line, column),
             texts: texts,
         },
-        Headed::Accepted(header, exponent, at, lines) => {
-            match maps::judge_maps(header, exponent, text, at, lines) {
+        Headed::Accepted(header, exponent, at, passed) => {
+            match maps::judge_maps(header, exponent, text, at, passed) {
                 Verdict::Wrong(number, line, column) => FirstScan {
                     answer: Judged::Wrong(number, line, column),
                     texts: texts,

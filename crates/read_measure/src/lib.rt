@@ -7,7 +7,8 @@ use read_outcome::Measured;
 pub fn measure(text: &[u8]) -> Measured
     ensures { λ r. ⌜ Measures (now (text .entry)) r ⌝ }
 {
-    let scan = read_judge::judge(text);
+    let mut lines = [b' '; 1200];
+    let scan = read_judge::judge(text, &mut lines);
     let answer = scan.answer;
     match answer {
         Judged::Wrong(number, line, column) => {

@@ -7,12 +7,13 @@ use Rattle.kit.specs.Answer.{pick}
 use Rattle.kit.proofs.TruthLaws.{clash}
 use Rattle.areas.specs.Flat.{areas}
 use Rattle.read_needs.specs.Needs.{lengths}
-use Rattle.read_outcome.specs.Outcome.{Told, accepted, at-place, eleven, told-reason, told}
+use Rattle.read_outcome.specs.Outcome.{Told, accepted, at-place, eleven, told-reason, told, texts-in}
 use Rattle.read_outcome.specs.Measures.{Measures}
 use Rattle.read_outcome.specs.declared.Reason.{Reason}
 use Rattle.read_outcome.specs.declared.Reason.the-variants.{LongLine, BadByte, NotIonex, UnknownLabel, Misplaced, IllFormed, OutOfRange, Disagrees, Missing, EndsEarly, AreaTooShort}
 use Rattle.read_outcome.specs.declared.Reading.{Reading}
 use Rattle.read_outcome.specs.declared.Reading.the-variants.{Accepted, Refused}
+use Rattle.read_outcome.specs.declared.ReadOut.{ReadOut}
 use Rattle.read_outcome.specs.declared.Measured.{Measured}
 use Rattle.read_outcome.specs.declared.Measured.the-variants as M
 
@@ -62,3 +63,6 @@ needs-once t (M.Refused v) (M.Refused w) (y, (p, q)) (y′, (p′, q′)) =
     let e = told-once (Refused v) (Refused w) (q ∙ ap (λ y. at-place (y .number) (y .line) (y .column)) z ∙ sym q′) in
     let f : v ≡ w = cc in
     ap M.Refused f
+
+pub texts-once : (r s : ReadOut) → texts-in r ≡ texts-in s → (r .texts ≡ s .texts) × (r .descriptions ≡ s .descriptions)
+texts-once r s e = (λ i. record { program = e i .program; agency = e i .agency; date = e i .date; mapping = e i .mapping; observables = e i .observables }, λ i. record { bytes = e i .descriptions })

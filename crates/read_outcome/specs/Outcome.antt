@@ -4,7 +4,7 @@ use mathlib.Core.Option.{Option, none, some}
 use Prim.Native.Nat.{ℕ}
 use Rattle.kit.specs.Answer.{Answer, ok, refused}
 use Rattle.mapset.specs.declared.Header.{Header}
-use Rattle.mapset.specs.declared.Texts.{Texts}
+use Rattle.mapset.specs.Described.{FullTexts, full, no-lines}
 use Rattle.mapset.specs.MapSet.{MapSet}
 use Rattle.mapset.specs.Areas.{Areas}
 use Rattle.reading.specs.Feed.{Why}
@@ -37,21 +37,25 @@ told-place (accepted h) = []
 told-place (at-place k l c) = l ∷ c ∷ []
 told-place (eleven a n) = a ∷ n ∷ []
 
+-- blanks beside a refusal
+abbrev pub no-texts : FullTexts
+no-texts = full blank-texts no-lines
+
 -- what is answered, the texts beside it, and what is then in the areas
 pub record Outcome : Type 0 where
   pub told : Told
-  pub texts : Texts
+  pub texts : FullTexts
   pub areas : Areas
 
 -- the map set in front of each area and behind it what was there, where each is long enough
 unfoldable pub with-room : MapSet → Areas → Option (ℕ × ℕ) → Outcome
 with-room m l none = record { told = accepted (m .header); texts = m .texts; areas = fronts (areas m) l }
-with-room m l (some s) = record { told = eleven (s .0) (s .1); texts = blank-texts; areas = l }
+with-room m l (some s) = record { told = eleven (s .0) (s .1); texts = no-texts; areas = l }
 
 -- a refusal leaves all lent areas untouched
 unfoldable pub outcome-of : Answer Why MapSet → Areas → Outcome
 outcome-of (ok m) l = with-room m l (first-short 1 (needed-and-lent (areas m) l))
-outcome-of (refused w) l = record { told = at-place (w .number) (w .line) (w .column); texts = blank-texts; areas = l }
+outcome-of (refused w) l = record { told = at-place (w .number) (w .line) (w .column); texts = no-texts; areas = l }
 
 abbrev pub outcome : List ℕ → Areas → Outcome
 outcome t l = outcome-of (read t) l
@@ -75,6 +79,9 @@ abbrev pub told : Reading → Told
 told (Accepted h) = accepted h
 told (Refused w) = told-reason w
 
+abbrev pub texts-in : ReadOut → FullTexts
+texts-in r = full (r .texts) (r .descriptions .bytes)
+
 -- what the code hands back, with the areas as it leaves them
 abbrev pub comes : ReadOut → Areas → Outcome
-comes r l = record { told = told (r .answer); texts = r .texts; areas = l }
+comes r l = record { told = told (r .answer); texts = texts-in r; areas = l }

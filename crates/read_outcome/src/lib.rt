@@ -2,8 +2,8 @@
 ghost use mathlib.Core.Path.{_≡_};
 ghost use mathlib.Core.List.{[], _∷_};
 ghost use Rattle.kit.specs.Range.{Within};
-ghost use Rattle.mapset.specs.Said.{blank-texts};
-ghost use Rattle.read_outcome.specs.Outcome.{at-place, told-number, told-place, told-reason};
+ghost use Rattle.read_outcome.specs.Outcome.{at-place, told-number, told-place, told-reason, no-texts, texts-in};
+use mapset::Descriptions;
 use mapset::Header;
 use mapset::Texts;
 use read_needs::Elements;
@@ -28,10 +28,11 @@ pub enum Reading {
     Refused(Reason),
 }
 
-// The texts are blanks on a refusal.
+// The texts and the bytes of the DESCRIPTION lines are blanks on a refusal.
 pub struct ReadOut {
     pub answer: Reading,
     pub texts: Texts,
+    pub descriptions: Descriptions,
 }
 
 // What each area needs; or why the text is refused.
@@ -59,11 +60,14 @@ pub fn reason_of(number: u64, line: u64, column: u64) -> Reason
 }
 
 pub fn refused(reason: Reason) -> ReadOut
-    ensures { λ r. ⌜ (r .answer ≡ Reading.Refused reason) × (r .texts ≡ blank-texts) ⌝ }
+    ensures { λ r. ⌜ (r .answer ≡ Reading.Refused reason) × (texts-in r ≡ no-texts) ⌝ }
 {
     ReadOut {
         answer: Reading::Refused(reason),
         texts: head::opening::blanks(),
+        descriptions: Descriptions {
+            bytes: [b' '; 1200],
+        },
     }
 }
 

@@ -20,8 +20,8 @@ use Rattle.areas.specs.Flat.{areas}
 use Rattle.areas.specs.Stores.{fronts}
 use Rattle.read_needs.specs.Needs.{needed-and-lent, first-short}
 use Rattle.read_needs.proofs.ShortLaws.{none-short}
-use Rattle.read_outcome.proofs.Once.{told-once}
-use Rattle.read_outcome.specs.Outcome.{accepted, eleven, Outcome, with-room, outcome-of, outcome, told-reason, told, comes}
+use Rattle.read_outcome.proofs.Once.{told-once, texts-once}
+use Rattle.read_outcome.specs.Outcome.{accepted, eleven, Outcome, with-room, outcome-of, outcome, told-reason, told, texts-in, comes}
 use Rattle.read_outcome.specs.declared.Reason.{Reason}
 use Rattle.read_outcome.specs.declared.Reason.the-variants.{LongLine, BadByte, NotIonex, UnknownLabel, Misplaced, IllFormed, OutOfRange, Disagrees, Missing, EndsEarly, AreaTooShort}
 use Rattle.read_outcome.specs.declared.Reading.the-variants.{Accepted, Refused}
@@ -37,8 +37,8 @@ pub read-once : (t : List ℕ) (l : Areas) (r s : ReadOut) (l′ l″ : Areas) �
 read-once t l r s l′ l″ p q =
     let e = p ∙ sym q in
     let a : r .answer ≡ s .answer = told-once (r .answer) (s .answer) (ap (λ o. o .told) e) in
-    let x : r .texts ≡ s .texts = ap (λ o. o .texts) e in
-    (λ i. record { answer = a i; texts = x i }, ap (λ o. o .areas) e)
+    let x = texts-once r s (ap (λ o. o .texts) e) in
+    (λ i. record { answer = a i; texts = x .0 i; descriptions = x .1 i }, ap (λ o. o .areas) e)
 
 -- ---- in words of `Makes`, `areas` and the lent lengths only
 
@@ -54,7 +54,7 @@ FirstShort i a n (x ∷ xs) = ((x .1 < x .0) × ((a ≡ i) × (n ≡ x .0))) ⊎
 -- the header record, the texts and the lists of m are what comes back, and behind the lists what was there
 pub record Given (m : MapSet) (l : Areas) (r : ReadOut) (l′ : Areas) : Type 0 where
   pub answer : r .answer ≡ Accepted (m .header)
-  pub texts : r .texts ≡ m .texts
+  pub texts : texts-in r ≡ m .texts
   pub areas : l′ ≡ fronts (areas m) l
 
 first-is : (i a n : ℕ) (xs : List (ℕ × ℕ)) → FirstShort i a n xs → first-short i xs ≡ some (a, n)

@@ -7,18 +7,17 @@ use lib.IntN.{ℤ}
 use lib.ListN.{drop}
 use Rattle.kit.specs.Answer.{refused}
 use Rattle.mapset.specs.declared.Header.{Header}
-use Rattle.mapset.specs.declared.Texts.{Texts}
+use Rattle.mapset.specs.Described.{FullTexts}
 use Rattle.mapset.specs.Grid.{columns}
 use Rattle.mapset.specs.MapSet.{MapSet}
 use Rattle.mapset.specs.Areas.{Areas}
 use Rattle.layout.specs.Layout.{per-map}
 use Rattle.reading.specs.Feed.{why}
 use Rattle.reading.specs.Read.{read}
-use Rattle.mapset.specs.Said.{blank-texts}
 use Rattle.areas.specs.Flat.{areas}
 use Rattle.read_fill.specs.Filled as filled
 use Rattle.read_fill.specs.Filled.{Enough}
-use Rattle.read_outcome.specs.Outcome.{accepted, at-place, eleven, with-room, outcome-of, outcome}
+use Rattle.read_outcome.specs.Outcome.{no-texts, accepted, at-place, eleven, with-room, outcome-of, outcome}
 use Rattle.read_needs.specs.Needs.{lengths, pairs, needed-and-lent, first-short, needs-of}
 use Rattle.read_judge.specs.Scanned.{set-of, Accepts}
 use Rattle.read_judge.proofs.NeedLaws.{formed, need-by}
@@ -27,11 +26,11 @@ use Rattle.read_needs.specs.declared.Others.{Others}
 use Rattle.read_needs.proofs.ShortLaws.{all-long}
 
 -- ---- a refusal leaves all areas as found
-pub outcome-refused : (t : List ℕ) (l : Areas) (k n c : ℕ) → read t ≡ refused (why k n c) → record { told = at-place k n c; texts = blank-texts; areas = l } ≡ outcome t l
+pub outcome-refused : (t : List ℕ) (l : Areas) (k n c : ℕ) → read t ≡ refused (why k n c) → record { told = at-place k n c; texts = no-texts; areas = l } ≡ outcome t l
 unfolding outcome-of
 outcome-refused t l k n c e = sym (ap (λ r. outcome-of r l) e)
 
-module _ (t : List ℕ) (x : Texts) (h : Header) (e : ℤ) (at : ℕ) (o : Others) (a : Accepts t x h e at o) where
+module _ (t : List ℕ) (x : FullTexts) (h : Header) (e : ℤ) (at : ℕ) (o : Others) (a : Accepts t x h e at o) where
   abbrev m : MapSet
   m = set-of h x (a .maps)
 
@@ -45,7 +44,7 @@ module _ (t : List ℕ) (x : Texts) (h : Header) (e : ℤ) (at : ℕ) (o : Other
     need-is = need-by t x h e at o a p q r s
 
     -- 11
-    pub short-by : (l : Areas) (i k : ℕ) → first-short 1 (pairs N (lengths l)) ≡ some (i, k) → record { told = eleven i k; texts = blank-texts; areas = l } ≡ outcome t l
+    pub short-by : (l : Areas) (i k : ℕ) → first-short 1 (pairs N (lengths l)) ≡ some (i, k) → record { told = eleven i k; texts = no-texts; areas = l } ≡ outcome t l
     unfolding with-room
     short-by l i k f = sym (outcome-is l ∙ ap (with-room m l) (rw need-is at f))
 

@@ -9,6 +9,7 @@ use lib.ListN.{getD, replicate}
 use Rattle.kit.specs.Answer.{pick}
 use Rattle.mapset.specs.declared.Header.{Header}
 use Rattle.mapset.specs.declared.Texts.{Texts}
+use Rattle.mapset.specs.declared.Descriptions.{Descriptions}
 use Rattle.mapset.specs.Areas.{Areas}
 use Rattle.reading.proofs.Vectors.{lines, two-faults, eight-before-seven, small-text, small-set, small-read, two-text, two-set, two-read}
 use Rattle.areas.specs.Flat.{areas-of, areas}
@@ -56,14 +57,14 @@ unfolding outcome-of
 faults-come l = ap (λ a. outcome-of a l .told) eight-before-seven
 
 -- a reader that refuses everything
-pub not-refused : (w : Reason) (x : Texts) (l′ : Areas) → ¬ Reads (lines small-text) small-areas (record { answer = Refused w; texts = x }) l′
-not-refused w x l′ c = not-accepted w (ap (λ o. o .told) (c ∙ small-comes))
+pub not-refused : (w : Reason) (x : Texts) (d : Descriptions) (l′ : Areas) → ¬ Reads (lines small-text) small-areas (record { answer = Refused w; texts = x; descriptions = d }) l′
+not-refused w x d l′ c = not-accepted w (ap (λ o. o .told) (c ∙ small-comes))
 
 -- a constant map set
-pub not-constant : (h : Header) (x y : Texts) (l′ l″ : Areas)
-    → Reads (lines small-text) small-areas (record { answer = Accepted h; texts = x }) l′ → ¬ Reads (lines two-text) two-areas (record { answer = Accepted h; texts = y }) l″
+pub not-constant : (h : Header) (x y : Texts) (d f : Descriptions) (l′ l″ : Areas)
+    → Reads (lines small-text) small-areas (record { answer = Accepted h; texts = x; descriptions = d }) l′ → ¬ Reads (lines two-text) two-areas (record { answer = Accepted h; texts = y; descriptions = f }) l″
 unfolding small-set two-set
-not-constant h x y l′ l″ c d =
+not-constant h x y g f l′ l″ c d =
     let p : accepted h ≡ accepted (small-set .header) = ap (λ o. o .told) (c ∙ small-comes) in
     let q : accepted h ≡ accepted (two-set .header) = ap (λ o. o .told) (d ∙ two-comes) in
     let e : _≡_ {A = ℕ} 1 2 = ap maps-of (sym p ∙ q) in omega arith
@@ -86,12 +87,12 @@ not-map-one r l′ t c =
     let f : natAbs (getD (l′ .tec) 2 (pos 0)) ≡ 9999 = ap (λ v. natAbs (getD v 2 (pos 0))) t in omega arith
 
 -- an invented need
-pub not-another-need : (n : ℕ) (x : Texts) (l′ : Areas) → Reads (lines small-text) short-areas (record { answer = Refused (AreaTooShort 1 n); texts = x }) l′ → n ≡ 6
-not-another-need n x l′ c = let e : eleven 1 n ≡ eleven 1 6 = ap (λ o. o .told) c ∙ short-comes in cc
+pub not-another-need : (n : ℕ) (x : Texts) (d : Descriptions) (l′ : Areas) → Reads (lines small-text) short-areas (record { answer = Refused (AreaTooShort 1 n); texts = x; descriptions = d }) l′ → n ≡ 6
+not-another-need n x d l′ c = let e : eleven 1 n ≡ eleven 1 6 = ap (λ o. o .told) c ∙ short-comes in cc
 
 -- an invented line number
-pub not-another-line : (n : ℕ) (x : Texts) (l l′ : Areas) → Reads (lines two-faults) l (record { answer = Refused (Disagrees n 0); texts = x }) l′ → n ≡ 15
-not-another-line n x l l′ c = let e : at-place 8 n 0 ≡ at-place 8 15 0 = ap (λ o. o .told) c ∙ faults-come l in cc
+pub not-another-line : (n : ℕ) (x : Texts) (d : Descriptions) (l l′ : Areas) → Reads (lines two-faults) l (record { answer = Refused (Disagrees n 0); texts = x; descriptions = d }) l′ → n ≡ 15
+not-another-line n x d l l′ c = let e : at-place 8 n 0 ≡ at-place 8 15 0 = ap (λ o. o .told) c ∙ faults-come l in cc
 
 -- other needs than these, or a refusal, told of a text with one TEC map and its RMS map
 pub not-other-needs : (r : Measured) → Measures (lines small-text) r → r ≡ Needs (record { tec = 6; rms = 6; height = 0; exponents = 6; epochs = 1; marks = 1 })

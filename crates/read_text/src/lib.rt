@@ -1,8 +1,10 @@
 // A text into six lent areas: judged first, and stored only where nothing is wrong and each area is long enough.
 ghost use mathlib.Core.Path.{_≡_};
 ghost use Rattle.mapset.specs.Areas.{six};
+ghost use Rattle.mapset.specs.Described.{full};
 ghost use Rattle.read_judge.specs.Scanned.{Accepts};
 ghost use Rattle.read_outcome.specs.Outcome.{outcome, comes};
+use mapset::Descriptions;
 use mapset::Header;
 use mapset::Texts;
 use read_judge::Judged;
@@ -18,6 +20,7 @@ fn store(
     text: &[u8],
     header: Header,
     texts: Texts,
+    lines: &[u8; 1200],
     exponent: i32,
     at: usize,
     some: Others,
@@ -28,7 +31,7 @@ fn store(
     epochs: &mut [u64],
     marks: &mut [u8],
 ) -> ReadOut
-    requires { ⌜ Accepts (now text) texts header exponent at some ⌝ }
+    requires { ⌜ Accepts (now text) (full texts (now lines)) header exponent at some ⌝ }
     ensures { λ r. ⌜ comes r (six (now (tec .exit)) (now (rms .exit)) (now (height .exit)) (now (exponents .exit)) (now (epochs .exit)) (now (marks .exit)))
         ≡ outcome (now (text .entry)) (six (now (tec .entry)) (now (rms .entry)) (now (height .entry)) (now (exponents .entry)) (now (epochs .entry)) (now (marks .entry))) ⌝ }
 {
@@ -62,6 +65,7 @@ fn store(
             ReadOut {
                 answer: Reading::Accepted(header),
                 texts: texts,
+                descriptions: Descriptions { bytes: *lines },
             }
         }
     }
@@ -80,7 +84,8 @@ pub fn read_text(
     ensures { λ r. ⌜ comes r (six (now (tec .exit)) (now (rms .exit)) (now (height .exit)) (now (exponents .exit)) (now (epochs .exit)) (now (marks .exit)))
         ≡ outcome (now (text .entry)) (six (now (tec .entry)) (now (rms .entry)) (now (height .entry)) (now (exponents .entry)) (now (epochs .entry)) (now (marks .entry))) ⌝ }
 {
-    let scan = read_judge::judge(text);
+    let mut lines = [b' '; 1200];
+    let scan = read_judge::judge(text, &mut lines);
     let answer = scan.answer;
     let texts = scan.texts;
     match answer {
@@ -93,6 +98,7 @@ pub fn read_text(
             text,
             header,
             texts,
+            &lines,
             exponent,
             at,
             some,

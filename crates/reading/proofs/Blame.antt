@@ -23,11 +23,11 @@ use Rattle.mapset.specs.declared.Header.{Header}
 use Rattle.mapset.specs.Header.{Content, count, tenths, epoch as an-epoch, axis, program, mapping, observables, system as a-system, Said}
 use Rattle.layout.specs.Records.{Item, I, F, D, X, A, U, Vals}
 use Rattle.layout.specs.Labels.{Label, version, description, comment, system, exponent, aux-start, aux-end, header-end, epoch, block, file-end, head, start, end, items, content, layout}
-use Rattle.layout.specs.Layout.{Force, Slots, Mode, plain, aux, Date}
+use Rattle.layout.specs.Layout.{Force, Slots, Lines, Mode, plain, aux, Date}
 use Rattle.reading.specs.Feed.{Fault, fault}
 use Rattle.reading.specs.Fields.{number, blank, scan, fields, cells}
 use Rattle.reading.specs.Maps.{Step, date, on-date, loose, on-comment, on-exponent, start-tec, start-other, start-map, on-start, end-map, on-end, epoch-tec, epoch-other, on-epoch, open-block, on-block, on-file, taken, step}
-use Rattle.reading.specs.Head.{meant, once, on-system, on-end as on-header-end, at-head, head-step}
+use Rattle.reading.specs.Head.{meant, once, on-description, on-system, on-end as on-header-end, at-head, head-step}
 use Rattle.reading.specs.Read.{versioned, version-of}
 use Rattle.reading.specs.declared.Place.{Place}
 use Rattle.reading.specs.declared.Place.the-variants.{Ended, Between, Early, Inside}
@@ -226,19 +226,19 @@ meant-blames mapping v = b-ok
 meant-blames observables v = b-ok
 meant-blames a-system v = need-blames _ _ (seven tt) (need-blames _ _ (seven tt) b-ok)
 
-module _ (c : Version) (e : ℤ) (got : Slots) (r : List ℕ) where
-  once-blames : (i : ℕ) {x : Answer Fault Said} → Blames Later x → Blames Later (once e got i x)
+module _ (c : Version) (e : ℤ) (got : Slots) (ds : Lines) (r : List ℕ) where
+  once-blames : (i : ℕ) {x : Answer Fault Said} → Blames Later x → Blames Later (once e got ds i x)
   unfolding once
   once-blames i b = need-blames _ _ five (bind-blames b (λ s. b-ok))
 
-  system-blames : (o : Option ℕ) → Blames Later (on-system e got r o)
+  system-blames : (o : Option ℕ) → Blames Later (on-system e got ds r o)
   unfolding on-system
   system-blames none = bind-blames (in-fields system r) (λ v. b-no (seven tt))
   system-blames (some j) = once-blames _ (bind-blames (in-fields system r) (meant-blames a-system))
 
-  at-head-blames : (l : Label) → Blames Later (at-head c e got l r)
-  unfolding at-head on-header-end
-  at-head-blames description = bind-blames (in-fields description r) (λ v. b-ok)
+  at-head-blames : (l : Label) → Blames Later (at-head c e got ds l r)
+  unfolding at-head on-description on-header-end
+  at-head-blames description = need-blames _ _ five (bind-blames (in-fields description r) (λ v. b-ok))
   at-head-blames comment = bind-blames (in-fields comment r) (λ v. b-ok)
   at-head-blames exponent = bind-blames (in-fields exponent r) (λ v. need-blames _ _ (seven tt) b-ok)
   at-head-blames (head i) = once-blames i (bind-blames (in-fields (head i) r) (meant-blames (content i)))
@@ -253,7 +253,7 @@ module _ (c : Version) (e : ℤ) (got : Slots) (r : List ℕ) where
   at-head-blames block = b-no five
   at-head-blames file-end = b-no five
 
-  pub head-step-blames : (a : Mode) → Blames Later (head-step c a e got r)
+  pub head-step-blames : (a : Mode) → Blames Later (head-step c a e got ds r)
   unfolding head-step
   head-step-blames plain = get-blames _ _ four at-head-blames
   head-step-blames aux = pick-blames _ (bind-blames (in-fields aux-end r) (λ v. b-ok)) b-ok

@@ -61,8 +61,8 @@ version-yields r z =
 
 begun : {m : MapSet} {rs : List (List ℕ)} {f : Feed} → Carries f rs → Rows m rs → begin f ≡ ok m
 unfolding begin bind on-line
-begun {m} (c-row x) (rows-of v c h) =
-    rw (version-made (m .header .version) v c) (heads h x (unjoined (says (m .header) (m .texts))))
+begun {m} (c-row x) (rows-of v o c h) =
+    rw (version-made (m .header .version) v c) (heads [] o h x (unjoined (says (m .header) (m .texts))) refl)
 
 pub read-made : {m : MapSet} {t : List ℕ} → Makes m t → read t ≡ ok m
 unfolding read
@@ -77,10 +77,10 @@ none-got : (n : ℕ) → All (λ (o : Option Said). o ≡ none) (replicate n non
 none-got zero = tt
 none-got (suc n) = (refl, none-got n)
 
-first-row : {c : Version} {r : List ℕ} {f : Feed} (m : MapSet) (h : Headed c plain (negsuc 0) nothing-yet f m) → VersionRules c → VersionRow c r → Rows m (r ∷ h .rows)
+first-row : {c : Version} {r : List ℕ} {f : Feed} (m : MapSet) (h : Headed c plain (negsuc 0) nothing-yet [] f m) → VersionRules c → VersionRow c r → Rows m (r ∷ h .rows)
 first-row {c} {r} m h l x =
-    rows-of {r = r} (rw (h .version) l) (rw (h .version) x)
-    (rw (empty (h .joined) (none-got 22)) at (h .heads))
+    rows-of {r = r} (rw (h .version) l) (h .rules) (rw (h .version) x)
+    (rw (empty (h .joined) (none-got 22), h .lines) at (h .heads))
 
 began : (f : Feed) → Sized f → Yields (Began f) (begin f)
 unfolding begin short
@@ -90,7 +90,7 @@ began (row n r f) s =
     bind-yields _ (λ c e.
     let x = yields _ (on-line-yields n (version-yields r (s .0 .0))) e in
     yields-map (λ m h. (r ∷ h .rows, c-row (h .carries), first-row m h (x .0) (x .1)))
-    (headed c f (s .1) plain (negsuc 0) nothing-yet (record { sized = refl; fit = fit-none 22 })))
+    (headed c f (s .1) plain (negsuc 0) nothing-yet [] (record { sized = refl; fit = fit-none 22; few = omega arith; lines = tt })))
 
 pub made-read : {m : MapSet} (t : List ℕ) → read t ≡ ok m → Makes m t
 unfolding read

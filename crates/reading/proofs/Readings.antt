@@ -5,7 +5,7 @@ use mathlib.Core.Bool.{Bool, true, false}
 use Prim.Native.Nat.{ℕ, _*_, _-_}
 use Prim.Native.String.{String}
 use lib.IntN.{pos}
-use lib.ListN.{take, drop}
+use lib.ListN.{take, drop, replicate}
 use native.Mathlib.Decide.{ℕ-discrete, decLe, decLt}
 use Rattle.kit.specs.Answer.{refused, ok, All, need, bind, amap, get, pick, ×-dec, ⊎-dec, ¬-dec, all-dec, same, sames}
 use Rattle.kit.specs.Integer.{int?, le?, lt?, between?}
@@ -17,6 +17,7 @@ use Rattle.days.specs.Sums.{sum}
 use Rattle.forms.specs.Read.{readField, numberOf, formed?}
 use Rattle.mapset.specs.Decisions.{×₃-dec, ×₄-dec, end?, step?, multiple?, together?, limits?, dimension?, follows?}
 use Rattle.mapset.specs.declared.Axis.{Axis}
+use Rattle.mapset.specs.Described.{end-to-end, described, no-lines}
 use Rattle.mapset.specs.MapSet.{MapSet}
 use Rattle.layout.specs.Text.{pad}
 use Rattle.layout.specs.Labels.{name}
@@ -24,7 +25,7 @@ use Rattle.reading.specs.Feed.{why, on-line, front, opens?, split, feed,
 use Rattle.reading.specs.Fields.{lookup, label, number, blanks, blank, scan, fields, cells}
 use Rattle.reading.specs.Maps.{on-date, kind?, true?, after?, implies?, in-time?, height?, loose, on-comment, on-exponent, start-tec, start-other, start-map, on-start, end-map, on-end as on-map-end, epoch-tec, epoch-other, on-epoch, open-block, on-block, on-file, taken, step, finish, run, short}
 use Rattle.layout.specs.Layout.{exponent?}
-use Rattle.reading.specs.Head.{meant, place, none?, complete?, made, made-texts, once, on-system, on-end, at-head, head-step, heading}
+use Rattle.reading.specs.Head.{meant, place, none?, complete?, made, made-texts, once, on-description, on-system, on-end, at-head, head-step, heading}
 use Rattle.reading.specs.Read.{versioned, version-of, begin, read}
 use Rattle.reading.proofs.Vectors.{lines, small-text, two-text}
 
@@ -34,6 +35,9 @@ put n s ls = take (n - 1) ls ++ (s ∷ drop n ls)
 
 abbrev add : ℕ → String → List String → List String
 add n s ls = take (n - 1) ls ++ (s ∷ drop (n - 1) ls)
+
+abbrev description-line : String
+description-line = "one shell                                                   DESCRIPTION"
 
 -- a text, and the number, line and column of its refusal
 pub record Reading : Type 0 where
@@ -63,6 +67,8 @@ readings =
     ∷ of (put 9 "carrier phase                                               OBSERVABLES" small-text) 4 9 61
     ∷ of (add 6 "  x600                                                      INTERVAL" small-text) 5 6 61
     ∷ of (add 25 "     x.0                                                    LAT/LON1/LON2/DLON/H" small-text) 5 25 61
+    -- a twenty-first DESCRIPTION
+    ∷ of (take 2 small-text ++ (replicate 21 description-line ++ drop 2 small-text)) 5 23 61
     -- 6 before 9: END OF HEADER with a bad column and without INTERVAL, END OF FILE with a bad column and without a map; then 9
     ∷ of (put 5 "" (put 16 "    x                                                       END OF HEADER" small-text)) 6 16 5
     ∷ of (put 5 "" small-text) 9 16 0
@@ -108,20 +114,21 @@ readings =
     ∷ []
 
 pub refused-readings : All Refuses readings
-unfolding readings small-text two-text read begin feed split front opens? bad-column pad pick ×-dec ⊎-dec ¬-dec all-dec same sames need bind amap get ℕ-discrete decLe decLt int? le? lt? between? within? natural? dated second isLeap monthDays yearDays sum readField numberOf formed? ×₃-dec ×₄-dec end? step? multiple? together? limits? dimension? follows? name on-line lookup label number blanks blank scan fields cells on-date exponent? kind? true? after? implies? in-time? height? loose on-comment on-exponent start-tec start-other start-map on-start end-map on-map-end epoch-tec epoch-other on-epoch open-block on-block on-file taken step finish run short meant place none? complete? made made-texts once on-system on-end at-head head-step heading versioned version-of
-refused-readings = (refl, (refl, (refl, (refl, (refl, (refl, (refl, (refl, (refl, (refl, (refl, (refl, (refl, (refl, (refl, (refl, (refl, (refl, (refl, (refl, (refl, (refl, (refl, (refl, (refl, (refl, (refl, (refl, (refl, (refl, (refl, (refl, (refl, (refl, (refl, (refl, (refl, (refl, (refl, (refl, (refl, (refl, (refl, (refl, (refl, tt)))))))))))))))))))))))))))))))))))))))))))))
+unfolding readings small-text two-text read begin feed split front opens? bad-column pad pick ×-dec ⊎-dec ¬-dec all-dec same sames need bind amap get ℕ-discrete decLe decLt int? le? lt? between? within? natural? dated second isLeap monthDays yearDays sum readField numberOf formed? ×₃-dec ×₄-dec end? step? multiple? together? limits? dimension? follows? name on-line lookup label number blanks blank scan fields cells on-date exponent? kind? true? after? implies? in-time? height? loose on-comment on-exponent start-tec start-other start-map on-start end-map on-map-end epoch-tec epoch-other on-epoch open-block on-block on-file taken step finish run short meant place none? complete? made made-texts described end-to-end no-lines once on-description on-system on-end at-head head-step heading versioned version-of
+refused-readings = (refl, (refl, (refl, (refl, (refl, (refl, (refl, (refl, (refl, (refl, (refl, (refl, (refl, (refl, (refl, (refl, (refl, (refl, (refl, (refl, (refl, (refl, (refl, (refl, (refl, (refl, (refl, (refl, (refl, (refl, (refl, (refl, (refl, (refl, (refl, (refl, (refl, (refl, (refl, (refl, (refl, (refl, (refl, (refl, (refl, (refl, tt))))))))))))))))))))))))))))))))))))))))))))))
 
--- ---- accepted: 80 bytes, an exponent of 0, and epochs 21,600 s apart
+-- ---- accepted: twenty DESCRIPTION lines, 80 bytes, an exponent of 0, and epochs 21,600 s apart
 pub accepted-texts : List (List String)
 accepted-texts =
-    put 9 "carrier phase                                               OBSERVABLES USED    " small-text
+    (take 2 small-text ++ (replicate 20 description-line ++ drop 2 small-text))
+    ∷ put 9 "carrier phase                                               OBSERVABLES USED    " small-text
     ∷ put 22 "     0                                                      EXPONENT" small-text
     ∷ put 4 "  1995    10    15     6     0     0                        EPOCH OF LAST MAP" (put 5 " 21600                                                      INTERVAL" (put 22 "  1995    10    15     6     0     0                        EPOCH OF CURRENT MAP" two-text))
     ∷ []
 
 pub accepted-readings : All (λ t. (s : MapSet) × (read (lines t) ≡ ok s)) accepted-texts
-unfolding accepted-texts small-text two-text read begin feed split front opens? bad-column pad pick ×-dec ⊎-dec ¬-dec all-dec same sames need bind amap get ℕ-discrete decLe decLt int? le? lt? between? within? natural? dated second isLeap monthDays yearDays sum readField numberOf formed? ×₃-dec ×₄-dec end? step? multiple? together? limits? dimension? follows? name on-line lookup label number blanks blank scan fields cells on-date exponent? kind? true? after? implies? in-time? height? loose on-comment on-exponent start-tec start-other start-map on-start end-map on-map-end epoch-tec epoch-other on-epoch open-block on-block on-file taken step finish run short meant place none? complete? made made-texts once on-system on-end at-head head-step heading versioned version-of
-accepted-readings = ((_, refl), ((_, refl), ((_, refl), tt)))
+unfolding accepted-texts small-text two-text read begin feed split front opens? bad-column pad pick ×-dec ⊎-dec ¬-dec all-dec same sames need bind amap get ℕ-discrete decLe decLt int? le? lt? between? within? natural? dated second isLeap monthDays yearDays sum readField numberOf formed? ×₃-dec ×₄-dec end? step? multiple? together? limits? dimension? follows? name on-line lookup label number blanks blank scan fields cells on-date exponent? kind? true? after? implies? in-time? height? loose on-comment on-exponent start-tec start-other start-map on-start end-map on-map-end epoch-tec epoch-other on-epoch open-block on-block on-file taken step finish run short meant place none? complete? made made-texts described end-to-end no-lines once on-description on-system on-end at-head head-step heading versioned version-of
+accepted-readings = ((_, refl), ((_, refl), ((_, refl), ((_, refl), tt))))
 
 -- ---- 361 rows, 721 columns, 64 layers, 2,000,000 nodes, and one more of each
 abbrev nodes-of : ℕ → Axis

@@ -14,7 +14,7 @@ use Rattle.forms.specs.Columns.{Blank}
 use Rattle.mapset.specs.declared.Version.{Version}
 use Rattle.mapset.specs.declared.Header.{Header}
 use Rattle.layout.specs.Text.{Clean, pad}
-use Rattle.layout.specs.Layout.{Force, Slots, Mode}
+use Rattle.layout.specs.Layout.{Force, Slots, Lines, Mode}
 use Rattle.reading.specs.Feed.{Fault, Why, why, on-line, over, bad, row, bad-column, feed}
 use Rattle.reading.specs.Maps.{short}
 use Rattle.reading.specs.Head.{Turn, more, done}
@@ -46,13 +46,13 @@ sort n l = by (decLe (length l) 80) (all-dec (within? 32 126) l) (all-dec (λ b.
 
 abbrev NumberIn : State → Fault → Type 0
 NumberIn first f = First f
-NumberIn (header c a e got) f = Later f
+NumberIn (header c a e got ds) f = Later f
 NumberIn (maps h q p c) f = Later f
 
 row-blames : (s : State) (r : List ℕ) → Blames (NumberIn s) (on-row-of s r)
 unfolding on-row-of
 row-blames first r = amap-blames _ (version-blames r)
-row-blames (header c a e got) r = amap-blames _ (head-step-blames c e got r a)
+row-blames (header c a e got ds) r = amap-blames _ (head-step-blames c e got ds r a)
 row-blames (maps h q p zero) r = amap-blames _ (step-blames h p r q)
 row-blames (maps h q p (suc c)) r = amap-blames _ (cells-blame 1 _ r (omega arith))
 
@@ -70,17 +70,17 @@ first-range (six-first h) = (omega arith, omega arith)
 
 three-to-nine : (s : State) (f : Fault) → NumberIn s f → Within 3 9 (f .number)
 three-to-nine first f t = first-range t
-three-to-nine (header c a e got) f t = let x = later-range t in (omega arith, omega arith)
+three-to-nine (header c a e got ds) f t = let x = later-range t in (omega arith, omega arith)
 three-to-nine (maps h q p c) f t = let x = later-range t in (omega arith, omega arith)
 
 three-first : (s : State) (f : Fault) → NumberIn s f → f .number ≡ 3 → s ≡ first
 three-first first f t e = refl
-three-first (header c a e got) f t q = let x = later-range t in absurd (omega arith)
+three-first (header c a e got ds) f t q = let x = later-range t in absurd (omega arith)
 three-first (maps h r p c) f t q = let x = later-range t in absurd (omega arith)
 
 placed : (s : State) (f : Fault) → NumberIn s f → Placed f
 placed first f t = inl t
-placed (header c a e got) f t = inr t
+placed (header c a e got ds) f t = inr t
 placed (maps h q p c) f t = inr t
 
 -- no row leads back to the version record
@@ -88,7 +88,7 @@ always : {W A : Type 0} {Q : A → Type 0} (x : Answer W A) → ((a : A) → Q a
 always (ok a) f = y-ok (f a)
 always (refused w) f = y-no
 
-in-header : {c : Version} {a : Mode} {e : ℤ} {got : Slots} → ¬ (header c a e got ≡ first)
+in-header : {c : Version} {a : Mode} {e : ℤ} {got : Slots} {ds : Lines} → ¬ (header c a e got ds ≡ first)
 in-header q = let z : _≡_ {A = ℕ} 0 1 = cc in omega arith
 
 in-maps : {h : Header} {q : Place} {p : Force} {c : ℕ} → ¬ (maps h q p c ≡ first)
@@ -97,10 +97,10 @@ in-maps e = let z : _≡_ {A = ℕ} 0 1 = cc in omega arith
 moves-on : (s : State) (r : List ℕ) → Yields (λ (m : Move s). ¬ (m .to ≡ first)) (on-row-of s r)
 unfolding on-row-of
 moves-on first r = amap-yields _ (always _ (λ c. in-header))
-moves-on (header c a e got) r = amap-yields _ (always _ turns)
+moves-on (header c a e got ds) r = amap-yields _ (always _ turns)
   where
-    turns : (t : Turn) → ¬ (turn c a e got t .to ≡ first)
-    turns (more a′ e′ got′) = in-header
+    turns : (t : Turn) → ¬ (turn c a e got ds t .to ≡ first)
+    turns (more a′ e′ got′ ds′) = in-header
     turns done = in-maps
 moves-on (maps h q p zero) r = amap-yields _ (always _ (λ x. in-maps))
 moves-on (maps h q p (suc c)) r = amap-yields _ (always _ (λ zs. in-maps))

@@ -13,11 +13,12 @@ use Rattle.mapset.specs.declared.Counted.{Counted}
 use Rattle.mapset.specs.declared.System.{System}
 use Rattle.mapset.specs.declared.Version.{Version}
 use Rattle.mapset.specs.declared.Header.{Header}
-use Rattle.mapset.specs.declared.Texts.{Texts}
+use Rattle.mapset.specs.Described.{lines-in, FullTexts}
+use Rattle.mapset.proofs.DescribedLaws.{lines-length, described-lines}
 use Rattle.mapset.specs.Grid.{Line}
-use Rattle.mapset.specs.Header.{count, tenths, epoch as an-epoch, axis, program, mapping, observables, system as a-system, contents, starred, Said, number, along, words, counts, Accepts, a-count, a-tenths, a-epoch, a-axis, a-program, a-mapping, a-observables, a-system as accepts-system, if-stands, counted, of-system, says, Filled, Fillers}
+use Rattle.mapset.specs.Header.{count, tenths, epoch as an-epoch, axis, program, mapping, observables, system as a-system, contents, starred, Said, number, along, words, counts, Accepts, a-count, a-tenths, a-epoch, a-axis, a-program, a-mapping, a-observables, a-system as accepts-system, if-stands, counted, of-system, says, Filled, Fillers, DescriptionRules}
 use Rattle.layout.specs.Labels.{content}
-use Rattle.layout.specs.Layout.{Slots}
+use Rattle.layout.specs.Layout.{Slots, Lines}
 use Rattle.reading.specs.Head.{Complete, made, made-texts, Fit, fit-no, fit, FitAll}
 use Rattle.mapset.specs.Said.{number-in, axis-in, words-in, counted-in, system-in}
 
@@ -106,7 +107,10 @@ back-counted c f = counted-back (c .stands) (c .count) f
 back-system : (s : System) → Filled (s .stands) (s .stations) × Filled (s .stands) (s .satellites) → system-in (of-system s) ≡ s
 back-system s f = system-back (s .stands) (s .stations) (s .satellites) f
 
-pub made-says : (h : Header) (t : Texts) → Fillers h → made (h .version) (says h t) ≡ h
+abbrev pub lines-left : Header → FullTexts → Lines
+lines-left h t = lines-in (h .descriptions) (t .descriptions)
+
+pub made-says : (h : Header) (t : FullTexts) → Fillers h → made (h .version) (says h t) (length (lines-left h t)) ≡ h
 unfolding made
 made-says h t f = λ i. record {
   version = h .version;
@@ -124,13 +128,21 @@ made-says h t f = λ i. record {
     i = back-system (h .systems .i) (f .i) i;
     s = back-system (h .systems .s) (f .s) i;
   };
+  descriptions = lines-length (h .descriptions) (t .descriptions) i;
 }
 
-pub texts-says : (h : Header) (t : Texts) → made-texts (says h t) ≡ t
+pub texts-says : (h : Header) (t : FullTexts) → DescriptionRules (h .descriptions) (t .descriptions) → made-texts (says h t) (lines-left h t) ≡ t
 unfolding made-texts
-texts-says h t = refl
+texts-says h t r = λ i. record {
+  program = t .program;
+  agency = t .agency;
+  date = t .date;
+  mapping = t .mapping;
+  observables = t .observables;
+  descriptions = described-lines (h .descriptions) (t .descriptions) r i;
+}
 
-pub complete-says : (h : Header) (t : Texts) → Complete starred (says h t)
+pub complete-says : (h : Header) (t : FullTexts) → Complete starred (says h t)
 complete-says h t = tt
 
 -- ---- what the header record says that was made of what was got
@@ -195,27 +207,27 @@ says-system : (o : Option Said) → Fit a-system o → of-system (system-in o) �
 says-system none fit-no = refl
 says-system (some s) (fit (accepts-system a b)) = refl
 
-module _ (c : Version) (got : Slots) (z : length got ≡ 22) (f : FitAll got) (w : Complete starred got) where
-  pub says-made : says (made c got) (made-texts got) ≡ got
+module _ (c : Version) (got : Slots) (n : ℕ) (ds : Lines) (z : length got ≡ 22) (f : FitAll got) (w : Complete starred got) where
+  pub says-made : says (made c got n) (made-texts got ds) ≡ got
   unfolding made made-texts
   says-made =
-      let n : (i : ℕ) → getD starred i true ≡ false → ¬ (getD got i none ≡ none) = λ i e. complete-at starred got i w e in
+      let k : (i : ℕ) → getD starred i true ≡ false → ¬ (getD got i none ≡ none) = λ i e. complete-at starred got i w e in
       (λ i.
-      program-back (getD got 0 none) (f 0) (n 0 refl) i
-      ∷ epoch-back (getD got 1 none) (f 1) (n 1 refl) i
-      ∷ epoch-back (getD got 2 none) (f 2) (n 2 refl) i
-      ∷ count-back (getD got 3 none) (f 3) (n 3 refl) i
-      ∷ count-back (getD got 4 none) (f 4) (n 4 refl) i
-      ∷ mapping-back (getD got 5 none) (f 5) (n 5 refl) i
-      ∷ tenths-back (getD got 6 none) (f 6) (n 6 refl) i
-      ∷ observables-back (getD got 7 none) (f 7) (n 7 refl) i
+      program-back (getD got 0 none) (f 0) (k 0 refl) i
+      ∷ epoch-back (getD got 1 none) (f 1) (k 1 refl) i
+      ∷ epoch-back (getD got 2 none) (f 2) (k 2 refl) i
+      ∷ count-back (getD got 3 none) (f 3) (k 3 refl) i
+      ∷ count-back (getD got 4 none) (f 4) (k 4 refl) i
+      ∷ mapping-back (getD got 5 none) (f 5) (k 5 refl) i
+      ∷ tenths-back (getD got 6 none) (f 6) (k 6 refl) i
+      ∷ observables-back (getD got 7 none) (f 7) (k 7 refl) i
       ∷ says-counted (getD got 8 none) (f 8) i
       ∷ says-counted (getD got 9 none) (f 9) i
-      ∷ tenths-back (getD got 10 none) (f 10) (n 10 refl) i
-      ∷ count-back (getD got 11 none) (f 11) (n 11 refl) i
-      ∷ axis-back (getD got 12 none) (f 12) (n 12 refl) i
-      ∷ axis-back (getD got 13 none) (f 13) (n 13 refl) i
-      ∷ axis-back (getD got 14 none) (f 14) (n 14 refl) i
+      ∷ tenths-back (getD got 10 none) (f 10) (k 10 refl) i
+      ∷ count-back (getD got 11 none) (f 11) (k 11 refl) i
+      ∷ axis-back (getD got 12 none) (f 12) (k 12 refl) i
+      ∷ axis-back (getD got 13 none) (f 13) (k 13 refl) i
+      ∷ axis-back (getD got 14 none) (f 14) (k 14 refl) i
       ∷ says-system (getD got 15 none) (f 15) i
       ∷ says-system (getD got 16 none) (f 16) i
       ∷ says-system (getD got 17 none) (f 17) i
@@ -239,9 +251,9 @@ system-filled (some (along a)) = (refl, refl)
 system-filled (some (words ws)) = (refl, refl)
 system-filled (some (counts a b)) = (tt, tt)
 
-pub made-filled : (c : Version) (got : Slots) → Fillers (made c got)
+pub made-filled : (c : Version) (got : Slots) (n : ℕ) → Fillers (made c got n)
 unfolding made
-made-filled c got =
+made-filled c got n =
     record {
       stations = counted-filled (getD got 8 none);
       satellites = counted-filled (getD got 9 none);

@@ -4,6 +4,7 @@ use mathlib.Core.List.{List, [], _∷_, _++_}
 use mathlib.Core.Bool.{true, false}
 use Prim.Native.Nat.{ℕ}
 use lib.IntN.{ℤ, pos, negsuc}
+use lib.ListN.{take, drop, replicate}
 use Prim.Native.String.{String}
 use native.Mathlib.Decide.{ℕ-discrete, decLe, decLt}
 use Rattle.kit.specs.Answer.{ok, refused, need, bind, amap, get, pick, ×-dec, ⊎-dec, ¬-dec, all-dec, same, sames}
@@ -15,6 +16,7 @@ use Rattle.days.specs.Sums.{sum}
 use Rattle.forms.specs.Read.{readField, numberOf, formed?}
 use Rattle.mapset.specs.Decisions.{×₃-dec, ×₄-dec, end?, step?, multiple?, together?, limits?, dimension?, follows?}
 use Rattle.mapset.specs.declared.System.{System}
+use Rattle.mapset.specs.Described.{end-to-end, described, no-lines}
 use Rattle.mapset.specs.MapSet.{Block, MapSet}
 use Rattle.layout.specs.Text.{pad}
 use Rattle.layout.specs.Labels.{version, bytes, name}
@@ -22,7 +24,7 @@ use Rattle.layout.specs.Layout.{Makes, exponent?}
 use Rattle.reading.specs.Feed.{fault, why, on-line, front, opens?, split, feed}
 use Rattle.reading.specs.Fields.{lookup, label, number, blank, scan, fields, cells}
 use Rattle.reading.specs.Maps.{on-date, kind?, true?, after?, implies?, in-time?, height?, loose, on-comment, on-exponent, start-tec, start-other, start-map, on-start, end-map, on-end as on-map-end, epoch-tec, epoch-other, on-epoch, open-block, on-block, on-file, taken, step, finish, run, short}
-use Rattle.reading.specs.Head.{meant, place, none?, complete?, made, made-texts, once, on-end, at-head, head-step, heading}
+use Rattle.reading.specs.Head.{meant, place, none?, complete?, made, made-texts, once, on-description, on-end, at-head, head-step, heading}
 use Rattle.reading.specs.Read.{versioned, version-of, begin, read}
 use Rattle.reading.proofs.Exact.{made-read}
 
@@ -54,7 +56,7 @@ two-faults =
     ∷ []
 
 pub eight-before-seven : read (lines two-faults) ≡ refused (why 8 15 0)
-unfolding two-faults read begin feed split front opens? pad pick ×-dec ⊎-dec ¬-dec all-dec same sames need bind amap get ℕ-discrete decLe decLt int? le? lt? between? within? natural? dated second isLeap monthDays yearDays sum readField numberOf formed? ×₃-dec ×₄-dec end? step? multiple? together? limits? dimension? name on-line lookup label number blank scan fields on-date short meant place none? complete? made once on-end at-head head-step heading versioned version-of
+unfolding two-faults read begin feed split front opens? pad pick ×-dec ⊎-dec ¬-dec all-dec same sames need bind amap get ℕ-discrete decLe decLt int? le? lt? between? within? natural? dated second isLeap monthDays yearDays sum readField numberOf formed? ×₃-dec ×₄-dec end? step? multiple? together? limits? dimension? name on-line lookup label number blank scan fields on-date short meant place none? complete? made once on-description on-end at-head head-step heading versioned version-of
 eight-before-seven = refl
 
 -- a small text: one TEC map and its RMS map, of two rows and three columns
@@ -97,9 +99,9 @@ small-text =
 abbrev row-of : ℤ → ℤ → ℤ → ℤ → Block
 row-of e a b c = record { exponent = e; values = a ∷ b ∷ c ∷ [] }
 
--- the map set that makes it: the second row and the RMS map stand under the exponent -2
-unfoldable pub small-set : MapSet
-small-set =
+-- the map set that makes it, with n DESCRIPTION lines in these bytes: the second row and the RMS map stand under the exponent -2
+abbrev small-with : ℕ → List ℕ → MapSet
+small-with n bs =
     record {
       header = record {
         version = record { tenths = 11; kind = 73; code = 6 };
@@ -113,6 +115,7 @@ small-set =
         stations = record { stands = true; count = 80 };
         satellites = record { stands = false; count = 0 };
         systems = record { g = no-system; r = no-system; e = no-system; c = no-system; j = no-system; i = no-system; s = no-system };
+        descriptions = n;
       };
       texts = record {
         program = bytes "maker               ";
@@ -120,6 +123,7 @@ small-set =
         date = bytes "15-nov-26 06:00     ";
         mapping = bytes "COSZ";
         observables = bytes "carrier phase                                               ";
+        descriptions = bs;
       };
       maps = record {
         tec = record { epoch = 3022704000; blocks = row-of (negsuc 0) (pos 100) (pos 9999) (negsuc 4) ∷ row-of (negsuc 1) (pos 1) (pos 2) (pos 3) ∷ [] } ∷ [];
@@ -128,12 +132,28 @@ small-set =
       };
     }
 
+unfoldable pub small-set : MapSet
+small-set = small-with 0 no-lines
+
 pub small-read : read (lines small-text) ≡ ok small-set
-unfolding small-text small-set read begin feed split front opens? pad pick ×-dec ⊎-dec ¬-dec all-dec same sames need bind amap get ℕ-discrete decLe decLt int? le? lt? between? within? natural? dated second isLeap monthDays yearDays sum readField numberOf formed? ×₃-dec ×₄-dec end? step? multiple? together? limits? dimension? follows? name on-line lookup label number blank scan fields cells on-date exponent? kind? true? after? implies? in-time? height? loose on-comment on-exponent start-tec start-other start-map on-start end-map on-map-end epoch-tec epoch-other on-epoch open-block on-block on-file taken step finish run short meant place none? complete? made made-texts once on-end at-head head-step heading versioned version-of
+unfolding small-text small-set read begin feed split front opens? pad pick ×-dec ⊎-dec ¬-dec all-dec same sames need bind amap get ℕ-discrete decLe decLt int? le? lt? between? within? natural? dated second isLeap monthDays yearDays sum readField numberOf formed? ×₃-dec ×₄-dec end? step? multiple? together? limits? dimension? follows? name on-line lookup label number blank scan fields cells on-date exponent? kind? true? after? implies? in-time? height? loose on-comment on-exponent start-tec start-other start-map on-start end-map on-map-end epoch-tec epoch-other on-epoch open-block on-block on-file taken step finish run short meant place none? complete? made made-texts described end-to-end no-lines once on-description on-end at-head head-step heading versioned version-of
 small-read = refl
 
 pub small-made : Makes small-set (lines small-text)
 small-made = made-read (lines small-text) small-read
+
+-- the small text with two DESCRIPTION lines, one of them blank, and other records between
+unfoldable pub described-text : List String
+described-text =
+    take 2 small-text
+    ++ ("global model of degree 15, one shell                        DESCRIPTION" ∷ take 7 (drop 2 small-text)
+    ++ ("                                                            DESCRIPTION" ∷ drop 9 small-text))
+
+-- both are kept, in the text's order, each of 60 columns, and then blanks up to 1,200
+pub described-read : read (lines described-text)
+    ≡ ok (small-with 2 (bytes "global model of degree 15, one shell                        " ++ (bytes "                                                            " ++ replicate 1080 32)))
+unfolding small-text described-text read begin feed split front opens? pad pick ×-dec ⊎-dec ¬-dec all-dec same sames need bind amap get ℕ-discrete decLe decLt int? le? lt? between? within? natural? dated second isLeap monthDays yearDays sum readField numberOf formed? ×₃-dec ×₄-dec end? step? multiple? together? limits? dimension? follows? name on-line lookup label number blank scan fields cells on-date exponent? kind? true? after? implies? in-time? height? loose on-comment on-exponent start-tec start-other start-map on-start end-map on-map-end epoch-tec epoch-other on-epoch open-block on-block on-file taken step finish run short meant place none? complete? made made-texts described end-to-end no-lines once on-description on-end at-head head-step heading versioned version-of
+described-read = refl
 
 -- a text with two TEC maps of one row and two columns
 unfoldable pub two-text : List String
@@ -184,6 +204,7 @@ two-set =
         stations = record { stands = false; count = 0 };
         satellites = record { stands = false; count = 0 };
         systems = record { g = no-system; r = no-system; e = no-system; c = no-system; j = no-system; i = no-system; s = no-system };
+        descriptions = 0;
       };
       texts = record {
         program = bytes "maker               ";
@@ -191,6 +212,7 @@ two-set =
         date = bytes "15-nov-26 06:00     ";
         mapping = bytes "COSZ";
         observables = bytes "carrier phase                                               ";
+        descriptions = no-lines;
       };
       maps = record {
         tec = record { epoch = 3022704000; blocks = pair-of (pos 11) (pos 12) ∷ [] } ∷ record { epoch = 3022707600; blocks = pair-of (pos 21) (pos 22) ∷ [] } ∷ [];
@@ -200,7 +222,7 @@ two-set =
     }
 
 pub two-read : read (lines two-text) ≡ ok two-set
-unfolding two-text two-set read begin feed split front opens? pad pick ×-dec ⊎-dec ¬-dec all-dec same sames need bind amap get ℕ-discrete decLe decLt int? le? lt? between? within? natural? dated second isLeap monthDays yearDays sum readField numberOf formed? ×₃-dec ×₄-dec end? step? multiple? together? limits? dimension? follows? name on-line lookup label number blank scan fields cells on-date exponent? kind? true? after? implies? in-time? height? loose on-comment on-exponent start-tec start-other start-map on-start end-map on-map-end epoch-tec epoch-other on-epoch open-block on-block on-file taken step finish run short meant place none? complete? made made-texts once on-end at-head head-step heading versioned version-of
+unfolding two-text two-set read begin feed split front opens? pad pick ×-dec ⊎-dec ¬-dec all-dec same sames need bind amap get ℕ-discrete decLe decLt int? le? lt? between? within? natural? dated second isLeap monthDays yearDays sum readField numberOf formed? ×₃-dec ×₄-dec end? step? multiple? together? limits? dimension? follows? name on-line lookup label number blank scan fields cells on-date exponent? kind? true? after? implies? in-time? height? loose on-comment on-exponent start-tec start-other start-map on-start end-map on-map-end epoch-tec epoch-other on-epoch open-block on-block on-file taken step finish run short meant place none? complete? made made-texts described end-to-end no-lines once on-description on-end at-head head-step heading versioned version-of
 two-read = refl
 
 -- a text with half a degree in its axes and in its block's opening, as these lines spell it
@@ -245,12 +267,12 @@ full-text =
 
 -- `.5` is accepted, and means what `0.5` means
 pub bare-read : (s : MapSet) × (read (lines bare-text) ≡ ok s) × (read (lines full-text) ≡ ok s)
-unfolding half-text bare-text full-text read begin feed split front opens? pad pick ×-dec ⊎-dec ¬-dec all-dec same sames need bind amap get ℕ-discrete decLe decLt int? le? lt? between? within? natural? dated second isLeap monthDays yearDays sum readField numberOf formed? ×₃-dec ×₄-dec end? step? multiple? together? limits? dimension? follows? name on-line lookup label number blank scan fields cells on-date exponent? kind? true? after? implies? in-time? height? loose on-comment on-exponent start-tec start-other start-map on-start end-map on-map-end epoch-tec epoch-other on-epoch open-block on-block on-file taken step finish run short meant place none? complete? made made-texts once on-end at-head head-step heading versioned version-of
+unfolding half-text bare-text full-text read begin feed split front opens? pad pick ×-dec ⊎-dec ¬-dec all-dec same sames need bind amap get ℕ-discrete decLe decLt int? le? lt? between? within? natural? dated second isLeap monthDays yearDays sum readField numberOf formed? ×₃-dec ×₄-dec end? step? multiple? together? limits? dimension? follows? name on-line lookup label number blank scan fields cells on-date exponent? kind? true? after? implies? in-time? height? loose on-comment on-exponent start-tec start-other start-map on-start end-map on-map-end epoch-tec epoch-other on-epoch open-block on-block on-file taken step finish run short meant place none? complete? made made-texts described end-to-end no-lines once on-description on-end at-head head-step heading versioned version-of
 bare-read = (_, refl, refl)
 
 -- the digit after the point is not left out: 6 at the field's first column
 pub no-digit : read (lines (half-text "      .5    .5    .5                                        LAT1 / LAT2 / DLAT" "      -.    .0    .5                                        LON1 / LON2 / DLON" "")) ≡ refused (why 6 14 3)
-unfolding half-text read begin feed split front opens? pad pick ×-dec ⊎-dec ¬-dec all-dec same sames need bind amap get ℕ-discrete decLe decLt int? le? lt? between? within? natural? dated second isLeap monthDays yearDays sum readField numberOf formed? ×₃-dec ×₄-dec end? step? multiple? together? limits? dimension? follows? name on-line lookup label number blank scan fields cells on-date exponent? kind? true? after? implies? in-time? height? loose on-comment on-exponent start-tec start-other start-map on-start end-map on-map-end epoch-tec epoch-other on-epoch open-block on-block on-file taken step finish run short meant place none? complete? made made-texts once on-end at-head head-step heading versioned version-of
+unfolding half-text read begin feed split front opens? pad pick ×-dec ⊎-dec ¬-dec all-dec same sames need bind amap get ℕ-discrete decLe decLt int? le? lt? between? within? natural? dated second isLeap monthDays yearDays sum readField numberOf formed? ×₃-dec ×₄-dec end? step? multiple? together? limits? dimension? follows? name on-line lookup label number blank scan fields cells on-date exponent? kind? true? after? implies? in-time? height? loose on-comment on-exponent start-tec start-other start-map on-start end-map on-map-end epoch-tec epoch-other on-epoch open-block on-block on-file taken step finish run short meant place none? complete? made made-texts described end-to-end no-lines once on-description on-end at-head head-step heading versioned version-of
 no-digit = refl
 
 -- ---- versions: GPS and GLO stand under 1.0 and not under 1.1; the version is told before the type, the type before the code

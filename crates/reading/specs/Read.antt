@@ -39,7 +39,7 @@ version-of r =
 unfoldable pub begin : Feed → Answer Why MapSet
 begin (over n) = short n
 begin (bad w) = refused w
-begin (row n r f) = bind (on-line n (version-of r)) (λ c. heading c plain (negsuc 0) nothing-yet f)
+begin (row n r f) = bind (on-line n (version-of r)) (λ c. heading c plain (negsuc 0) nothing-yet [] f)
 
 unfoldable pub read : List ℕ → Answer Why MapSet
 read t = begin (feed 1 (split t))

@@ -18,11 +18,11 @@ use Rattle.mapset.specs.declared.Header.{Header}
 use Rattle.mapset.specs.Header.{Said}
 use Rattle.mapset.specs.Grid.{columns}
 use Rattle.layout.specs.Labels.{Label, version, description, comment, system, exponent, aux-start, aux-end, header-end, epoch, block, file-end, head, start, end, name, labels, letters}
-use Rattle.layout.specs.Layout.{Force, Slots, Mode, plain, aux}
+use Rattle.layout.specs.Layout.{Force, Slots, Lines, Mode, plain, aux}
 use Rattle.reading.specs.Feed.{Fault, fault}
 use Rattle.reading.specs.Fields.{lookup, label, fields, cells}
 use Rattle.reading.specs.Maps.{Next, on-date, loose, on-comment, on-exponent, start-tec, start-other, start-map, on-start, end-map, on-end as on-map-end, epoch-tec, epoch-other, on-epoch, open-block, on-block, on-file, taken, step, on-row, date}
-use Rattle.reading.specs.Head.{Turn, more, done, place, once, on-system, on-end, at-head, head-step}
+use Rattle.reading.specs.Head.{Turn, more, done, place, once, on-description, on-system, on-end, at-head, head-step}
 use Rattle.reading.specs.Read.{nothing-yet, version-of}
 use Rattle.reading.proofs.RecordLaws.{known-maps}
 use Rattle.reading.proofs.Machine.{State, first, header, maps, Out, turn, Move, on-row-of}
@@ -45,7 +45,7 @@ pub record Gain : Type 0 where
 -- what the scan keeps: the exponent in force in the header, its own state in the maps
 abbrev pub Past : State → Type 0
 Past first = ℤ
-Past (header c a z got) = ℤ
+Past (header c a z got ds) = ℤ
 Past (maps h q p c) = Now
 
 any : {W A : Type 0} {Q : A → Type 0} (x : Answer W A) → ((y : A) → Q y) → Yields Q x
@@ -147,13 +147,13 @@ module _ (C : ℕ) where
 
   abbrev pub gained : (s : State) → Past s → Placed → Gain
   gained first e ps = behind (maps-of plain e ps)
-  gained (header c a z got) e ps = behind (maps-of a e ps)
+  gained (header c a z got ds) e ps = behind (maps-of a e ps)
   gained (maps h q p c) s ps = in-maps s c ps
 
   -- what is read has C columns
   abbrev pub Wide : (s : State) → Out s → Type 0
   Wide first m = columns (m .header .grid) ≡ C
-  Wide (header c a z got) m = columns (m .header .grid) ≡ C
+  Wide (header c a z got ds) m = columns (m .header .grid) ≡ C
   Wide (maps h q p c) w = columns (h .grid) ≡ C
 
   -- what the row r, whose line starts at a, adds to what comes behind it
@@ -172,36 +172,36 @@ module _ (C : ℕ) where
     unfolding maps-of
     labelled-as e l q ps = ap (by e ps) q
 
-    version-adds : (e : ℤ) → Yields (λ c. Adds first e (record { to = header c plain (negsuc 0) nothing-yet; back = λ m. m }) a r) (version-of r)
+    version-adds : (e : ℤ) → Yields (λ c. Adds first e (record { to = header c plain (negsuc 0) nothing-yet []; back = λ m. m }) a r) (version-of r)
     unfolding version-of label
     version-adds e =
         need-yields (same (drop 60 r) (name version)) (fault 3 61)
         (λ q. any _ (λ c. record { past = e; gain = λ g. g; brings = λ x w ps. ap behind (labelled-as e version (ap (λ s. lookup s labels) q ∙ known-version) ps); wide = λ x w. w }))
 
-    module _ (c : Version) (z : ℤ) (got : Slots) (e : ℤ) where
+    module _ (c : Version) (z : ℤ) (got : Slots) (ds : Lines) (e : ℤ) where
       abbrev Turns : Turn → Type 0
-      Turns t = Adds (header c plain z got) e (turn c plain z got t) a r
+      Turns t = Adds (header c plain z got ds) e (turn c plain z got ds t) a r
 
-      goes-on : (b : Mode) (z′ : ℤ) (got′ : Slots) (e′ : ℤ) → ((ps : Placed) → maps-of plain e ((a, r) ∷ ps) ≡ maps-of b e′ ps) → Turns (more b z′ got′)
-      goes-on b z′ got′ e′ f = record { past = e′; gain = λ g. g; brings = λ x w ps. ap behind (f ps); wide = λ x w. w }
+      goes-on : (b : Mode) (z′ : ℤ) (got′ : Slots) (ds′ : Lines) (e′ : ℤ) → ((ps : Placed) → maps-of plain e ((a, r) ∷ ps) ≡ maps-of b e′ ps) → Turns (more b z′ got′ ds′)
+      goes-on b z′ got′ ds′ e′ f = record { past = e′; gain = λ g. g; brings = λ x w ps. ap behind (f ps); wide = λ x w. w }
 
-      once-adds : (i : ℕ) (x : Answer Fault Said) → ((ps : Placed) → maps-of plain e ((a, r) ∷ ps) ≡ maps-of plain e ps) → Yields Turns (once z got i x)
+      once-adds : (i : ℕ) (x : Answer Fault Said) → ((ps : Placed) → maps-of plain e ((a, r) ∷ ps) ≡ maps-of plain e ps) → Yields Turns (once z got ds i x)
       unfolding once
-      once-adds i x f = need-yields _ _ (λ _. bind-yields x (λ s _. y-ok (goes-on plain z (set got i (some s)) e f)))
+      once-adds i x f = need-yields _ _ (λ _. bind-yields x (λ s _. y-ok (goes-on plain z (set got i (some s)) ds e f)))
 
-      system-adds : (o : Option ℕ) → ((ps : Placed) → maps-of plain e ((a, r) ∷ ps) ≡ maps-of plain e ps) → Yields Turns (on-system z got r o)
+      system-adds : (o : Option ℕ) → ((ps : Placed) → maps-of plain e ((a, r) ∷ ps) ≡ maps-of plain e ps) → Yields Turns (on-system z got ds r o)
       unfolding on-system
       system-adds none f = bind-yields (fields system r) (λ v _. y-no)
       system-adds (some j) f = once-adds _ _ f
 
-      head-adds : (l : Label) → label r ≡ some l → Yields Turns (at-head c z got l r)
-      unfolding at-head on-end
-      head-adds description q = bind-yields (fields description r) (λ v _. y-ok (goes-on plain z got e (labelled-as e description q)))
-      head-adds comment q = bind-yields (fields comment r) (λ v _. y-ok (goes-on plain z got e (labelled-as e comment q)))
-      head-adds exponent q = bind-yields (fields exponent r) (λ v _. need-yields _ _ (λ _. y-ok (goes-on plain (v .0) got (exponent-in r) (labelled-as e exponent q))))
+      head-adds : (l : Label) → label r ≡ some l → Yields Turns (at-head c z got ds l r)
+      unfolding at-head on-description on-end
+      head-adds description q = need-yields _ _ (λ _. bind-yields (fields description r) (λ v _. y-ok (goes-on plain z got (ds ++ (v .0 ∷ [])) e (labelled-as e description q))))
+      head-adds comment q = bind-yields (fields comment r) (λ v _. y-ok (goes-on plain z got ds e (labelled-as e comment q)))
+      head-adds exponent q = bind-yields (fields exponent r) (λ v _. need-yields _ _ (λ _. y-ok (goes-on plain (v .0) got ds (exponent-in r) (labelled-as e exponent q))))
       head-adds (head i) q = once-adds i _ (labelled-as e (head i) q)
       head-adds system q = system-adds (place ℕ-discrete (getD r 5 32) letters) (labelled-as e system q)
-      head-adds aux-start q = bind-yields (fields aux-start r) (λ v _. y-ok (goes-on aux z got e (labelled-as e aux-start q)))
+      head-adds aux-start q = bind-yields (fields aux-start r) (λ v _. y-ok (goes-on aux z got ds e (labelled-as e aux-start q)))
       head-adds header-end q =
           bind-yields (fields header-end r) (λ v _. need-yields _ _ (λ _. need-yields _ _ (λ _. need-yields _ _ (λ _.
           y-ok (record { past = at-first e; gain = λ g. g; brings = λ x w ps. ap behind (labelled-as e header-end q ps); wide = λ x w. w })))))
@@ -213,7 +213,7 @@ module _ (C : ℕ) where
       head-adds block q = y-no
       head-adds file-end q = y-no
 
-      aux-adds : Yields (λ t. Adds (header c aux z got) e (turn c aux z got t) a r) (head-step c aux z got r)
+      aux-adds : Yields (λ t. Adds (header c aux z got ds) e (turn c aux z got ds t) a r) (head-step c aux z got ds r)
       unfolding head-step maps-of
       aux-adds =
           pick-yields (same (drop 60 r) (name aux-end))
@@ -301,8 +301,8 @@ module _ (C : ℕ) where
   pub row-adds : (s : State) (e : Past s) (a : ℕ) (r : List ℕ) → Yields (λ m. Adds s e m a r) (on-row-of s r)
   unfolding on-row-of head-step step
   row-adds first e a r = amap-yields _ (version-adds a r e)
-  row-adds (header c plain z got) e a r = amap-yields _ (get-yields (label r) (fault 4 61) (λ l q. head-adds a r c z got e l q))
-  row-adds (header c aux z got) e a r = amap-yields _ (aux-adds a r c z got e)
+  row-adds (header c plain z got ds) e a r = amap-yields _ (get-yields (label r) (fault 4 61) (λ l q. head-adds a r c z got ds e l q))
+  row-adds (header c aux z got ds) e a r = amap-yields _ (aux-adds a r c z got ds e)
   row-adds (maps h q p zero) e a r = amap-yields _ (get-yields (label r) (fault 4 61) (λ l d. step-adds a r h q p e l d))
   row-adds (maps h q p (suc c)) e a r = amap-yields _ (values-adds a r h q p c e)
 
@@ -310,8 +310,8 @@ module _ (C : ℕ) where
   pub comment-adds : (s : State) (e : Past s) (a : ℕ) (r : List ℕ) → drop 60 r ≡ name comment → Yields (λ (m : Move s). (ps : Placed) → gained s e ((a, r) ∷ ps) ≡ gained s e ps) (on-row-of s r)
   unfolding on-row-of
   comment-adds first e a r q = any _ (λ m ps. ap behind (labelled-as a r e comment (label-is comment-word r q) ps))
-  comment-adds (header c plain z got) e a r q = any _ (λ m ps. ap behind (labelled-as a r e comment (label-is comment-word r q) ps))
-  comment-adds (header c aux z got) e a r q = any _ (λ m ps. ap behind (unfold maps-of in pick-no (same (drop 60 r) (name aux-end)) _ _ (not-end comment-word r q)))
+  comment-adds (header c plain z got ds) e a r q = any _ (λ m ps. ap behind (labelled-as a r e comment (label-is comment-word r q) ps))
+  comment-adds (header c aux z got ds) e a r q = any _ (λ m ps. ap behind (unfold maps-of in pick-no (same (drop 60 r) (name aux-end)) _ _ (not-end comment-word r q)))
   comment-adds (maps h q p zero) e a r d =
       any _ (λ m ps.
       let l = label-is comment-word r d in
@@ -324,6 +324,6 @@ module _ (C : ℕ) where
   pub inside-adds : (s : State) (e : Past s) (a : ℕ) (r : List ℕ) → InAux s → ¬ (drop 60 r ≡ name aux-end) → (ps : Placed) → gained s e ((a, r) ∷ ps) ≡ gained s e ps
   unfolding maps-of
   inside-adds first e a r i n ps = absurd i
-  inside-adds (header c plain z got) e a r i n ps = absurd i
-  inside-adds (header c aux z got) e a r i n ps = ap behind (pick-no (same (drop 60 r) (name aux-end)) _ _ n)
+  inside-adds (header c plain z got ds) e a r i n ps = absurd i
+  inside-adds (header c aux z got ds) e a r i n ps = ap behind (pick-no (same (drop 60 r) (name aux-end)) _ _ n)
   inside-adds (maps h q p c) e a r i n ps = absurd i

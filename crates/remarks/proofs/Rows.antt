@@ -21,7 +21,7 @@ use Rattle.mapset.specs.declared.Version.{Version}
 use Rattle.mapset.specs.declared.Header.{Header}
 use Rattle.layout.specs.Text.{pad}
 use Rattle.layout.specs.Labels.{Label, version, comment, aux-start, aux-end, name, labels}
-use Rattle.layout.specs.Layout.{Force, Slots, plain, aux}
+use Rattle.layout.specs.Layout.{Force, Slots, Lines, plain, aux}
 use Rattle.reading.specs.Feed.{Fault, fault}
 use Rattle.reading.specs.Fields.{lookup, label, number, blank, scan, fields, cells}
 use Rattle.reading.specs.Maps.{on-comment, taken, step, on-row}
@@ -102,9 +102,9 @@ module _ {x : Label} (k : Word x) where
     unfolding version-of
     at-first = need-no (same (drop 60 r) (name version)) _ _ (λ e. k .no-version (sym q ∙ e))
 
-    at-plain : (c : Version) (e : ℤ) (got : Slots) → head-step c plain e got r ≡ at-head c e got x r
+    at-plain : (c : Version) (e : ℤ) (got : Slots) (ds : Lines) → head-step c plain e got ds r ≡ at-head c e got ds x r
     unfolding head-step get
-    at-plain c e got = ap (λ o. get o (fault 4 61) (λ l. at-head c e got l r)) label-is
+    at-plain c e got ds = ap (λ o. get o (fault 4 61) (λ l. at-head c e got ds l r)) label-is
 
     at-maps : (h : Header) (p : Place) (f : Force) → step h p f r ≡ taken h p f x r
     unfolding step get
@@ -117,28 +117,28 @@ module _ {x : Label} (k : Word x) where
 
 abbrev pub InAux : State → Type 0
 InAux first = ⊥
-InAux (header c plain e got) = ⊥
-InAux (header c aux e got) = Unit {0}
+InAux (header c plain e got ds) = ⊥
+InAux (header c aux e got ds) = Unit {0}
 InAux (maps h p f c) = ⊥
 
-skipped : (c : Version) (e : ℤ) (got : Slots) (r : List ℕ) → ¬ (drop 60 r ≡ name aux-end) → head-step c aux e got r ≡ ok (more aux e got)
+skipped : (c : Version) (e : ℤ) (got : Slots) (ds : Lines) (r : List ℕ) → ¬ (drop 60 r ≡ name aux-end) → head-step c aux e got ds r ≡ ok (more aux e got ds)
 unfolding head-step
-skipped c e got r n = pick-no (same (drop 60 r) (name aux-end)) _ _ n
+skipped c e got ds r n = pick-no (same (drop 60 r) (name aux-end)) _ _ n
 
 -- inside an aux block every row but its end changes nothing
 pub aux-row : (s : State) (r : List ℕ) → InAux s → ¬ (drop 60 r ≡ name aux-end) → on-row-of s r ≡ ok (record { to = s; back = λ m. m })
 unfolding on-row-of amap
 aux-row first r i n = absurd i
-aux-row (header c plain e got) r i n = absurd i
-aux-row (header c aux e got) r i n = ap (amap (turn c aux e got)) (skipped c e got r n)
+aux-row (header c plain e got ds) r i n = absurd i
+aux-row (header c aux e got ds) r i n = ap (amap (turn c aux e got ds)) (skipped c e got ds r n)
 aux-row (maps h p f c) r i n = absurd i
 
 -- START OF AUX DATA, if it is taken, opens one
 pub start-row : (s : State) (r : List ℕ) → drop 60 r ≡ name aux-start → Yields (λ (m : Move s). InAux (m .to)) (on-row-of s r)
 unfolding on-row-of amap at-head bind fields scan taken
 start-row first r q = rw (at-first start-word r q) y-no
-start-row (header c plain e got) r q = rw (at-plain start-word r q c e got) (y-ok tt)
-start-row (header c aux e got) r q = rw (skipped c e got r (not-end start-word r q)) (y-ok tt)
+start-row (header c plain e got ds) r q = rw (at-plain start-word r q c e got ds) (y-ok tt)
+start-row (header c aux e got ds) r q = rw (skipped c e got ds r (not-end start-word r q)) (y-ok tt)
 start-row (maps h p f zero) r q = rw (at-maps start-word r q h p f) y-no
 start-row (maps h p f (suc c)) r q = amap-yields _ (yields-map (λ zs z. absurd z) (no-values start-word r q (on-row (suc c))))
 
@@ -151,7 +151,7 @@ pub comment-row : (s : State) (r r′ : List ℕ) → drop 60 r ≡ name comment
     → (on-row-of s r ≡ on-row-of s r′) ⊎ ((f : Fault) × (on-row-of s r ≡ refused f) × ¬ (f .number ≡ 10))
 unfolding on-row-of at-head bind fields scan taken on-comment
 comment-row first r r′ q q′ = inl (ap (amap _) (at-first comment-word r q ∙ sym (at-first comment-word r′ q′)))
-comment-row (header c plain e got) r r′ q q′ = inl (ap (amap (turn c plain e got)) (at-plain comment-word r q c e got ∙ sym (at-plain comment-word r′ q′ c e got)))
-comment-row (header c aux e got) r r′ q q′ = inl (ap (amap (turn c aux e got)) (skipped c e got r (not-end comment-word r q) ∙ sym (skipped c e got r′ (not-end comment-word r′ q′))))
+comment-row (header c plain e got ds) r r′ q q′ = inl (ap (amap (turn c plain e got ds)) (at-plain comment-word r q c e got ds ∙ sym (at-plain comment-word r′ q′ c e got ds)))
+comment-row (header c aux e got ds) r r′ q q′ = inl (ap (amap (turn c aux e got ds)) (skipped c e got ds r (not-end comment-word r q) ∙ sym (skipped c e got ds r′ (not-end comment-word r′ q′))))
 comment-row (maps h p f zero) r r′ q q′ = inl (ap (amap _) (at-maps comment-word r q h p f ∙ sym (at-maps comment-word r′ q′ h p f)))
 comment-row (maps h p f (suc c)) r r′ q q′ = inr (refused-as _ (amap-yields _ (no-values comment-word r q (on-row (suc c)))) (amap-blames _ (cells-blame 1 (on-row (suc c)) r (omega arith))))

@@ -2,6 +2,7 @@
 ghost use mathlib.Core.Path.{_≡_};
 ghost use Prim.Native.Nat.{_≤_};
 ghost use lib.ListN.{length};
+ghost use Rattle.mapset.specs.Described.{full};
 ghost use Rattle.mapset.specs.Areas.{six};
 ghost use Rattle.kit.specs.Truth.{truth};
 ghost use Rattle.mapset.specs.Grid.{Limits};
@@ -53,6 +54,7 @@ fn lengths_fit(header: Header, marks: &[u8], l: Lengths) -> bool
 pub fn sound(
     header: Header,
     texts: Texts,
+    descriptions: &[u8],
     tec: &[i32],
     rms: &[i32],
     height: &[i32],
@@ -60,9 +62,9 @@ pub fn sound(
     epochs: &[u64],
     marks: &[u8],
 ) -> bool
-    ensures { λ r. ⌜ r ≡ truth (sound? header texts (six (now (tec .entry)) (now (rms .entry)) (now (height .entry)) (now (exponents .entry)) (now (epochs .entry)) (now (marks .entry)))) ⌝ }
+    ensures { λ r. ⌜ r ≡ truth (sound? header (full texts (now (descriptions .entry))) (six (now (tec .entry)) (now (rms .entry)) (now (height .entry)) (now (exponents .entry)) (now (epochs .entry)) (now (marks .entry)))) ⌝ }
 {
-    if !sound_header::header_fits(header, texts) {
+    if !sound_header::header_fits(header, texts, descriptions) {
         return false;
     }
     let maps = header.times.maps as usize;

@@ -3,8 +3,9 @@ ghost use mathlib.Core.Path.{_≡_};
 ghost use Rattle.kit.specs.Answer.{all-dec};
 ghost use Rattle.kit.specs.Range.{within?};
 ghost use Rattle.kit.specs.Truth.{truth};
+ghost use Rattle.mapset.specs.Described.{full};
 ghost use Rattle.mapset.specs.Judged.{line};
-ghost use Rattle.mapset.specs.Sound.{version?, texts?, times?, model?, axis?, grid?, count?, system?, systems?, header?};
+ghost use Rattle.mapset.specs.Sound.{version?, lines?, texts?, times?, model?, axis?, grid?, count?, system?, systems?, header?};
 use mapset::Axis;
 use mapset::Grid;
 use mapset::Header;
@@ -24,22 +25,17 @@ fn within(low: u32, high: u32, x: u32) -> bool
     (low <= x) & (x <= high)
 }
 
-// Whether each byte is from low to high.
+// Whether each byte is from low to high. No branch per byte, so that vector code is made of it.
 pub fn all_within(low: u8, high: u8, bytes: &[u8]) -> bool
     ensures { λ r. ⌜ r ≡ truth (all-dec (within? low high) (now (bytes .entry))) ⌝ }
 {
+    let mut fits = true;
     let mut i: usize = 0;
     while i < bytes.len() {
-        let b = bytes[i];
-        if b < low {
-            return false;
-        }
-        if high < b {
-            return false;
-        }
+        fits = fits & ((low <= bytes[i]) & (bytes[i] <= high));
         i += 1;
     }
-    true
+    fits
 }
 
 fn version_fits(v: Version) -> bool
@@ -48,8 +44,22 @@ fn version_fits(v: Version) -> bool
     within(10, 11, v.tenths) & ((v.kind == 73) & mapset::takes_code(v.tenths, v.code))
 }
 
-fn texts_fit(t: Texts) -> bool
-    ensures { λ r. ⌜ r ≡ truth (texts? t) ⌝ }
+// At most 20 lines of 60 bytes, and blanks behind the last.
+fn descriptions_fit(n: u32, lines: &[u8]) -> bool
+    ensures { λ r. ⌜ r ≡ truth (lines? n (now (lines .entry))) ⌝ }
+{
+    if 20 < n {
+        return false;
+    }
+    if lines.len() != 1200 {
+        return false;
+    }
+    let end = 60 * (n as usize);
+    all_within(32, 126, &lines[..end]) & all_within(32, 32, &lines[end..])
+}
+
+fn texts_fit(t: Texts, n: u32, lines: &[u8]) -> bool
+    ensures { λ r. ⌜ r ≡ truth (texts? n (full t (now (lines .entry)))) ⌝ }
 {
     let program = t.program;
     let agency = t.agency;
@@ -59,7 +69,8 @@ fn texts_fit(t: Texts) -> bool
     all_within(32, 126, &program)
         & (all_within(32, 126, &agency)
             & (all_within(32, 126, &date)
-                & (all_within(32, 126, &mapping) & all_within(32, 126, &observables))))
+                & (all_within(32, 126, &mapping)
+                    & (all_within(32, 126, &observables) & descriptions_fit(n, lines)))))
 }
 
 fn times_fit(t: Times) -> bool
@@ -119,11 +130,11 @@ fn systems_fit(s: Systems) -> bool
                 & (system_fits(s.c) & (system_fits(s.j) & (system_fits(s.i) & system_fits(s.s))))))
 }
 
-pub fn header_fits(header: Header, texts: Texts) -> bool
-    ensures { λ r. ⌜ r ≡ truth (header? header texts) ⌝ }
+pub fn header_fits(header: Header, texts: Texts, descriptions: &[u8]) -> bool
+    ensures { λ r. ⌜ r ≡ truth (header? header (full texts (now (descriptions .entry)))) ⌝ }
 {
     version_fits(header.version)
-        & (texts_fit(texts)
+        & (texts_fit(texts, header.descriptions, descriptions)
             & (times_fit(header.times)
                 & (model_fits(header.model)
                     & (grid_fits(header.grid)

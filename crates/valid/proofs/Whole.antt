@@ -14,7 +14,7 @@ use Rattle.kit.proofs.TruthLaws.{truth-same, fails}
 use Rattle.mapset.specs.declared.Kind.{Kind}
 use Rattle.mapset.specs.declared.Kind.the-variants.{Tec, Rms, Height}
 use Rattle.mapset.specs.declared.Header.{Header}
-use Rattle.mapset.specs.declared.Texts.{Texts}
+use Rattle.mapset.specs.Described.{FullTexts}
 use Rattle.mapset.specs.Grid.{columns}
 use Rattle.mapset.specs.Areas.{Areas, nowhere?, blocks, value-need, Sound}
 use Rattle.mapset.specs.SoundDecided.{sound-groups}
@@ -24,7 +24,7 @@ use Rattle.areas.specs.Stores.{first-of}
 use Rattle.areas.specs.Valid.{needed, values-in, Valid}
 use Rattle.valid.specs.Groups.{kind?, kind-need, Holds, OfKind, of-kind?, RestSays, rest?, Long, validity}
 
-module _ (h : Header) (t : Texts) (a : Areas) where
+module _ (h : Header) (t : FullTexts) (a : Areas) where
   rest-valid : Sound h t a → RestSays h a → Valid h t a
   rest-valid s r =
       record {

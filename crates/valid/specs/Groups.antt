@@ -8,7 +8,7 @@ use Rattle.kit.specs.Answer.{All, pick, ×-dec, all-dec}
 use Rattle.mapset.specs.declared.Kind.{Kind}
 use Rattle.mapset.specs.declared.Kind.the-variants.{Tec, Rms, Height}
 use Rattle.mapset.specs.declared.Header.{Header}
-use Rattle.mapset.specs.declared.Texts.{Texts}
+use Rattle.mapset.specs.Described.{FullTexts}
 use Rattle.mapset.specs.Grid.{columns, Limits}
 use Rattle.mapset.specs.Areas.{Areas, nowhere?, blocks}
 use Rattle.mapset.specs.Sound.{lengths, LengthsSay}
@@ -62,5 +62,5 @@ pub record Long (h : Header) (a : Areas) : Type 0 where
   pub lengths : LengthsSay h (take (h .times .maps) (a .marks)) (lengths a)
 
 -- ---- `Valid` decided
-unfoldable pub validity : (h : Header) (t : Texts) (a : Areas) → Dec (Valid h t a)
+unfoldable pub validity : (h : Header) (t : FullTexts) (a : Areas) → Dec (Valid h t a)
 validity h t a = valid? h t a (sound? h t a)

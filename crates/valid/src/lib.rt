@@ -6,6 +6,7 @@ ghost use lib.ListN.{length, take, drop};
 ghost use Rattle.kit.specs.Answer.{⊎-dec, all-dec, pick};
 ghost use Rattle.kit.specs.Integer.{int?, between?};
 ghost use Rattle.kit.specs.Truth.{truth};
+ghost use Rattle.mapset.specs.Described.{full};
 ghost use Rattle.mapset.specs.Grid.{layers, rows};
 ghost use Rattle.mapset.specs.Areas.{present?, nowhere?, six};
 ghost use Rattle.areas.specs.ValidDecided.{blank?};
@@ -146,6 +147,7 @@ fn rest_fits(
 pub fn valid(
     header: Header,
     texts: Texts,
+    descriptions: &[u8],
     tec: &[i32],
     rms: &[i32],
     height: &[i32],
@@ -153,9 +155,19 @@ pub fn valid(
     epochs: &[u64],
     marks: &[u8],
 ) -> bool
-    ensures { λ r. ⌜ r ≡ truth (validity header texts (six (now (tec .entry)) (now (rms .entry)) (now (height .entry)) (now (exponents .entry)) (now (epochs .entry)) (now (marks .entry)))) ⌝ }
+    ensures { λ r. ⌜ r ≡ truth (validity header (full texts (now (descriptions .entry))) (six (now (tec .entry)) (now (rms .entry)) (now (height .entry)) (now (exponents .entry)) (now (epochs .entry)) (now (marks .entry)))) ⌝ }
 {
-    if !sound::sound(header, texts, tec, rms, height, exponents, epochs, marks) {
+    if !sound::sound(
+        header,
+        texts,
+        descriptions,
+        tec,
+        rms,
+        height,
+        exponents,
+        epochs,
+        marks,
+    ) {
         return false;
     }
     rest_fits(header, tec, rms, height, exponents, marks)

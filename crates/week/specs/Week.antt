@@ -8,7 +8,7 @@ use lib.ListN.{length}
 use Rattle.kit.specs.Answer.{pick, ×-dec}
 use Rattle.mapset.specs.Areas.{Areas}
 use Rattle.mapset.specs.declared.Header.{Header}
-use Rattle.mapset.specs.declared.Texts.{Texts}
+use Rattle.mapset.specs.Described.{FullTexts}
 use Rattle.areas.specs.Lists.{flat}
 use Rattle.areas.specs.Valid.{Valid}
 use Rattle.valid.specs.Groups.{validity}
@@ -22,11 +22,11 @@ use Rattle.week.specs.declared.KmTally.{KmTally}
 -- a header, its texts and six areas, valid or not; and the area lent for its rows
 pub record Given : Type 0 where
   pub header : Header
-  pub texts : Texts
+  pub texts : FullTexts
   pub areas : Areas
   pub rows : List ℤ
 
-abbrev pub given-as : Header → Texts → Areas → List ℤ → Given
+abbrev pub given-as : Header → FullTexts → Areas → List ℤ → Given
 given-as h t a r = record { header = h; texts = t; areas = a; rows = r }
 
 abbrev pub ValidSet : Given → Type 0

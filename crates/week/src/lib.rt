@@ -7,6 +7,7 @@ ghost use lib.IntN.{natAbs};
 ghost use lib.ListN.{length};
 ghost use Rattle.kit.specs.Lists.{front};
 ghost use Rattle.kit.specs.Truth.{truth};
+ghost use Rattle.mapset.specs.Described.{full};
 ghost use Rattle.mapset.specs.Areas.{six};
 ghost use Rattle.valid.specs.Groups.{Long};
 ghost use Rattle.week_set.specs.SetFigures.{set-rows, rows-need};
@@ -173,6 +174,7 @@ pub fn add(
     w: Week,
     header: Header,
     texts: Texts,
+    descriptions: &[u8],
     tec: &[i32],
     rms: &[i32],
     height: &[i32],
@@ -181,7 +183,7 @@ pub fn add(
     marks: &[u8],
     rows: &mut [i64],
 ) -> Added
-    ensures { λ r. ⌜ comes r (now (rows .exit)) ≡ outcome w (given-as header texts (six (now (tec .entry)) (now (rms .entry)) (now (height .entry)) (now (exponents .entry)) (now (epochs .entry)) (now (marks .entry))) (now (rows .entry))) ⌝ }
+    ensures { λ r. ⌜ comes r (now (rows .exit)) ≡ outcome w (given-as header (full texts (now (descriptions .entry))) (six (now (tec .entry)) (now (rms .entry)) (now (height .entry)) (now (exponents .entry)) (now (epochs .entry)) (now (marks .entry))) (now (rows .entry))) ⌝ }
 {
     if 100 <= w.sets {
         return Added::Refused(Why::Full);
@@ -189,7 +191,17 @@ pub fn add(
     if !sane(w) {
         return Added::Refused(Why::Invalid);
     }
-    if !valid::valid(header, texts, tec, rms, height, exponents, epochs, marks) {
+    if !valid::valid(
+        header,
+        texts,
+        descriptions,
+        tec,
+        rms,
+        height,
+        exponents,
+        epochs,
+        marks,
+    ) {
         return Added::Refused(Why::Invalid);
     }
     let need = rows_need(header.times.maps);

@@ -1,6 +1,6 @@
 -- The rows of the header in groups, by the places of their labels in 01's list.
 use mathlib.Core.Bool.{Bool, true, false}
-use mathlib.Core.List.{List, [], _∷_, _++_}
+use mathlib.Core.List.{List, [], _∷_, _++_, map}
 use Prim.Native.Nat.{ℕ}
 use lib.IntN.{pos}
 use Rattle.mapset.specs.declared.Axis.{Axis}
@@ -11,10 +11,15 @@ use Rattle.mapset.specs.declared.Grid.{Grid}
 use Rattle.mapset.specs.declared.System.{System}
 use Rattle.mapset.specs.declared.Systems.{Systems}
 use Rattle.mapset.specs.declared.Texts.{Texts}
+use Rattle.mapset.specs.declared.Times.{Times}
+use Rattle.mapset.specs.declared.Version.{Version}
+use Rattle.mapset.specs.Described.{lines-in, FullTexts}
+use Rattle.mapset.specs.Sound.{ModelSays, Count}
+use Rattle.layout.specs.Labels.{header-end}
 use Rattle.layout.specs.Records.{X}
-use Rattle.canonical.specs.Canon.{version-row, date-of, six}
+use Rattle.canonical.specs.Canon.{row-of, version-row, date-of, six, header-rows}
 use Rattle.write_row.specs.Rows.{row-at, whole, three, six-whole}
-use Rattle.write_head_row.specs.HeadRows.{tenths-row, program-row, mapping-row, observables-row, system-row}
+use Rattle.write_head_row.specs.HeadRows.{tenths-row, program-row, description-row, mapping-row, observables-row, system-row}
 
 -- the row of a starred record, where it stands
 abbrev pub if-stands : Bool → List ℕ → List (List ℕ)
@@ -36,18 +41,22 @@ counted-rows k c = if-stands (c .stands) (number-row k (c .count))
 abbrev pub system-rows : ℕ → System → List (List ℕ)
 system-rows j s = if-stands (s .stands) (system-row j s)
 
--- IONEX VERSION / TYPE to # OF MAPS IN FILE
-unfoldable pub first-rows : Header → Texts → List (List ℕ)
-first-rows h t =
-    version-row (h .version)
-    ∷ program-row t
-    ∷ epoch-row 4 (h .times .first)
-    ∷ epoch-row 5 (h .times .last)
-    ∷ number-row 6 (h .times .interval)
-    ∷ number-row 7 (h .times .maps)
-    ∷ []
+-- IONEX VERSION / TYPE, PGM / RUN BY / DATE
+unfoldable pub first-rows : Version → Texts → List (List ℕ)
+first-rows v t = version-row v ∷ program-row t ∷ []
 
--- MAPPING FUNCTION to # OF SATELLITES
+-- DESCRIPTION
+unfoldable pub lines-rows : ℕ → List ℕ → List (List ℕ)
+lines-rows n bs = map description-row (lines-in n bs)
+
+-- EPOCH OF FIRST MAP to # OF MAPS IN FILE
+unfoldable pub times-rows : Times → List (List ℕ)
+times-rows t = epoch-row 4 (t .first) ∷ epoch-row 5 (t .last) ∷ number-row 6 (t .interval) ∷ number-row 7 (t .maps) ∷ []
+
+-- MAPPING FUNCTION to # OF SATELLITES, and what is asked of the numbers among them
+abbrev pub Middling : Header → Type 0
+Middling h = ModelSays (h .model) × (Count (h .stations .stands) (h .stations .count) × Count (h .satellites .stands) (h .satellites .count))
+
 unfoldable pub middle-rows : Header → Texts → List (List ℕ)
 middle-rows h t =
     mapping-row t ∷ tenths-row 9 (h .model .cutoff) ∷ observables-row t ∷ (counted-rows 11 (h .stations) ++ counted-rows 12 (h .satellites))
@@ -68,3 +77,7 @@ last-rows m g =
     ∷ axis-row 18 (g .longitudes)
     ∷ row-at 22 (X 60 ∷ []) tt
     ∷ []
+
+-- the whole header of canonical text
+abbrev pub whole-header : Header → FullTexts → List (List ℕ)
+whole-header h t = version-row (h .version) ∷ header-rows h t (row-of header-end tt ∷ [])

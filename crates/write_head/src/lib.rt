@@ -1,11 +1,9 @@
 // The header of canonical text: the version record, the records in the order of 01's table, END OF HEADER.
 ghost use mathlib.Core.List.{[], _∷_};
-ghost use Prim.Native.Nat.{_<_, _^_};
-ghost use Rattle.mapset.specs.Header.{says};
-ghost use Rattle.mapset.specs.Sound.{HeaderSays, SystemsSay, ModelSays};
-ghost use Rattle.layout.specs.Labels.{header-end};
-ghost use Rattle.canonical.specs.Canon as canon;
-ghost use Rattle.canonical.specs.Canon.{row-of, head-rows, order};
+ghost use Prim.Native.Nat.{_*_, _≤_, _<_, _^_};
+ghost use lib.ListN.{length};
+ghost use Rattle.mapset.specs.Described.{line-width, full};
+ghost use Rattle.mapset.specs.Sound.{HeaderSays, VersionSays, TimesSay, SystemsSay, ModelSays};
 ghost use Rattle.write_line.specs.Put.{LineRoom, Put};
 ghost use Rattle.write_head_row.specs.HeadRows.{tenths-row};
 ghost use Rattle.write_head.specs.Header as said;
@@ -17,6 +15,11 @@ use mapset::Model;
 use mapset::System;
 use mapset::Systems;
 use mapset::Texts;
+use mapset::Times;
+use mapset::Version;
+
+// The columns of a line of the description.
+const LINE: usize = 60;
 
 // ---- Records, each with where the next line starts
 
@@ -70,22 +73,45 @@ fn put_system(out: &mut [u8], at: usize, j: usize, s: System) -> usize
 
 // ---- The header
 
-fn put_first(out: &mut [u8], at: usize, header: Header, texts: Texts) -> usize
-    requires { ⌜ HeaderSays header texts × LineRoom at (said.first-rows header texts) ⌝ }
-    ensures { λ r. ⌜ Put (now (out .entry)) at (said.first-rows header texts) (now (out .exit)) r ⌝ }
+fn put_first(out: &mut [u8], at: usize, v: Version, texts: Texts) -> usize
+    requires { ⌜ VersionSays v × LineRoom at (said.first-rows v texts) ⌝ }
+    ensures { λ r. ⌜ Put (now (out .entry)) at (said.first-rows v texts) (now (out .exit)) r ⌝ }
 {
-    let version = write_head_row::version_row(header.version);
+    let version = write_head_row::version_row(v);
     let program = write_head_row::program_row(texts);
     let a = write_line::put_line(out, at, &version);
-    let b = write_line::put_line(out, a, &program);
-    let c = write_line::put_dated(out, b, labels::FIRST_EPOCH, header.times.first);
-    let d = write_line::put_dated(out, c, labels::LAST_EPOCH, header.times.last);
-    let e = put_count(out, d, labels::INTERVAL, header.times.interval);
-    put_count(out, e, labels::MAPS, header.times.maps)
+    write_line::put_line(out, a, &program)
+}
+
+// The first n lines of the description.
+fn put_descriptions(out: &mut [u8], at: usize, n: usize, lines: &[u8]) -> usize
+    requires { ⌜ (line-width * n ≤ length (now lines)) × LineRoom at (said.lines-rows n (now lines)) ⌝ }
+    ensures { λ r. ⌜ Put (now (out .entry)) at (said.lines-rows n (now (lines .entry))) (now (out .exit)) r ⌝ }
+{
+    let mut next = at;
+    let mut i = 0;
+    while i < n {
+        let from = LINE * i;
+        let end = from + LINE;
+        let row = write_head_row::description_row(&lines[from..end]);
+        next = write_line::put_line(out, next, &row);
+        i += 1;
+    }
+    next
+}
+
+fn put_times(out: &mut [u8], at: usize, t: Times) -> usize
+    requires { ⌜ TimesSay t × LineRoom at (said.times-rows t) ⌝ }
+    ensures { λ r. ⌜ Put (now (out .entry)) at (said.times-rows t) (now (out .exit)) r ⌝ }
+{
+    let a = write_line::put_dated(out, at, labels::FIRST_EPOCH, t.first);
+    let b = write_line::put_dated(out, a, labels::LAST_EPOCH, t.last);
+    let c = put_count(out, b, labels::INTERVAL, t.interval);
+    put_count(out, c, labels::MAPS, t.maps)
 }
 
 fn put_middle(out: &mut [u8], at: usize, header: Header, texts: Texts) -> usize
-    requires { ⌜ HeaderSays header texts × LineRoom at (said.middle-rows header texts) ⌝ }
+    requires { ⌜ said.Middling header × LineRoom at (said.middle-rows header texts) ⌝ }
     ensures { λ r. ⌜ Put (now (out .entry)) at (said.middle-rows header texts) (now (out .exit)) r ⌝ }
 {
     let mapping = write_head_row::mapping_row(texts);
@@ -124,12 +150,21 @@ fn put_last(out: &mut [u8], at: usize, model: Model, grid: Grid) -> usize
 }
 
 // Where the first map's line starts.
-pub fn put_header(out: &mut [u8], at: usize, header: Header, texts: Texts) -> usize
-    requires { ⌜ HeaderSays header texts × LineRoom at (canon.version-row (header .version) ∷ head-rows order (says header texts) (row-of header-end tt ∷ [])) ⌝ }
-    ensures { λ r. ⌜ Put (now (out .entry)) at (canon.version-row (header .version) ∷ head-rows order (says header texts) (row-of header-end tt ∷ [])) (now (out .exit)) r ⌝ }
+pub fn put_header(
+    out: &mut [u8],
+    at: usize,
+    header: Header,
+    texts: Texts,
+    descriptions: &[u8],
+) -> usize
+    requires { ⌜ HeaderSays header (full texts (now descriptions)) × LineRoom at (said.whole-header header (full texts (now descriptions))) ⌝ }
+    ensures { λ r. ⌜ Put (now (out .entry)) at (said.whole-header header (full texts (now (descriptions .entry)))) (now (out .exit)) r ⌝ }
 {
-    let a = put_first(out, at, header, texts);
-    let b = put_middle(out, a, header, texts);
-    let c = put_systems(out, b, header.systems);
-    put_last(out, c, header.model, header.grid)
+    let lines = header.descriptions as usize;
+    let a = put_first(out, at, header.version, texts);
+    let b = put_descriptions(out, a, lines, descriptions);
+    let c = put_times(out, b, header.times);
+    let d = put_middle(out, c, header, texts);
+    let e = put_systems(out, d, header.systems);
+    put_last(out, e, header.model, header.grid)
 }

@@ -31,6 +31,9 @@ tenths-row k n = row-at k eight (pos n, tt)
 abbrev pub program-row : Texts → List ℕ
 program-row t = row-at 1 twenties (t .program, (t .agency, (t .date, tt)))
 
+abbrev pub description-row : List ℕ → List ℕ
+description-row d = row-at 2 sixty (d, tt)
+
 abbrev pub mapping-row : Texts → List ℕ
 mapping-row t = row-at 8 four (t .mapping, tt)
 

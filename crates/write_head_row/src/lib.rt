@@ -1,6 +1,7 @@
 // The records of canonical text's header, each as a row of 80 bytes.
 ghost use mathlib.Core.Path.{_≡_};
 ghost use Prim.Native.Nat.{_<_, _^_};
+ghost use lib.ListN.{length};
 ghost use Rattle.canonical.specs.Canon as canon;
 ghost use Rattle.write_head_row.specs.HeadRows as said;
 use mapset::System;
@@ -31,6 +32,16 @@ pub fn program_row(t: Texts) -> [u8; 80]
     write_row::put_text(&mut row, 0, &program);
     write_row::put_text(&mut row, 20, &agency);
     write_row::put_text(&mut row, 40, &date);
+    row
+}
+
+// A line of the description.
+pub fn description_row(line: &[u8]) -> [u8; 80]
+    requires { ⌜ length (now line) ≡ 60 ⌝ }
+    ensures { λ r. ⌜ r ≡ said.description-row (now (line .entry)) ⌝ }
+{
+    let mut row = write_row::blank_row(labels::DESCRIPTION);
+    write_row::put_text(&mut row, 0, line);
     row
 }
 

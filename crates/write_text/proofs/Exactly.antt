@@ -8,7 +8,7 @@ use native.Mathlib.Decide.{decLe}
 use lib.ListN.{length, take, drop}
 use lib.Seq.{take-at, drop-at}
 use Rattle.mapset.specs.declared.Header.{Header}
-use Rattle.mapset.specs.declared.Texts.{Texts}
+use Rattle.mapset.specs.Described.{FullTexts}
 use Rattle.mapset.specs.Areas.{Areas}
 use Rattle.areas.specs.Valid.{Valid}
 use Rattle.valid.specs.Groups.{validity}
@@ -21,7 +21,7 @@ use Rattle.write_text.specs.declared.Written.{Written}
 use Rattle.write_text.specs.declared.Written.the-variants as W
 
 -- r and the output o′ are what the contract asks for
-abbrev pub Writes : Header → Texts → Areas → (o : List ℕ) (r : Written) (o′ : List ℕ) → Type 0
+abbrev pub Writes : Header → FullTexts → Areas → (o : List ℕ) (r : Written) (o′ : List ℕ) → Type 0
 Writes h t a o r o′ = _≡_ {A = Told × List ℕ} (told r, o′) (written h t a o)
 
 told-once : (r r′ : Written) → told r ≡ told r′ → r ≡ r′
@@ -35,7 +35,7 @@ told-once W.Unsound (W.Bytes n) e = let z : _≡_ {A = ℕ} 0 1 = cc in absurd (
 told-once W.Unsound (W.Short n) e = let z : _≡_ {A = ℕ} 30 31 = cc in absurd (omega arith)
 told-once W.Unsound W.Unsound e = refl
 
-module _ (h : Header) (t : Texts) (a : Areas) (o : List ℕ) where
+module _ (h : Header) (t : FullTexts) (a : Areas) (o : List ℕ) where
   -- no second result and no second output fit
   pub write-once : (r r′ : Written) (o′ o″ : List ℕ) → Writes h t a o r o′ → Writes h t a o r′ o″ → (r ≡ r′) × (o′ ≡ o″)
   write-once r r′ o′ o″ p q = let e = p ∙ sym q in (told-once r r′ (ap (λ (x : Told × List ℕ). x .0) e), ap (λ (x : Told × List ℕ). x .1) e)

@@ -11,9 +11,8 @@ use Rattle.kit.specs.Answer.{pick}
 use Rattle.mapset.specs.declared.Kind.{Kind}
 use Rattle.mapset.specs.declared.Kind.the-variants.{Tec, Rms, Height}
 use Rattle.mapset.specs.declared.Header.{Header}
-use Rattle.mapset.specs.declared.Texts.{Texts}
+use Rattle.mapset.specs.Described.{FullTexts}
 use Rattle.mapset.specs.Grid.{columns}
-use Rattle.mapset.specs.Header.{says}
 use Rattle.mapset.specs.MapSet.{Block}
 use Rattle.mapset.specs.Areas.{Areas, present?, blocks}
 use Rattle.layout.specs.Labels.{epoch, header-end, file-end, start, end}
@@ -25,8 +24,9 @@ use Rattle.areas.specs.Valid.{needed, values-in}
 use Rattle.areas.specs.Nesting.{nested}
 use Rattle.valid.specs.Groups.{Long}
 use Rattle.valid.proofs.Whole.{count, values-are, exponents-are}
-use Rattle.canonical.specs.Canon.{row-of, date-of, six, block-rows, in-force, other-rows, tec-rows, map-rows, version-row, order, head-rows, canon-rows}
-use Rattle.write_head.proofs.Laws.{head-rest}
+use Rattle.canonical.specs.Canon.{row-of, date-of, six, block-rows, in-force, other-rows, tec-rows, map-rows, version-row, header-rows, canon-rows}
+use Rattle.write_head.specs.Header.{whole-header}
+use Rattle.write_head.proofs.Laws.{header-rest}
 use Rattle.write_map.specs.OneMap.{epoch-rows, one-map, slot-map, slot-force}
 use Rattle.write_maps.specs.KindRows.{first-map, kind-rows, kind-force, area-rows, area-force, all-rows}
 use Rattle.write_map.proofs.BlockLaws.{blocks-append}
@@ -121,7 +121,7 @@ module _ (h : Header) (a : Areas) (l : Long h a) (u : h .times .maps ≤ length 
   unfolding area-force
   force-is q k = λ i. kind-force q h k ms (sym (exponents-are h a l q) i) (sym (values-are h a l q) i)
 
-  pub maps-are : (t : Texts) → map-rows (nested h t a) ≡ all-rows h a
+  pub maps-are : (t : FullTexts) → map-rows (nested h t a) ≡ all-rows h a
   unfolding map-rows nest needed
   maps-are t =
       let last-row : List (List ℕ) = row-of file-end tt ∷ [] in
@@ -139,8 +139,8 @@ module _ (h : Header) (a : Areas) (l : Long h a) (u : h .times .maps ≤ length 
       ∙ (λ i. rows-are Tec (negsuc 0) i ++ second-rows (force-is Tec (negsuc 0) i))
       ∙ ap (λ r. area-rows h a Tec (negsuc 0) ++ r) (y (area-force h a Tec (negsuc 0)))
 
-  pub canon-are : (t : Texts) → canon-rows (nested h t a) ≡ (version-row (h .version) ∷ head-rows order (says h t) (row-of header-end tt ∷ [])) ++ all-rows h a
+  pub canon-are : (t : FullTexts) → canon-rows (nested h t a) ≡ whole-header h t ++ all-rows h a
   unfolding canon-rows
   canon-are t =
-      ap (λ r. version-row (h .version) ∷ head-rows order (says h t) (row-of header-end tt ∷ r)) (maps-are t)
-      ∙ ap (λ r. version-row (h .version) ∷ r) (head-rest order (says h t) (row-of header-end tt ∷ []) (all-rows h a))
+      ap (λ r. version-row (h .version) ∷ header-rows h t (row-of header-end tt ∷ r)) (maps-are t)
+      ∙ ap (λ r. version-row (h .version) ∷ r) (header-rest h t (row-of header-end tt ∷ []) (all-rows h a))

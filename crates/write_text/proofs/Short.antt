@@ -1,5 +1,5 @@
 -- Canonical text is shorter than 2^62 bytes.
-use mathlib.Core.Path.{ap}
+use mathlib.Core.Path.{_≡_, refl, ap}
 use mathlib.Core.Option.{Option, none, some}
 use mathlib.Core.List.{List, [], _∷_, _++_}
 use Prim.Native.Nat.{ℕ, zero, suc, _+_, _*_, _≤_}
@@ -14,7 +14,8 @@ use Rattle.kit.specs.Integer.{int?}
 use Rattle.mapset.specs.declared.Kind.{Kind}
 use Rattle.mapset.specs.declared.Kind.the-variants.{Tec, Rms, Height}
 use Rattle.mapset.specs.declared.Header.{Header}
-use Rattle.mapset.specs.declared.Texts.{Texts}
+use Rattle.mapset.specs.Described.{lines-in, FullTexts}
+use Rattle.mapset.proofs.DescribedLaws.{lines-length}
 use Rattle.mapset.specs.Grid.{columns}
 use Rattle.mapset.specs.Header.{Said, says}
 use Rattle.mapset.specs.SoundDecided.{sound-groups}
@@ -29,7 +30,7 @@ use Rattle.areas.specs.Valid.{values-in, Valid}
 use Rattle.areas.specs.Nesting.{nested}
 use Rattle.areas.proofs.ValidFormed.{nested-formed}
 use Rattle.valid.proofs.Whole.{sound-long}
-use Rattle.canonical.specs.Canon.{version-row, slot-rows, order, head-rows, canon-rows, row-of, opening, value-rows, exponent-rows, block-rows, trimmed, lines-of}
+use Rattle.canonical.specs.Canon.{version-row, slot-rows, before-lines, order, head-rows, description-rows, header-rows, canon-rows, row-of, opening, value-rows, exponent-rows, block-rows, trimmed, lines-of}
 use Rattle.canonical.proofs.RowLaws.{GoodRow}
 use Rattle.canonical.proofs.Made.{rows-good}
 use Rattle.write_line.specs.Put.{LineRoom}
@@ -139,15 +140,34 @@ head-count [] left rest = omega arith
 head-count (i ∷ is) left rest =
     omega (arith, length-append (slot-rows i (getD left i none)) (head-rows is (set left i none) rest), slot-rows-count i (getD left i none), head-count is (set left i none) rest)
 
+line-count : (ds : List (List ℕ)) → length (description-rows ds) ≡ length ds
+unfolding description-rows
+line-count [] = refl
+line-count (d ∷ ds) = ap suc (line-count ds)
+
+header-count : (h : Header) (t : FullTexts) (rest : List (List ℕ)) → length (header-rows h t rest) ≤ 30 + h .descriptions + length rest
+unfolding header-rows
+header-count h t rest =
+    let ds = lines-in (h .descriptions) (t .descriptions) in
+    let behind = head-rows order (set (says h t) 0 none) rest in
+    omega (
+      arith,
+      head-count before-lines (says h t) (description-rows ds ++ behind),
+      length-append (description-rows ds) behind,
+      line-count ds,
+      lines-length (h .descriptions) (t .descriptions),
+      head-count order (set (says h t) 0 none) rest,
+    )
+
 -- ---- all of it
-pub valid-fine : (h : Header) (t : Texts) (a : Areas) → Valid h t a → Fine h
+pub valid-fine : (h : Header) (t : FullTexts) (a : Areas) → Valid h t a → Fine h
 valid-fine h t a v =
     let g = sound-groups h t a (v .sound) .0 in
     let l = sound-long h t a (v .sound) in
     let x = g .1 .1 .1 .1 .0 in
     record { axes = record { heights = x .0; latitudes = x .1 .0; longitudes = x .1 .1 }; maps = l .maps; limits = l .limits }
 
-module _ (h : Header) (t : Texts) (a : Areas) (v : Valid h t a) where
+module _ (h : Header) (t : FullTexts) (a : Areas) (v : Valid h t a) where
   area-count : (q : Kind) (k : ℤ) → length (area-rows h a q k) ≤ 300 * 16727299
   unfolding area-rows
   area-count q k =
@@ -166,12 +186,13 @@ module _ (h : Header) (t : Texts) (a : Areas) (v : Valid h t a) where
       let y = area-rows h a Rms k1 in
       let z = area-rows h a Height k2 in
       let e : List (List ℕ) = row-of file-end tt ∷ [] in
-      let b = head-rows order (says h t) (row-of header-end tt ∷ []) in
+      let b = header-rows h t (row-of header-end tt ∷ []) in
       omega (
         arith,
         ap length (canon-are h a (sound-long h t a (v .sound)) (v .sound .room .epochs) t),
         length-append (version-row (h .version) ∷ b) (all-rows h a),
-        head-count order (says h t) (row-of header-end tt ∷ []),
+        header-count h t (row-of header-end tt ∷ []),
+        sound-groups h t a (v .sound) .0 .1 .0 .1 .1 .1 .1 .1 .0,
         length-append x (y ++ (z ++ e)),
         length-append y (z ++ e),
         length-append z e,

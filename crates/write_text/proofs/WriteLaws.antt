@@ -7,14 +7,14 @@ use native.Mathlib.Decide.{decLe}
 use lib.ListN.{length, drop}
 use Rattle.kit.proofs.AnswerLaws.{pick-yes, pick-no}
 use Rattle.mapset.specs.declared.Header.{Header}
-use Rattle.mapset.specs.declared.Texts.{Texts}
+use Rattle.mapset.specs.Described.{FullTexts}
 use Rattle.mapset.specs.Areas.{Areas}
 use Rattle.areas.specs.Valid.{Valid}
 use Rattle.valid.specs.Groups.{validity}
 use Rattle.canonical.specs.CanonOf.{canon-of}
 use Rattle.write_text.specs.Write.{done, refused, fitted, written}
 
-module _ (h : Header) (t : Texts) (a : Areas) (o : List ℕ) where
+module _ (h : Header) (t : FullTexts) (a : Areas) (o : List ℕ) where
   pub written-unsound : ¬ Valid h t a → written h t a o ≡ (refused 31 [], o)
   unfolding written
   written-unsound n = pick-no (validity h t a) (fitted (canon-of h t a) o) (refused 31 [], o) n

@@ -5,7 +5,7 @@ use native.Mathlib.Decide.{decLe}
 use lib.ListN.{length, drop}
 use Rattle.kit.specs.Answer.{pick}
 use Rattle.mapset.specs.declared.Header.{Header}
-use Rattle.mapset.specs.declared.Texts.{Texts}
+use Rattle.mapset.specs.Described.{FullTexts}
 use Rattle.mapset.specs.Areas.{Areas}
 use Rattle.valid.specs.Groups.{validity}
 use Rattle.canonical.specs.CanonOf.{canon-of}
@@ -27,5 +27,5 @@ abbrev pub fitted : (x o : List ℕ) → Told × List ℕ
 fitted x o = pick (decLe (length x) (length o)) (done (length x), x ++ drop (length x) o) (refused 30 (length x ∷ []), o)
 
 -- 31 before 30
-unfoldable pub written : Header → Texts → Areas → List ℕ → Told × List ℕ
+unfoldable pub written : Header → FullTexts → Areas → List ℕ → Told × List ℕ
 written h t a o = pick (validity h t a) (fitted (canon-of h t a) o) (refused 31 [], o)

@@ -2,6 +2,7 @@
 ghost use mathlib.Core.Path.{_≡_};
 ghost use mathlib.Core.List.{List};
 ghost use Prim.Native.Nat.{ℕ};
+ghost use Rattle.mapset.specs.Described.{full};
 ghost use Rattle.mapset.specs.Areas.{six};
 ghost use Rattle.areas.specs.Valid.{Valid};
 ghost use Rattle.areas.specs.Nesting.{nested};
@@ -17,6 +18,7 @@ fn put_text(
     at: usize,
     header: Header,
     texts: Texts,
+    descriptions: &[u8],
     tec: &[i32],
     rms: &[i32],
     height: &[i32],
@@ -24,10 +26,10 @@ fn put_text(
     epochs: &[u64],
     marks: &[u8],
 ) -> usize
-    requires { ⌜ Valid header texts (six (now tec) (now rms) (now height) (now exponents) (now epochs) (now marks)) × LineRoom at (canon-rows (nested header texts (six (now tec) (now rms) (now height) (now exponents) (now epochs) (now marks)))) ⌝ }
-    ensures { λ r. ⌜ Put (now (out .entry)) at (canon-rows (nested header texts (six (now (tec .entry)) (now (rms .entry)) (now (height .entry)) (now (exponents .entry)) (now (epochs .entry)) (now (marks .entry))))) (now (out .exit)) r ⌝ }
+    requires { ⌜ Valid header (full texts (now descriptions)) (six (now tec) (now rms) (now height) (now exponents) (now epochs) (now marks)) × LineRoom at (canon-rows (nested header (full texts (now descriptions)) (six (now tec) (now rms) (now height) (now exponents) (now epochs) (now marks)))) ⌝ }
+    ensures { λ r. ⌜ Put (now (out .entry)) at (canon-rows (nested header (full texts (now (descriptions .entry))) (six (now (tec .entry)) (now (rms .entry)) (now (height .entry)) (now (exponents .entry)) (now (epochs .entry)) (now (marks .entry))))) (now (out .exit)) r ⌝ }
 {
-    let next = write_head::put_header(out, at, header, texts);
+    let next = write_head::put_header(out, at, header, texts, descriptions);
     write_maps::put_maps(
         out,
         next,
@@ -52,6 +54,7 @@ pub enum Written {
 pub fn write_text(
     header: Header,
     texts: Texts,
+    descriptions: &[u8],
     tec: &[i32],
     rms: &[i32],
     height: &[i32],
@@ -60,9 +63,19 @@ pub fn write_text(
     marks: &[u8],
     out: &mut [u8],
 ) -> Written
-    ensures { λ r. ⌜ _≡_ {A = Told × List ℕ} (told r, now (out .exit)) (written header texts (six (now (tec .entry)) (now (rms .entry)) (now (height .entry)) (now (exponents .entry)) (now (epochs .entry)) (now (marks .entry))) (now (out .entry))) ⌝ }
+    ensures { λ r. ⌜ _≡_ {A = Told × List ℕ} (told r, now (out .exit)) (written header (full texts (now (descriptions .entry))) (six (now (tec .entry)) (now (rms .entry)) (now (height .entry)) (now (exponents .entry)) (now (epochs .entry)) (now (marks .entry))) (now (out .entry))) ⌝ }
 {
-    if !valid::valid(header, texts, tec, rms, height, exponents, epochs, marks) {
+    if !valid::valid(
+        header,
+        texts,
+        descriptions,
+        tec,
+        rms,
+        height,
+        exponents,
+        epochs,
+        marks,
+    ) {
         return Written::Unsound;
     }
     let nothing: usize = 0;
@@ -71,6 +84,7 @@ pub fn write_text(
         0,
         header,
         texts,
+        descriptions,
         tec,
         rms,
         height,
@@ -86,6 +100,7 @@ pub fn write_text(
         0,
         header,
         texts,
+        descriptions,
         tec,
         rms,
         height,

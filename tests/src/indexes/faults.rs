@@ -2,7 +2,7 @@
 
 use super::{calls, compare_call, made, Indexes, Kept};
 use crate::archive::Archive;
-use crate::boundary::{self, Plain};
+use crate::boundary::{self, Plain, HEADER, OLD_TEXTS, TEXTS};
 use crate::gen;
 use crate::rng::Rng;
 use second::index::Node;
@@ -40,6 +40,8 @@ listed! {
         Scaled,
         MapFromZero,
         NextColumn,
+        /// Bytes behind the last description not looked at.
+        BehindDescriptions,
         /// 21 told before 31, 22 before 21.
         OutsideFirst,
         AbsentFirst,
@@ -180,6 +182,7 @@ impl Faulty {
                     &gen::map_set(&mut Rng::new(1)),
                 ));
             }
+            (Fault::BehindDescriptions, 31) => blank_behind(&mut kept),
             (Fault::AbsentFirst, 21) => {
                 let maps = kept.header[6] as usize;
                 let map = (node.map as usize).wrapping_sub(1);
@@ -245,6 +248,17 @@ impl Faulty {
             (Fault::LongBlank, _) if answer == 50 => without_blanks(text, start),
             _ => {}
         }
+    }
+}
+
+/// Blanks behind the last description, where their number is one that may be.
+fn blank_behind(kept: &mut Kept) {
+    let Some(&number @ 0..=20) = kept.header.get(HEADER - 1) else {
+        return;
+    };
+    let behind = OLD_TEXTS + 60 * number as usize;
+    if let Some(bytes) = kept.texts.get_mut(behind..TEXTS) {
+        bytes.fill(b' ');
     }
 }
 

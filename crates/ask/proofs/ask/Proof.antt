@@ -6,6 +6,7 @@ use Prim.Native.Nat.{_<_}
 use denote.Ref.{now}
 use mir.Facts.{toZ-ofZ}
 use Rattle.kit.proofs.TruthLaws.{truth-true, truth-false}
+use Rattle.mapset.specs.Described.{full}
 use Rattle.mapset.specs.Grid.{layers}
 use Rattle.mapset.specs.Areas.{Sound, six}
 use Rattle.ask_spans.specs.Time.{epoch, Uses}
@@ -21,73 +22,73 @@ use Rattle.ask.proofs.ask.Tie as tie
 abbrev q : tie.Start → Question
 q s =
     let a = s .args in
-    question (a .header) (a .texts) (six (now (a .tec)) (now (a .rms)) (now (a .height)) (now (a .exponents)) (now (a .epochs)) (now (a .marks))) (a .kind) (a .method) (a .layer) (a .lat) (a .lon) (a .second)
+    question (a .header) (full (a .texts) (a .descriptions .now)) (six (now (a .tec)) (now (a .rms)) (now (a .height)) (now (a .exponents)) (now (a .epochs)) (now (a .marks))) (a .kind) (a .method) (a .layer) (a .lat) (a .lon) (a .second)
 
 -- each test in its turn: the number that is told where it fails, whatever the test; that it fails; and what holds where it is passed
 is-known-requires : tie.Need-is-known-requires
 is-known-requires c κs = search needs
 
-tells-23 : ((c : tie.Then1) → ¬ Known (q (c .before .before .before .before))) → tie.Need-returns
+tells-23 : ((c : tie.Then1) → ¬ Known (q (c .before .before .before .before .before))) → tie.Need-returns
 tells-23 fails c = due 23 refl (fails c)
 
 returns : tie.Need-returns
 returns = tells-23 (λ c. truth-false _ (sym (c .before .is-known .ensures) ∙ not-true _ (c .if1 .taken)))
 
-known : (c : tie.Else1) → Known (q (c .before .before .before .before))
+known : (c : tie.Else1) → Known (q (c .before .before .before .before .before))
 known c = truth-true _ (sym (c .before .is-known .ensures) ∙ not-false _ (c .if1 .left))
 
 sound-requires : tie.Need-sound-requires
 sound-requires c κs = search needs
 
-tells-31 : ((c : tie.Then2) → ¬ (let s = c .before .before .before .before .before .before in Sound (s .args .header) (s .args .texts) (q s .areas))) → tie.Need-returns-2
+tells-31 : ((c : tie.Then2) → ¬ (let s = c .before .before .before .before .before .before .before in Sound (s .args .header) (full (s .args .texts) (s .args .descriptions .now)) (q s .areas))) → tie.Need-returns-2
 tells-31 fails c = go (known (c .before .before)) (due 31 refl (fails c))
 
 returns-2 : tie.Need-returns-2
 returns-2 = tells-31 (λ c. truth-false _ (sym (c .before .sound .ensures) ∙ not-true _ (c .if2 .taken)))
 
-sound : (c : tie.Else2) → let s = c .before .before .before .before .before .before in Sound (s .args .header) (s .args .texts) (q s .areas)
+sound : (c : tie.Else2) → let s = c .before .before .before .before .before .before .before in Sound (s .args .header) (full (s .args .texts) (s .args .descriptions .now)) (q s .areas)
 sound c = truth-true _ (sym (c .before .sound .ensures) ∙ not-false _ (c .if2 .left))
 
 cast-maps : tie.Need-cast-maps
 cast-maps c = search needs
 
 slice-aggregate-serves : tie.Need-slice-aggregate-serves
-slice-aggregate-serves c = sym (few-epochs (q (c .before .before .before .before .before .before .before .before)) (sound (c .before .before)))
+slice-aggregate-serves c = sym (few-epochs (q (c .before .before .before .before .before .before .before .before .before)) (sound (c .before .before)))
 
 serves-requires : tie.Need-serves-requires
-serves-requires c κs = steady (q (c .before .before .before .before .before .before .before .before)) (sound (c .before .before))
+serves-requires c κs = steady (q (c .before .before .before .before .before .before .before .before .before)) (sound (c .before .before))
 
-tells-24 : ((c : tie.Then3) → ¬ Served (q (c .before .before .before .before .before .before .before .before .before .before))) → tie.Need-returns-3
+tells-24 : ((c : tie.Then3) → ¬ Served (q (c .before .before .before .before .before .before .before .before .before .before .before))) → tie.Need-returns-3
 tells-24 fails c = let t = c .before .before .before .before in go (known (t .before .before)) (go (sound t) (due 24 refl (fails c)))
 
 returns-3 : tie.Need-returns-3
 returns-3 = tells-24 (λ c. rw (not-true (c .before .serves .result) (c .if3 .taken)) at (c .before .serves .ensures))
 
-served : (c : tie.Else3) → Served (q (c .before .before .before .before .before .before .before .before .before .before))
+served : (c : tie.Else3) → Served (q (c .before .before .before .before .before .before .before .before .before .before .before))
 served c = rw (not-false (c .before .serves .result) (c .if3 .left)) at (c .before .serves .ensures)
 
 in-time-requires : tie.Need-in-time-requires
 in-time-requires c κs = search needs
 
-tells-20 : ((c : tie.Then4) → ¬ InTime (q (c .before .before .before .before .before .before .before .before .before .before .before .before))) → tie.Need-returns-4
+tells-20 : ((c : tie.Then4) → ¬ InTime (q (c .before .before .before .before .before .before .before .before .before .before .before .before .before))) → tie.Need-returns-4
 tells-20 fails c = let f = c .before .before in let t = f .before .before .before .before in go (known (t .before .before)) (go (sound t) (go (served f) (due 20 refl (fails c))))
 
 returns-4 : tie.Need-returns-4
 returns-4 = tells-20 (λ c. truth-false _ (sym (c .before .in-time .ensures) ∙ not-true _ (c .if4 .taken)))
 
-time : (c : tie.Else4) → InTime (q (c .before .before .before .before .before .before .before .before .before .before .before .before))
+time : (c : tie.Else4) → InTime (q (c .before .before .before .before .before .before .before .before .before .before .before .before .before))
 time c = truth-true _ (sym (c .before .in-time .ensures) ∙ not-false _ (c .if4 .left))
 
 has-layer-requires : tie.Need-has-layer-requires
 has-layer-requires c κs = search needs
 
-tells-21 : ((c : tie.Then5) → ¬ (let s = c .before .before .before .before .before .before .before .before .before .before .before .before .before .before in s .args .layer < layers (s .args .header .grid))) → tie.Need-returns-5
+tells-21 : ((c : tie.Then5) → ¬ (let s = c .before .before .before .before .before .before .before .before .before .before .before .before .before .before .before in s .args .layer < layers (s .args .header .grid))) → tie.Need-returns-5
 tells-21 fails c = let m = c .before .before in let f = m .before .before in let t = f .before .before .before .before in go (known (t .before .before)) (go (sound t) (go (served f) (go (time m) (due 21 refl (λ i. fails c (i .layer))))))
 
 returns-5 : tie.Need-returns-5
 returns-5 = tells-21 (λ c. truth-false _ (sym (c .before .has-layer .ensures) ∙ not-true _ (c .if5 .taken)))
 
-layer : (c : tie.Else5) → let s = c .before .before .before .before .before .before .before .before .before .before .before .before .before .before in s .args .layer < layers (s .args .header .grid)
+layer : (c : tie.Else5) → let s = c .before .before .before .before .before .before .before .before .before .before .before .before .before .before .before in s .args .layer < layers (s .args .header .grid)
 layer c = truth-true _ (sym (c .before .has-layer .ensures) ∙ not-false _ (c .if5 .left))
 
 -- the maps, and their cells
@@ -95,28 +96,28 @@ shape-of-requires : tie.Need-shape-of-requires
 shape-of-requires c κs = search needs
 
 slice-aggregate-shares-of : tie.Need-slice-aggregate-shares-of
-slice-aggregate-shares-of c = sym (few-epochs (q (c .before .before .before .before .before .before .before .before .before .before .before .before .before .before .before .before)) (sound (c .before .before .before .before .before .before .before .before .before .before)))
+slice-aggregate-shares-of c = sym (few-epochs (q (c .before .before .before .before .before .before .before .before .before .before .before .before .before .before .before .before .before)) (sound (c .before .before .before .before .before .before .before .before .before .before)))
 
 maps-by-requires : tie.Need-maps-by-requires
 maps-by-requires c κs = search needs
 
 shares-of-requires : tie.Need-shares-of-requires
 shares-of-requires c κs =
-    let s = c .before .before .before .before .before .before .before .before .before .before .before .before .before .before .before .before .before in
+    let s = c .before .before .before .before .before .before .before .before .before .before .before .before .before .before .before .before .before .before in
     let t = c .before .before .before .before .before .before .before .before .before .before .before in
     rw (c .maps-by .ensures) (steady (q s) (sound t), spanned (q s) (sound t) (time (c .before .before .before .before .before)), in-time-small (s .args .method))
 
-uses : (c : tie.After-shares-of) → let s = c .before .before .before .before .before .before .before .before .before .before .before .before .before .before .before .before .before .before in Uses (epochs (q s)) (s .args .second) (in-time (s .args .method)) (c .shares-of .result)
+uses : (c : tie.After-shares-of) → let s = c .before .before .before .before .before .before .before .before .before .before .before .before .before .before .before .before .before .before .before in Uses (epochs (q s)) (s .args .second) (in-time (s .args .method)) (c .shares-of .result)
 uses c = rw (c .before .maps-by .ensures) at (c .shares-of .ensures)
 
 slice-aggregate-cells-at : tie.Need-slice-aggregate-cells-at
-slice-aggregate-cells-at c = sym (few-epochs (q (c .before .before .before .before .before .before .before .before .before .before .before .before .before .before .before .before .before .before .before)) (sound (c .before .before .before .before .before .before .before .before .before .before .before .before .before)))
+slice-aggregate-cells-at c = sym (few-epochs (q (c .before .before .before .before .before .before .before .before .before .before .before .before .before .before .before .before .before .before .before .before)) (sound (c .before .before .before .before .before .before .before .before .before .before .before .before .before)))
 
 cells-at-requires : tie.Need-cells-at-requires
-cells-at-requires c κs = can-ask (q (c .before .before .before .before .before .before .before .before .before .before .before .before .before .before .before .before .before .before .before)) (sound (c .before .before .before .before .before .before .before .before .before .before .before .before .before)) (time (c .before .before .before .before .before .before .before)) (c .before .shares-of .result) (uses (c .before))
+cells-at-requires c κs = can-ask (q (c .before .before .before .before .before .before .before .before .before .before .before .before .before .before .before .before .before .before .before .before)) (sound (c .before .before .before .before .before .before .before .before .before .before .before .before .before)) (time (c .before .before .before .before .before .before .before)) (c .before .shares-of .result) (uses (c .before))
 
-pair-is : (c : tie.After-cells-at) → let s = c .before .before .before .before .before .before .before .before .before .before .before .before .before .before .before .before .before .before .before .before in PairFound (s .args .method) (s .args .header .grid) (s .args .lat) (s .args .lon) (s .args .second) (epochs (q s)) (c .before .before .shares-of .result) (c .cells-at .result)
-pair-is c = let s = c .before .before .before .before .before .before .before .before .before .before .before .before .before .before .before .before .before .before .before .before in rw (toZ-ofZ (s .fits .lat), toZ-ofZ (s .fits .lon)) at (c .cells-at .ensures)
+pair-is : (c : tie.After-cells-at) → let s = c .before .before .before .before .before .before .before .before .before .before .before .before .before .before .before .before .before .before .before .before .before in PairFound (s .args .method) (s .args .header .grid) (s .args .lat) (s .args .lon) (s .args .second) (epochs (q s)) (c .before .before .shares-of .result) (c .cells-at .result)
+pair-is c = let s = c .before .before .before .before .before .before .before .before .before .before .before .before .before .before .before .before .before .before .before .before .before in rw (toZ-ofZ (s .fits .lat), toZ-ofZ (s .fits .lon)) at (c .cells-at .ensures)
 
 enum-told : tie.Need-enum-told
 enum-told c = search needs
@@ -129,14 +130,14 @@ returns-6 c =
     let m = c .before .before .before .before .before .before .before .before .before .before in
     let f = m .before .before in
     let t = f .before .before .before .before in
-    let s = c .before .before .before .before .before .before .before .before .before .before .before .before .before .before .before .before .before .before .before .before .before .before in
+    let s = c .before .before .before .before .before .before .before .before .before .before .before .before .before .before .before .before .before .before .before .before .before .before .before in
     let n = rw (c .enum-told .given .1) at (pair-is (c .before .before)) in
     go (known (t .before .before)) (go (sound t) (go (served f) (go (time m) (due 21 refl (λ i. let x = placed (q s) (sound t) (served f) i (n .0) in n .1 (x .0) (x .1))))))
 
 -- where the layer and the place are inside
 module _ (c : tie.After-known-told) where
   abbrev start : tie.Start
-  start = c .before .before .before .before .before .before .before .before .before .before .before .before .before .before .before .before .before .before .before .before .before .before .before
+  start = c .before .before .before .before .before .before .before .before .before .before .before .before .before .before .before .before .before .before .before .before .before .before .before .before
 
   abbrev sound-at : tie.Else2
   sound-at = c .before .before .before .before .before .before .before .before .before .before .before .before .before .before .before .before .before

@@ -17,7 +17,7 @@ turned-requires c κs = search needs
 
 returns-2 : tie.Need-returns-2
 returns-2 c =
-    let s = c .before .before .before .before .before in
+    let s = c .before .before .before .before .before .before in
     let a = rw (toZ-ofZ (s .fits .lat), toZ-ofZ (s .fits .lon)) at (c .before .ask .ensures) in
     turns _ _ (λ e. omega (arith, e, c .before .before .if1 .left)) _ a _ (c .turned .ensures)
 

@@ -8,12 +8,12 @@ enum-known-r c = search needs
 
 put-header-requires : tie.Need-put-header-requires
 put-header-requires c κs =
-    let s = c .before .before .before .before .before .before in
-    let z = rw (c .before .before .r .given .1) at (s .pre .1 .1 .1) in
+    let s = c .before .before .before .before .before .before .before in
+    let z = rw (c .before .before .r .given .1) at (s .pre .1 .1 .1 .1) in
     (s .pre .0, z .0, z .1)
 
 put-texts-requires : tie.Need-put-texts-requires
-put-texts-requires c κs = search needs
+put-texts-requires c κs = let s = c .before .before .before .before .before .before .before .before .before .before in (s .pre .1 .0, s .pre .1 .1 .1 .0)
 
 enum-known-r-2 : tie.Need-enum-known-r-2
 enum-known-r-2 c = search needs

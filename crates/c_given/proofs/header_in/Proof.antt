@@ -24,9 +24,12 @@ counted-in-requires-2 c κs = search needs
 systems-in-requires : tie.Need-systems-in-requires
 systems-in-requires c κs = search needs
 
+count-at-requires : tie.Need-count-at-requires
+count-at-requires c κs = search needs
+
 returns : tie.Need-returns
 unfolding header-of
-returns c = λ i. record { version = c .before .before .before .before .before .before .version-in .ensures i; times = c .before .before .before .before .before .times-in .ensures i; model = c .before .before .before .before .model-in .ensures i; grid = c .before .before .before .grid-in .ensures i; stations = c .before .before .counted-in .ensures i; satellites = c .before .counted-in2 .ensures i; systems = c .systems-in .ensures i }
+returns c = λ i. record { version = c .before .before .before .before .before .before .before .version-in .ensures i; times = c .before .before .before .before .before .before .times-in .ensures i; model = c .before .before .before .before .before .model-in .ensures i; grid = c .before .before .before .before .grid-in .ensures i; stations = c .before .before .before .counted-in .ensures i; satellites = c .before .before .counted-in2 .ensures i; systems = c .before .systems-in .ensures i; descriptions = c .count-at .ensures i }
 
 pub header-in-spec : {M : Type 1} → statement M
 header-in-spec =
@@ -39,4 +42,5 @@ header-in-spec =
     counted-in-requires
     counted-in-requires-2
     systems-in-requires
+    count-at-requires
     returns)

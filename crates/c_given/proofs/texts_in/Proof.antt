@@ -3,7 +3,7 @@ use Prim.Native.Nat.{_-_}
 use lib.ListN.{length, take, drop, length-drop}
 use lib.Seq.{take-length}
 use Rattle.forms.specs.Columns.{columns}
-use Rattle.c_given.specs.Given.{texts-of}
+use Rattle.c_given.specs.Given.{five-of}
 use borrow.Author.Needs.{needs}
 use Rattle.c_given.proofs.texts_in.Statement.{statement}
 use Rattle.c_given.proofs.texts_in.Tie as tie
@@ -33,7 +33,7 @@ text60-requires : tie.Need-text60-requires
 text60-requires c κs = search needs
 
 returns : tie.Need-returns
-unfolding texts-of
+unfolding five-of
 returns c =
     let b = c .before .before .before .before .before .before .before .args .b .now in
     let e : take (length b - 64) (drop 64 b) ≡ drop 64 b = ap (λ k. take k (drop 64 b)) (sym (length-drop 64 b)) ∙ take-length (drop 64 b) in

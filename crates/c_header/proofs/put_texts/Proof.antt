@@ -1,9 +1,10 @@
-use mathlib.Core.Path.{refl, sym, _∙_}
+use mathlib.Core.Path.{_≡_, sym, ap, _∙_}
+use mathlib.Core.List.{_++_}
 use native.Mathlib.Omega.{arith}
+use lib.ListN.{length, length-append}
 use lib.Seq.{sets}
-use Rattle.c_header.proofs.SetLaws.{sets-five}
-use mathlib.Core.Path.{_≡_}
-use lib.ListN.{length}
+use Rattle.c_header.specs.Numbers.{five-bytes}
+use Rattle.c_header.proofs.SetLaws.{front-six}
 use borrow.Author.Needs.{needs}
 use Rattle.c_header.proofs.put_texts.Statement.{statement}
 use Rattle.c_header.proofs.put_texts.Tie as tie
@@ -11,62 +12,25 @@ use Rattle.c_header.proofs.put_texts.Tie as tie
 widths : (s : tie.Start) → (length (s .args .x .program) ≡ 20) × (length (s .args .x .agency) ≡ 20) × (length (s .args .x .date) ≡ 20) × (length (s .args .x .mapping) ≡ 4) × (length (s .args .x .observables) ≡ 60)
 widths s = (search needs, search needs, search needs, search needs, search needs)
 
-slice-aggregate-copy-at : tie.Need-slice-aggregate-copy-at
-slice-aggregate-copy-at c = search needs
+five : (s : tie.Start) → 124 ≡ length (five-bytes (s .args .x))
+five s = let z = widths s in simp length-append (omega (arith, z .0, z .1, z .2, z .3, z .4))
+
+put-five-requires : tie.Need-put-five-requires
+put-five-requires c κs = omega (arith, c .before .before .before .pre .0)
 
 copy-at-requires : tie.Need-copy-at-requires
-copy-at-requires c κs = let s = c .before .before .before .before .before .before .before .before in omega (arith, widths s .0, s .pre)
-
-slice-aggregate-copy-at-2 : tie.Need-slice-aggregate-copy-at-2
-slice-aggregate-copy-at-2 c = search needs
-
-copy-at-requires-2 : tie.Need-copy-at-requires-2
-copy-at-requires-2 c κs = let s = c .before .before .before .before .before .before .before .before .before .before .before .before .before in omega (arith, widths s .1, s .pre)
-
-slice-aggregate-copy-at-3 : tie.Need-slice-aggregate-copy-at-3
-slice-aggregate-copy-at-3 c = search needs
-
-copy-at-requires-3 : tie.Need-copy-at-requires-3
-copy-at-requires-3 c κs = let s = c .before .before .before .before .before .before .before .before .before .before .before .before .before .before .before .before .before .before in omega (arith, widths s .2, s .pre)
-
-slice-aggregate-copy-at-4 : tie.Need-slice-aggregate-copy-at-4
-slice-aggregate-copy-at-4 c = search needs
-
-copy-at-requires-4 : tie.Need-copy-at-requires-4
-copy-at-requires-4 c κs = let s = c .before .before .before .before .before .before .before .before .before .before .before .before .before .before .before .before .before .before .before .before .before .before .before in omega (arith, widths s .3, s .pre)
-
-slice-aggregate-copy-at-5 : tie.Need-slice-aggregate-copy-at-5
-slice-aggregate-copy-at-5 c = search needs
-
-copy-at-requires-5 : tie.Need-copy-at-requires-5
-copy-at-requires-5 c κs = let s = c .before .before .before .before .before .before .before .before .before .before .before .before .before .before .before .before .before .before .before .before .before .before .before .before .before .before .before .before in omega (arith, widths s .4, s .pre)
+copy-at-requires c κs = let s = c .before .before .before .before .before .before .before in omega (arith, s .pre .0, s .pre .1)
 
 same-length : tie.Need-same-length
 same-length c = search needs
 
 returns : tie.Need-returns
 returns c =
-    let s = c .before .before .before .before .before .before .before .before .before .before .before .before .before .before .before .before .before .before .before .before .before .before .before .before .before .before .before .before .before .before .before in
-    let z = widths s in
+    let s = c .before .before .before .before .before .before .before .before .before .before in
     let x = s .args .x in
-    let o = s .args .out .now in
-    let e : c .before .before .copy-at5 .last .1 .0 ≡ sets (sets (sets (sets (sets o 0 (x .program)) 20 (x .agency)) 40 (x .date)) 60 (x .mapping)) 64 (x .observables) =
-    rw (c .before .before .copy-at5 .ensures, c .before .before .before .before .before .before .before .copy-at4 .ensures, c .before .before .before .before .before .before .before .before .before .before .before .before .copy-at3 .ensures, c .before .before .before .before .before .before .before .before .before .before .before .before .before .before .before .before .before .copy-at2 .ensures, c .before .before .before .before .before .before .before .before .before .before .before .before .before .before .before .before .before .before .before .before .before .before .copy-at .ensures) refl in
-    e ∙ sets-five (x .program) (x .agency) (x .date) (x .mapping) (x .observables) o 20 40 60 64 (sym (z .0)) (omega (arith, z .1)) (omega (arith, z .2)) (omega (arith, z .3)) (omega (arith, z .4, s .pre))
+    let d = s .args .descriptions .now in
+    c .before .before .copy-at .ensures ∙ ap (λ o. sets o 124 d) (c .before .before .before .before .before .before .put-five .ensures)
+    ∙ front-six (x .program) (x .agency) (x .date) (x .mapping) (x .observables) d (s .args .out .now) 124 (five s) (omega (arith, s .pre .0, s .pre .1))
 
 pub put-texts-spec : {M : Type 1} → statement M
-put-texts-spec =
-    tie.close
-    (tie.spec
-    slice-aggregate-copy-at
-    copy-at-requires
-    slice-aggregate-copy-at-2
-    copy-at-requires-2
-    slice-aggregate-copy-at-3
-    copy-at-requires-3
-    slice-aggregate-copy-at-4
-    copy-at-requires-4
-    slice-aggregate-copy-at-5
-    copy-at-requires-5
-    same-length
-    returns)
+put-texts-spec = tie.close (tie.spec put-five-requires copy-at-requires same-length returns)

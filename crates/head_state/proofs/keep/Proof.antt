@@ -37,7 +37,7 @@ returns-2 c =
     let a = c .before .before .before .args in
     let n : length (a .s .seen) ≡ 22 = search needs in
     let m : length (a .s .values) ≡ 22 = sym (length-map (a .s .values) _) ∙ c .before .before .before .good .0 .1 .1 .1 .1 .1 .0 .1 .0 .1 in
-    rw (c .before .h2 .given .1) (ap (λ (z : Slots). ok (went (mode (a .s .aux)) (a .s .exponent) z)) (value-kept (a .s) (a .i) _ (omega arith) (omega arith) (c .before .before .before .pre .1)))
+    rw (c .before .h2 .given .1) (ap (λ (z : Slots). ok (went (mode (a .s .aux)) (a .s .exponent) z (a .s .descriptions))) (value-kept (a .s) (a .i) _ (omega arith) (omega arith) (c .before .before .before .pre .1)))
 
 pub keep-spec : {M : Type 1} → statement M
 keep-spec =

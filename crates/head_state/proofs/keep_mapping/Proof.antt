@@ -35,7 +35,7 @@ unfolding kept bind
 returns-2 c =
     let a = c .before .before .before .before .before .args in
     rw (← (mapping-says _ (c .before .before .before .before .before .pre)), sym (c .before .before .before .beside-mapping .ensures) ∙ c .before .enum-told .given .1, c .text4 .ensures)
-    (ap (λ (z : Slots). ok (went (mode (a .s .aux)) (a .s .exponent) z)) (mapping-kept (a .s) (search needs) _))
+    (ap (λ (z : Slots). ok (went (mode (a .s .aux)) (a .s .exponent) z (a .s .descriptions))) (mapping-kept (a .s) (search needs) _))
 
 pub keep-mapping-spec : {M : Type 1} → statement M
 keep-mapping-spec =

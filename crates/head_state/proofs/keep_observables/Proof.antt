@@ -18,7 +18,7 @@ returns : tie.Need-returns
 unfolding kept bind
 returns c =
     let a = c .before .before .args in
-    rw (observables-says _ (c .before .before .pre), c .text60 .ensures) (ap (λ (z : Slots). ok (went (mode (a .s .aux)) (a .s .exponent) z)) (observables-kept (a .s) (search needs) _))
+    rw (observables-says _ (c .before .before .pre), c .text60 .ensures) (ap (λ (z : Slots). ok (went (mode (a .s .aux)) (a .s .exponent) z (a .s .descriptions))) (observables-kept (a .s) (search needs) _))
 
 pub keep-observables-spec : {M : Type 1} → statement M
 keep-observables-spec = tie.close (tie.spec text60-requires element-write-t returns)

@@ -24,7 +24,7 @@ returns : tie.Need-returns
 unfolding kept bind
 returns c =
     let a = c .before .before .before .before .args in
-    rw (program-says _ (c .before .before .before .before .pre), c .before .before .text20 .ensures, c .before .text202 .ensures, c .text203 .ensures) (ap (λ (z : Slots). ok (went (mode (a .s .aux)) (a .s .exponent) z)) (program-kept (a .s) (search needs) _ _ _))
+    rw (program-says _ (c .before .before .before .before .pre), c .before .before .text20 .ensures, c .before .text202 .ensures, c .text203 .ensures) (ap (λ (z : Slots). ok (went (mode (a .s .aux)) (a .s .exponent) z (a .s .descriptions))) (program-kept (a .s) (search needs) _ _ _))
 
 pub keep-program-spec : {M : Type 1} → statement M
 keep-program-spec =

@@ -22,11 +22,11 @@ ended-requires c κs = search needs
 
 returns : tie.Need-returns
 unfolding blank-to
-returns c = rw (end-is _ _ _ (c .before .before .before .before .before .before .pre), sym (c .before .before .before .before .first-not-blank .ensures) ∙ c .before .before .column .given .1) (c .refuse .ensures)
+returns c = rw (end-is _ _ _ _ (c .before .before .before .before .before .before .pre), sym (c .before .before .before .before .first-not-blank .ensures) ∙ c .before .before .column .given .1) (c .refuse .ensures)
 
 returns-2 : tie.Need-returns-2
 unfolding blank-to
-returns-2 c = rw (end-is _ _ _ (c .before .before .before .before .before .pre), sym (c .before .before .before .first-not-blank .ensures) ∙ c .before .enum-told .given .1) (c .ended .ensures)
+returns-2 c = rw (end-is _ _ _ _ (c .before .before .before .before .before .pre), sym (c .before .before .before .first-not-blank .ensures) ∙ c .before .enum-told .given .1) (c .ended .ensures)
 
 pub at-end-spec : {M : Type 1} → statement M
 at-end-spec =

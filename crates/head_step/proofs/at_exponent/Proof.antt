@@ -46,7 +46,7 @@ returns c =
     let n = c .before .before in
     let s = n .before .before .before .before .before .before .args .s in
     rw (sym (n .before .before .before .before .one-number .ensures), n .before .before .z .given .1, need-yes (between? _ _ _) _ _ (truth-true _ (sym (judged n) ∙ c .before .if1 .taken)))
-    (c .more .ensures ∙ ap (λ (z : Slots). ok (went (mode (s .aux)) (toZ w32 (ofZ w32 (n .before .before .z .given .0 .0))) z)) (same-slots s (s .aux) _) ∙ ap (λ (z : ℤ). ok (went (mode (s .aux)) z (slots-of s))) (z-is (n .before)))
+    (c .more .ensures ∙ ap (λ (z : Slots). ok (went (mode (s .aux)) (toZ w32 (ofZ w32 (n .before .before .z .given .0 .0))) z (s .descriptions))) (same-slots s (s .aux) _ (s .descriptions)) ∙ ap (λ (z : ℤ). ok (went (mode (s .aux)) z (slots-of s) (s .descriptions))) (z-is (n .before)))
 
 refuse-requires-2 : tie.Need-refuse-requires-2
 refuse-requires-2 c κs = search needs

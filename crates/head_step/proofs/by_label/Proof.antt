@@ -46,7 +46,7 @@ returns : tie.Need-returns
 unfolding acted
 returns c =
     let s = c .before .before .before .args .s in
-    rw (c .before .match .keys1) (c .more .ensures ∙ ap (λ (b : Bool). ok (went (mode b) (s .exponent) (slots-of s))) (c .before .before .before .pre .2))
+    rw (c .before .match .keys1) (c .more .ensures ∙ ap (λ (b : Bool). ok (went (mode b) (s .exponent) (slots-of s) (s .descriptions))) (c .before .before .before .pre .2))
 
 returns-2 : tie.Need-returns-2
 unfolding acted
@@ -64,7 +64,7 @@ returns-5 : tie.Need-returns-5
 unfolding acted
 returns-5 c =
     let s = c .before .before .before .args .s in
-    rw (c .before .match .keys5) (c .more2 .ensures ∙ ap (λ (z : Slots). ok (went aux (s .exponent) z)) (same-slots s true (s .exponent)))
+    rw (c .before .match .keys5) (c .more2 .ensures ∙ ap (λ (z : Slots). ok (went aux (s .exponent) z (s .descriptions))) (same-slots s true (s .exponent) (s .descriptions)))
 
 returns-6 : tie.Need-returns-6
 unfolding acted

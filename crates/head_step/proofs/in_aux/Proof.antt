@@ -15,7 +15,7 @@ more-requires c κs = search needs
 returns : tie.Need-returns
 returns c =
     let s = c .before .before .args .s in
-    rw (eq-eqb _ _ (c .before .if1 .taken)) (c .more .ensures ∙ ap (λ (z : Slots). ok (went plain (s .exponent) z)) (same-slots s false (s .exponent)))
+    rw (eq-eqb _ _ (c .before .if1 .taken)) (c .more .ensures ∙ ap (λ (z : Slots). ok (went plain (s .exponent) z (s .descriptions))) (same-slots s false (s .exponent) (s .descriptions)))
 
 more-requires-2 : tie.Need-more-requires-2
 more-requires-2 c κs = search needs

@@ -19,7 +19,7 @@ part-result-end : tie.Need-part-result-end
 part-result-end c = search needs
 
 returns : tie.Need-returns
-returns c = let b = c .before in let f = b .before in let s = f .before .before .before .before in (told (s .args .text .now) (f .find-node .result), (f .find-node .ensures .replies, b .bounds-of .ensures .part))
+returns c = let b = c .before in let f = b .before in let s = f .before .before .before .before .before in (told (s .args .text .now) (f .find-node .result), (f .find-node .ensures .replies, b .bounds-of .ensures .part))
 
 pub find-block-spec : {M : Type 1} → statement M
 find-block-spec =

@@ -4,6 +4,7 @@ use native.Mathlib.Omega.{arith}
 use borrow.Author.Tests.{not-true, not-false}
 use lib.Seq.{length-take-le}
 use Rattle.kit.proofs.TruthLaws.{truth-true, truth-false}
+use Rattle.mapset.specs.Described.{full}
 use Rattle.mapset.specs.Areas.{blocks}
 use Rattle.mapset.specs.Sound.{HeaderSays}
 use Rattle.mapset.proofs.SoundLaws.{few-blocks}
@@ -12,14 +13,14 @@ use borrow.Author.Needs.{needs}
 use Rattle.index_node.proofs.fits.Statement.{statement}
 use Rattle.index_node.proofs.fits.Tie as tie
 
-says : (c : tie.Else1) → HeaderSays (c .before .before .before .before .args .header) (c .before .before .before .before .args .texts)
+says : (c : tie.Else1) → HeaderSays (c .before .before .before .before .before .args .header) (full (c .before .before .before .before .before .args .texts) (c .before .before .before .before .before .args .descriptions .now))
 says c = truth-true _ (sym (c .before .header-fits .ensures) ∙ not-false _ (c .if1 .left))
 
-few : (c : tie.After-per-map) → blocks (c .before .before .before .before .before .before .args .header) ≤ 2000000
-few c = let b = c .before .before .before .before .before .before in few-blocks (b .args .header .times .maps) (b .args .header .grid) (limits (b .args .header) (b .args .texts) (says (c .before .before)))
+few : (c : tie.After-per-map) → blocks (c .before .before .before .before .before .before .before .args .header) ≤ 2000000
+few c = let b = c .before .before .before .before .before .before .before in few-blocks (b .args .header .times .maps) (b .args .header .grid) (limits (b .args .header) (full (b .args .texts) (b .args .descriptions .now)) (says (c .before .before)))
 
-all-is : (c : tie.After-per-map) → c .before .before .before .before .before .before .args .header .times .maps * c .per-map .result ≡ blocks (c .before .before .before .before .before .before .args .header)
-all-is c = ap (λ n. c .before .before .before .before .before .before .args .header .times .maps * n) (c .per-map .ensures)
+all-is : (c : tie.After-per-map) → c .before .before .before .before .before .before .before .args .header .times .maps * c .per-map .result ≡ blocks (c .before .before .before .before .before .before .before .args .header)
+all-is c = ap (λ n. c .before .before .before .before .before .before .before .args .header .times .maps * n) (c .per-map .ensures)
 
 header-fits-requires : tie.Need-header-fits-requires
 header-fits-requires c κs = search needs
@@ -31,7 +32,7 @@ cast-maps : tie.Need-cast-maps
 cast-maps c = search needs
 
 per-map-requires : tie.Need-per-map-requires
-per-map-requires c κs = let b = c .before .before .before .before .before in let l = limits (b .args .header) (b .args .texts) (says (c .before)) in (l .2, l .0)
+per-map-requires c κs = let b = c .before .before .before .before .before .before in let l = limits (b .args .header) (full (b .args .texts) (b .args .descriptions .now)) (says (c .before)) in (l .2, l .0)
 
 mul-all : tie.Need-mul-all
 mul-all c = omega (arith, few c, all-is c)
@@ -55,7 +56,7 @@ all-within-requires : tie.Need-all-within-requires
 all-within-requires c κs = search needs
 
 returns-5 : tie.Need-returns-5
-returns-5 c = let e4 = c .before .before in let p = e4 .before .before .before in let a = p .before .before .before .before .before .before .args in marks-decide (a .header) (a .texts) (a .positions .now) (a .exponents .now) (a .marks .now) (says (p .before .before)) (omega (arith, all-is p, e4 .before .before .if2 .left)) (omega (arith, all-is p, e4 .before .if3 .left)) (omega (arith, e4 .if4 .left)) (c .all-within .result) (c .all-within .ensures)
+returns-5 c = let e4 = c .before .before in let p = e4 .before .before .before in let a = p .before .before .before .before .before .before .before .args in marks-decide (a .header) (full (a .texts) (a .descriptions .now)) (a .positions .now) (a .exponents .now) (a .marks .now) (says (p .before .before)) (omega (arith, all-is p, e4 .before .before .if2 .left)) (omega (arith, all-is p, e4 .before .if3 .left)) (omega (arith, e4 .if4 .left)) (c .all-within .result) (c .all-within .ensures)
 
 pub fits-spec : {M : Type 1} → statement M
 fits-spec =

@@ -1,5 +1,6 @@
 -- `join_areas::join_sets` meets its contract.
 use mathlib.Core.Path.{_≡_, subst}
+use Rattle.mapset.specs.Described.{full}
 use Rattle.mapset.specs.Areas.{Areas, six}
 use Rattle.join.specs.Into.{Lent, lent-of}
 use Rattle.join_areas.specs.Joined.{Said}
@@ -10,10 +11,10 @@ use Rattle.join_areas.proofs.join_sets.Statement.{statement}
 use Rattle.join_areas.proofs.join_sets.Tie as tie
 
 abbrev x : tie.Start → Lent
-x s = lent-of (s .args .early) (s .args .etexts) (six (s .args .atec .now) (s .args .arms .now) (s .args .aheight .now) (s .args .aexponents .now) (s .args .aepochs .now) (s .args .amarks .now))
+x s = lent-of (s .args .early) (full (s .args .etexts) (s .args .edescriptions .now)) (six (s .args .atec .now) (s .args .arms .now) (s .args .aheight .now) (s .args .aexponents .now) (s .args .aepochs .now) (s .args .amarks .now))
 
 abbrev y : tie.Start → Lent
-y s = lent-of (s .args .late) (s .args .ltexts) (six (s .args .btec .now) (s .args .brms .now) (s .args .bheight .now) (s .args .bexponents .now) (s .args .bepochs .now) (s .args .bmarks .now))
+y s = lent-of (s .args .late) (full (s .args .ltexts) (s .args .ldescriptions .now)) (six (s .args .btec .now) (s .args .brms .now) (s .args .bheight .now) (s .args .bexponents .now) (s .args .bepochs .now) (s .args .bmarks .now))
 
 abbrev l : tie.Start → Areas
 l s = six (s .args .tec .now) (s .args .rms .now) (s .args .height .now) (s .args .exponents .now) (s .args .epochs .now) (s .args .marks .now)
@@ -32,10 +33,10 @@ enum-told : tie.Need-enum-told
 enum-told c = search needs
 
 store-requires : tie.Need-store-requires
-store-requires c κs = let s = c .before .before .before .before .before .before .before .before .before .before .before .before .before .before .before in ready (x s) (y s) (said _ _ _ _ (c .before .before .before .before .before .before .before .before .judged .ensures) (c .before .before .before .before .before .before .enum-told .given .1))
+store-requires c κs = let s = c .before .before .before .before .before .before .before .before .before .before .before .before .before .before .before .before .before in ready (x s) (y s) (said _ _ _ _ (c .before .before .before .before .before .before .before .before .judged .ensures) (c .before .before .before .before .before .before .enum-told .given .1))
 
 returns : tie.Need-returns
-returns c = let s = c .before .before .before .before .before .before .before .before .before .before in refused-is (x s) (y s) (l s) (c .before .why .given .0 .0) (said (x s) (y s) _ _ (c .before .before .before .judged .ensures) (c .before .why .given .1))
+returns c = let s = c .before .before .before .before .before .before .before .before .before .before .before .before in refused-is (x s) (y s) (l s) (c .before .why .given .0 .0) (said (x s) (y s) _ _ (c .before .before .before .judged .ensures) (c .before .why .given .1))
 
 same-length : tie.Need-same-length
 same-length c = search needs
@@ -57,7 +58,7 @@ same-length-6 c = search needs
 
 returns-2 : tie.Need-returns-2
 returns-2 c =
-    let s = c .before .before .before .before .before .before .before .before .before .before .before .before .before .before .before .before .before .before .before .before .before .before .before .before in
+    let s = c .before .before .before .before .before .before .before .before .before .before .before .before .before .before .before .before .before .before .before .before .before .before .before .before .before .before in
     stored-is (x s) (y s) (said _ _ _ _ (c .before .before .before .before .before .before .before .before .before .before .before .before .before .before .before .before .before .judged .ensures) (c .before .before .before .before .before .before .before .before .before .before .before .before .before .before .before .enum-told .given .1)) (l s) _ _ (c .before .before .before .before .before .before .before .before .store .ensures)
 
 pub join-sets-spec : {M : Type 1} → statement M

@@ -1,11 +1,19 @@
 -- `program_text::put_answer` meets its contract.
-
+use mathlib.Core.Path.{_≡_, sym}
+use lib.ListN.{length}
 use borrow.Author.Needs.{needs}
 use Rattle.program_text.proofs.put_answer.Statement.{statement}
 use Rattle.program_text.proofs.put_answer.Tie as tie
 
 enum-known-reading : tie.Need-enum-known-reading
 enum-known-reading c = search needs
+
+-- the description has its 1,200 bytes
+whole : (s : tie.Start) → length (s .args .read .descriptions .bytes) ≡ 1200
+whole s = search needs
+
+slice-aggregate-put-canonical : tie.Need-slice-aggregate-put-canonical
+slice-aggregate-put-canonical c = sym (whole (c .before .before .before .before .before .before .before .before .before))
 
 put-canonical-requires : tie.Need-put-canonical-requires
 put-canonical-requires c κs = search needs
@@ -22,7 +30,7 @@ same-length c = search needs
 returns : tie.Need-returns
 returns c =
     let p = c .before .before in
-    rw (p .before .before .before .reading .given .1) (p .put-canonical .ensures)
+    rw (p .before .before .before .before .reading .given .1) (p .put-canonical .ensures)
 
 same-length-2 : tie.Need-same-length-2
 same-length-2 c = search needs
@@ -37,6 +45,7 @@ put-answer-spec =
     tie.close
     (tie.spec
     enum-known-reading
+    slice-aggregate-put-canonical
     put-canonical-requires
     enum-known-reading-2
     put-reason-requires

@@ -21,7 +21,8 @@ enum-known-answer-2 c = search needs
 
 judge-maps-requires : tie.Need-judge-maps-requires
 judge-maps-requires c κs =
-    let m = maps-start (c .before .before .before .before .before .before .args .text .now) (c .before .before .before .before .read-header .result) (c .before .before .before .before .read-header .ensures) (c .before .answer2 .given .1) in
+    let r = c .before .before .before .before .before .before in
+    let m = maps-start (r .before .before .before .before .args .text .now) (r .read-header .result) _ (r .read-header .ensures) (c .before .answer2 .given .1) in
     ((m .within, m .passed), (m .header .maps .1, m .header .limits))
 
 enum-known-number : tie.Need-enum-known-number
@@ -30,19 +31,32 @@ enum-known-number c = search needs
 enum-known-rms : tie.Need-enum-known-rms
 enum-known-rms c = search needs
 
+same-length : tie.Need-same-length
+same-length c = search needs
+
 returns : tie.Need-returns
-returns c = refused-head (c .before .before .before .before .before .before .args .text .now) (c .before .before .before .before .read-header .result) (c .before .before .before .before .read-header .ensures) (c .before .answer .given .1)
+returns c =
+    let r = c .before .before .before .before .before .before in
+    refused-head (r .before .before .before .before .args .text .now) (r .read-header .result) _ (r .read-header .ensures) (c .before .answer .given .1)
+
+same-length-2 : tie.Need-same-length-2
+same-length-2 c = search needs
 
 returns-2 : tie.Need-returns-2
 returns-2 c =
     let b = c .before .before .before .before in
-    refused-maps (b .before .before .before .before .before .before .args .text .now) (b .before .before .before .before .read-header .result) (b .before .before .before .before .read-header .ensures) (b .before .answer2 .given .1)
+    let r = b .before .before .before .before .before .before in
+    refused-maps (r .before .before .before .before .args .text .now) (r .read-header .result) _ (r .read-header .ensures) (b .before .answer2 .given .1)
     (sym (c .before .number .given .1) ∙ rw (exponent-of b) at (c .before .before .before .judge-maps .ensures))
+
+same-length-3 : tie.Need-same-length-3
+same-length-3 c = search needs
 
 returns-3 : tie.Need-returns-3
 returns-3 c =
     let b = c .before .before .before .before in
-    let z = accepted-maps (b .before .before .before .before .before .before .args .text .now) (b .before .before .before .before .read-header .result) (b .before .before .before .before .read-header .ensures) (b .before .answer2 .given .1)
+    let r = b .before .before .before .before .before .before in
+    let z = accepted-maps (r .before .before .before .before .args .text .now) (r .read-header .result) _ (r .read-header .ensures) (b .before .answer2 .given .1)
     (sym (c .before .rms .given .1) ∙ rw (exponent-of b) at (c .before .before .before .judge-maps .ensures)) in
     rw (exponent-of b) z
 
@@ -56,6 +70,9 @@ judge-spec =
     judge-maps-requires
     enum-known-number
     enum-known-rms
+    same-length
     returns
+    same-length-2
     returns-2
+    same-length-3
     returns-3)

@@ -1,6 +1,7 @@
 use mathlib.Core.Path.{sym, ap, _∙_}
 use mir.Facts.{toZ-ofZ}
 use Rattle.mapset.specs.Areas.{six}
+use Rattle.mapset.specs.Described.{full}
 use Rattle.read_needs.specs.Needs.{fit}
 use Rattle.read_judge.proofs.NeedLaws.{limits, few-by}
 use Rattle.read_text.proofs.StoreLaws.{short-by, readable-by, enough-by, stored-by}
@@ -9,13 +10,13 @@ use Rattle.read_text.proofs.store.Statement.{statement}
 use Rattle.read_text.proofs.store.Tie as tie
 
 size-of-requires : tie.Need-size-of-requires
-size-of-requires c κs = let s = c .before .before .before in limits (s .args .text .now) (s .args .texts) (s .args .header) (s .args .exponent) (s .args .at) (s .args .some) (s .pre)
+size-of-requires c κs = let s = c .before .before .before in limits (s .args .text .now) (full (s .args .texts) (s .args .lines .now)) (s .args .header) (s .args .exponent) (s .args .at) (s .args .some) (s .pre)
 
 needed-requires : tie.Need-needed-requires
 needed-requires c κs =
     let s = c .before .before .before .before in
     let z = c .size-of .ensures in
-    few-by (s .args .text .now) (s .args .texts) (s .args .header) (s .args .exponent) (s .args .at) (s .args .some) (s .pre) (z .0) (z .1) (z .2)
+    few-by (s .args .text .now) (full (s .args .texts) (s .args .lines .now)) (s .args .header) (s .args .exponent) (s .args .at) (s .args .some) (s .pre) (z .0) (z .1) (z .2)
 
 room-for-requires : tie.Need-room-for-requires
 room-for-requires c κs = search needs
@@ -35,7 +36,7 @@ fill-maps-requires c κs =
     let z = c .before .before .before .before .before .before .before .before .before .before .size-of .ensures in
     let l = six (s .args .tec .now) (s .args .rms .now) (s .args .height .now) (s .args .exponents .now) (s .args .epochs .now) (s .args .marks .now) in
     let e = sym (c .before .before .before .before .before .before .before .before .room-for .ensures) ∙ ap fit (c .before .before .before .before .before .before .enum-told .given .1) in
-    rw (toZ-ofZ (s .fits .exponent)) ((s .pre .within, (_, readable-by (s .args .text .now) (s .args .texts) (s .args .header) (s .args .exponent) (s .args .at) (s .args .some) (s .pre) (z .0) (z .1) (z .2) (c .before .before .before .before .before .before .before .before .before .needed .ensures))), enough-by (s .args .text .now) (s .args .texts) (s .args .header) (s .args .exponent) (s .args .at) (s .args .some) (s .pre) (z .0) (z .1) (z .2) (c .before .before .before .before .before .before .before .before .before .needed .ensures) l e)
+    rw (toZ-ofZ (s .fits .exponent)) ((s .pre .within, (_, readable-by (s .args .text .now) (full (s .args .texts) (s .args .lines .now)) (s .args .header) (s .args .exponent) (s .args .at) (s .args .some) (s .pre) (z .0) (z .1) (z .2) (c .before .before .before .before .before .before .before .before .before .needed .ensures))), enough-by (s .args .text .now) (full (s .args .texts) (s .args .lines .now)) (s .args .header) (s .args .exponent) (s .args .at) (s .args .some) (s .pre) (z .0) (z .1) (z .2) (c .before .before .before .before .before .before .before .before .before .needed .ensures) l e)
 
 returns : tie.Need-returns
 returns c =
@@ -44,7 +45,7 @@ returns c =
     let l = six (s .args .tec .now) (s .args .rms .now) (s .args .height .now) (s .args .exponents .now) (s .args .epochs .now) (s .args .marks .now) in
     let e = sym (c .before .before .before .before .room-for .ensures) ∙ ap fit (c .before .before .area .given .1) in
     let f = c .refused .ensures in
-    rw (f .0, f .1) (short-by (s .args .text .now) (s .args .texts) (s .args .header) (s .args .exponent) (s .args .at) (s .args .some) (s .pre) (z .0) (z .1) (z .2) (c .before .before .before .before .before .needed .ensures) l _ _ e)
+    rw (f .0, f .1) (short-by (s .args .text .now) (full (s .args .texts) (s .args .lines .now)) (s .args .header) (s .args .exponent) (s .args .at) (s .args .some) (s .pre) (z .0) (z .1) (z .2) (c .before .before .before .before .before .needed .ensures) l _ _ e)
 
 same-length : tie.Need-same-length
 same-length c = search needs
@@ -66,11 +67,11 @@ same-length-6 c = search needs
 
 returns-2 : tie.Need-returns-2
 returns-2 c =
-    let s = c .before .before .before .before .before .before .before .before .before .before .before .before .before .before .before .before .before .before .before .before .before .before .before in
-    let z = c .before .before .before .before .before .before .before .before .before .before .before .before .before .before .before .before .before .before .before .size-of .ensures in
+    let s = c .before .before .before .before .before .before .before .before .before .before .before .before .before .before .before .before .before .before .before .before .before .before .before .before in
+    let z = c .before .before .before .before .before .before .before .before .before .before .before .before .before .before .before .before .before .before .before .before .size-of .ensures in
     let l = six (s .args .tec .now) (s .args .rms .now) (s .args .height .now) (s .args .exponents .now) (s .args .epochs .now) (s .args .marks .now) in
-    let e = sym (c .before .before .before .before .before .before .before .before .before .before .before .before .before .before .before .before .before .room-for .ensures) ∙ ap fit (c .before .before .before .before .before .before .before .before .before .before .before .before .before .before .before .enum-told .given .1) in
-    stored-by (s .args .text .now) (s .args .texts) (s .args .header) (s .args .exponent) (s .args .at) (s .args .some) (s .pre) (z .0) (z .1) (z .2) (c .before .before .before .before .before .before .before .before .before .before .before .before .before .before .before .before .before .before .needed .ensures) l e _ (rw (toZ-ofZ (s .fits .exponent)) at (c .before .before .before .before .before .before .before .before .fill-maps .ensures))
+    let e = sym (c .before .before .before .before .before .before .before .before .before .before .before .before .before .before .before .before .before .before .room-for .ensures) ∙ ap fit (c .before .before .before .before .before .before .before .before .before .before .before .before .before .before .before .before .enum-told .given .1) in
+    stored-by (s .args .text .now) (full (s .args .texts) (s .args .lines .now)) (s .args .header) (s .args .exponent) (s .args .at) (s .args .some) (s .pre) (z .0) (z .1) (z .2) (c .before .before .before .before .before .before .before .before .before .before .before .before .before .before .before .before .before .before .before .needed .ensures) l e _ (rw (toZ-ofZ (s .fits .exponent)) at (c .before .before .before .before .before .before .before .before .before .fill-maps .ensures))
 
 pub store-spec : {M : Type 1} → statement M
 store-spec =

@@ -1,36 +1,33 @@
 -- `sound_header::all_within` meets its contract.
 use mathlib.Core.Path.{_≡_, refl, sym, _∙_}
+use mathlib.Core.Bool.{_&&_}
 use native.Mathlib.Omega.{arith}
+use native.Mathlib.Decide.{decLe}
 use Prim.Native.Nat.{_≤_, _-_}
-use lib.ListN.{length, drop}
+use lib.ListN.{length, drop, getD}
+use denote.Ref.{now}
 use Rattle.kit.specs.Answer.{all-dec}
 use Rattle.kit.specs.Range.{within?}
 use Rattle.kit.specs.Truth.{truth}
-use Rattle.kit.proofs.TruthLaws.{all-next, all-stop, all-end}
+use Rattle.kit.proofs.TruthLaws.{both, le-tells}
+use Rattle.sound_header.proofs.LineLaws.{within-next, within-end}
 use Rattle.sound_header.proofs.all_within.Statement.{statement}
 use Rattle.sound_header.proofs.all_within.Tie as tie
 
 abbrev Inv-loop : tie.InvT-loop
-Inv-loop low high bytes i₀ i = (i ≤ length bytes) × (truth (all-dec (within? low high) (drop i bytes)) ≡ truth (all-dec (within? low high) bytes))
+Inv-loop low high bytes fits₀ i₀ fits i = (i ≤ length bytes) × (truth (all-dec (within? low high) bytes) ≡ (fits && truth (all-dec (within? low high) (drop i bytes))))
 
 abbrev μ-loop : tie.MeasureT-loop
-μ-loop low high bytes i₀ i = length bytes - i
+μ-loop low high bytes fits₀ i₀ fits i = length bytes - i
 
 loop-holds : tie.Need-loop-holds Inv-loop μ-loop
 loop-holds c = (omega arith, refl)
 
-shared-slice-read-b : tie.Need-shared-slice-read-b Inv-loop μ-loop
-shared-slice-read-b c = omega arith
+shared-slice-read-fits : tie.Need-shared-slice-read-fits Inv-loop μ-loop
+shared-slice-read-fits c = omega arith
 
-returns : tie.Need-returns Inv-loop μ-loop
-returns c =
-    let l = c .before .before .before in
-    sym (all-stop 0 (within? _ _) _ (l .loop .i) (omega arith) (λ w. omega (arith, c .if1 .taken, w .0))) ∙ l .loop .inv .1
-
-returns-2 : tie.Need-returns-2 Inv-loop μ-loop
-returns-2 c =
-    let l = c .before .before .before .before in
-    sym (all-stop 0 (within? _ _) _ (l .loop .i) (omega arith) (λ w. omega (arith, c .if2 .taken, w .1))) ∙ l .loop .inv .1
+shared-slice-read-fits-2 : tie.Need-shared-slice-read-fits-2 Inv-loop μ-loop
+shared-slice-read-fits-2 c = omega arith
 
 add-i : tie.Need-add-i Inv-loop μ-loop
 add-i c = omega arith
@@ -39,14 +36,18 @@ loop-less : tie.Need-loop-less Inv-loop μ-loop
 loop-less c = omega arith
 
 loop-again : tie.Need-loop-again Inv-loop μ-loop
+unfolding within?
 loop-again c =
-    let l = c .before .before .before .before in
-    (omega arith, sym (all-next 0 (within? _ _) _ (l .loop .i) (omega arith) (omega (arith, c .before .if1 .left), omega (arith, c .if2 .left))) ∙ l .loop .inv .1)
+    let l = c .before .before .before in
+    let a = l .before .args in
+    let b = getD (now (a .bytes)) (l .loop .i) 0 in
+    (omega arith, l .loop .inv .1 ∙ within-next (a .low) (a .high) (now (a .bytes)) (l .loop .i) (omega arith) (l .loop .fits) (both (decLe (a .low) b) (decLe b (a .high)) (le-tells _ _) (le-tells _ _)))
 
-returns-3 : tie.Need-returns-3 Inv-loop μ-loop
-returns-3 c =
+returns : tie.Need-returns Inv-loop μ-loop
+returns c =
     let l = c .before in
-    sym (all-end 0 (within? _ _) _ (l .loop .i) (omega arith)) ∙ l .loop .inv .1
+    let a = l .before .args in
+    sym (l .loop .inv .1 ∙ within-end (a .low) (a .high) (now (a .bytes)) (l .loop .i) (omega arith) (l .loop .fits))
 
 pub all-within-spec : {M : Type 1} → statement M
 all-within-spec =
@@ -55,10 +56,9 @@ all-within-spec =
     Inv-loop
     μ-loop
     loop-holds
-    shared-slice-read-b
-    returns
-    returns-2
+    shared-slice-read-fits
+    shared-slice-read-fits-2
     add-i
     loop-less
     loop-again
-    returns-3)
+    returns)

@@ -1,6 +1,8 @@
 -- `sound_header::header_fits` meets its contract.
 use borrow.Author.Needs.{needs}
+use denote.Ref.{now}
 use Rattle.kit.proofs.TruthLaws.{both}
+use Rattle.mapset.specs.Described.{full}
 use Rattle.mapset.specs.Decisions.{dimension?, limits?}
 use Rattle.mapset.specs.Sound.{version?, texts?, times?, model?, grid?, count?, systems?, header?}
 use Rattle.sound_header.proofs.header_fits.Statement.{statement}
@@ -39,10 +41,10 @@ limits-hold-requires c κs = search needs
 returns : tie.Need-returns
 unfolding header?
 returns c =
-    let s = c .before .before .before .before .before .before .before .before .before .before .args in
+    let s = c .before .before .before .before .before .before .before .before .before .before .before .args in
     let h = s .header in
     both (version? (h .version)) _ (c .before .before .before .before .before .before .before .before .before .version-fits .ensures)
-    (both (texts? (s .texts)) _ (c .before .before .before .before .before .before .before .before .texts-fit .ensures)
+    (both (texts? (h .descriptions) (full (s .texts) (now (s .descriptions)))) _ (c .before .before .before .before .before .before .before .before .texts-fit .ensures)
     (both (times? (h .times)) _ (c .before .before .before .before .before .before .before .times-fit .ensures)
     (both (model? (h .model)) _ (c .before .before .before .before .before .before .model-fits .ensures)
     (both (grid? (h .grid)) _ (c .before .before .before .before .before .grid-fits .ensures)

@@ -9,6 +9,7 @@ use lib.IntN.{ℤ}
 use denote.Ref.{now}
 use Rattle.kit.specs.Lists.{front}
 use Rattle.kit.proofs.TruthLaws.{truth-true, truth-false}
+use Rattle.mapset.specs.Described.{full}
 use Rattle.mapset.specs.Areas.{six}
 use Rattle.valid.proofs.Whole.{sound-long}
 use Rattle.week_set.specs.SetFigures.{kind-nodes, map-nodes, kind-rows, set-rows, rows-need}
@@ -22,10 +23,10 @@ use Rattle.week.proofs.add.Statement.{statement}
 use Rattle.week.proofs.add.Tie as tie
 
 abbrev start : tie.Else2 → tie.Start
-start d = d .before .before .before .before .before .before
+start d = d .before .before .before .before .before .before .before
 
 abbrev lent : tie.Start → Given
-lent s = given-as (s .args .header) (s .args .texts) (six (now (s .args .tec)) (now (s .args .rms)) (now (s .args .height)) (now (s .args .exponents)) (now (s .args .epochs)) (now (s .args .marks))) (now (s .args .rows))
+lent s = given-as (s .args .header) (full (s .args .texts) (s .args .descriptions .now)) (six (now (s .args .tec)) (now (s .args .rms)) (now (s .args .height)) (now (s .args .exponents)) (now (s .args .epochs)) (now (s .args .marks))) (now (s .args .rows))
 
 is-sane : (d : tie.Else2) → Sane (start d .args .w)
 is-sane d = truth-true _ (sym (d .before .sane .ensures) ∙ not-false _ (d .if2 .left))
@@ -59,7 +60,7 @@ module _ (d : tie.Else4) where
   has-room = omega (arith, need-is, d .if4 .left)
 
 returns : tie.Need-returns
-returns c = let s = c .before .before .before .before in sym (answer-full (s .args .w) (lent s) (c .if1 .taken))
+returns c = let s = c .before .before .before .before .before in sym (answer-full (s .args .w) (lent s) (c .if1 .taken))
 
 sane-requires : tie.Need-sane-requires
 sane-requires c κs = search needs
@@ -67,7 +68,7 @@ sane-requires c κs = search needs
 returns-2 : tie.Need-returns-2
 returns-2 c =
     let k = c .before .before in
-    let s = k .before .before .before .before in
+    let s = k .before .before .before .before .before in
     sym (answer-insane (s .args .w) (lent s) (omega (arith, k .if1 .left)) (truth-false _ (sym (c .before .sane .ensures) ∙ not-true _ (c .if2 .taken))))
 
 valid-requires : tie.Need-valid-requires
@@ -97,7 +98,7 @@ grow-requires c κs =
     let e = valid-at f in
     let d = e .before .before in
     let a = start d .args in
-    let l = sound-long (a .header) (a .texts) (lent (start d) .areas) (is-valid e .sound) in
+    let l = sound-long (a .header) (full (a .texts) (a .descriptions .now)) (lent (start d) .areas) (is-valid e .sound) in
     (omega (arith, d .before .before .if1 .left), is-sane d, record { maps = l .maps; limits = l .limits; marks = l .marks; lengths = l .lengths }, has-room f)
 
 same-length : tie.Need-same-length

@@ -30,7 +30,7 @@ put-tenths-requires c κs =
     let m0 = s .pre .1 in
     let p1 = rw (c .before .before .before .before .before .before .before .mapping-row .ensures) at (c .before .before .before .put-line .ensures) in
     let m1 = room-next m0 p1 in
-    (omega arith, omega (arith, s .pre .0 .1 .1 .1 .0 .0 .1), room-first m1)
+    (omega arith, omega (arith, s .pre .0 .0 .0 .1), room-first m1)
 
 slice-aggregate-put-line-2 : tie.Need-slice-aggregate-put-line-2
 slice-aggregate-put-line-2 c = search needs
@@ -57,7 +57,7 @@ put-counted-requires c κs =
     let m2 = room-next m1 p2 in
     let p3 = rw (c .before .before .before .before .before .before .before .before .before .before .before .before .before .before .before .observables-row .ensures) at (c .before .before .before .put-line2 .ensures) in
     let m3 = room-next m2 p3 in
-    (omega arith, count-small (s .args .header .stations .stands) (s .args .header .stations .count) (s .pre .0 .1 .1 .1 .1 .1 .0), room-front (counted-rows 11 (s .args .header .stations)) (counted-rows 12 (s .args .header .satellites)) m3)
+    (omega arith, count-small (s .args .header .stations .stands) (s .args .header .stations .count) (s .pre .0 .1 .0), room-front (counted-rows 11 (s .args .header .stations)) (counted-rows 12 (s .args .header .satellites)) m3)
 
 put-counted-requires-2 : tie.Need-put-counted-requires-2
 unfolding middle-rows
@@ -71,7 +71,7 @@ put-counted-requires-2 c κs =
     let p3 = rw (c .before .before .before .before .before .before .before .before .before .before .before .before .before .before .before .before .before .before .before .observables-row .ensures) at (c .before .before .before .before .before .before .before .put-line2 .ensures) in
     let m3 = room-next m2 p3 in
     let p4 = c .before .before .before .put-counted .ensures in
-    (omega arith, count-small (s .args .header .satellites .stands) (s .args .header .satellites .count) (s .pre .0 .1 .1 .1 .1 .1 .1 .0), room-behind (counted-rows 11 (s .args .header .stations)) (counted-rows 12 (s .args .header .satellites)) m3 p4)
+    (omega arith, count-small (s .args .header .satellites .stands) (s .args .header .satellites .count) (s .pre .0 .1 .1), room-behind (counted-rows 11 (s .args .header .stations)) (counted-rows 12 (s .args .header .satellites)) m3 p4)
 
 same-length : tie.Need-same-length
 same-length c = search needs

@@ -1,5 +1,6 @@
 use native.Mathlib.Omega.{arith}
 use Rattle.c_answers.proofs.OwnLaws.{none, fit}
+use Prim.Native.Nat.{_≤_}
 use lib.ListN.{length}
 use mir.Facts.{toZ-ofZ}
 use Rattle.c_answers.specs.DelayExported.{short, asked}
@@ -25,13 +26,26 @@ texts-in-requires c κs =
     let f = fit (length (s .args .header .now)) (length (s .args .texts .now)) (length (s .args .out .now)) 3 (c .before .before .too-short .ensures) (omega (arith, c .before .if1 .left)) in
     f .texts
 
+-- the texts reach to the end of the description
+long : (c : tie.After-texts-in) → 1324 ≤ length (c .before .before .before .before .before .before .before .before .args .texts .now)
+long c = let s = c .before .before .before .before .before .before .before .before in fit (length (s .args .header .now)) (length (s .args .texts .now)) (length (s .args .out .now)) 3 (c .before .before .before .too-short .ensures) (omega (arith, c .before .before .if1 .left)) .texts
+
+sub-ask-delay : tie.Need-sub-ask-delay
+sub-ask-delay c = search needs
+
+part-ask-delay-start : tie.Need-part-ask-delay-start
+part-ask-delay-start c = omega (arith, long c)
+
+part-ask-delay-end : tie.Need-part-ask-delay-end
+part-ask-delay-end c = omega (arith, long c)
+
 ask-delay-requires : tie.Need-ask-delay-requires
 ask-delay-requires c κs = search needs
 
 put-asked-delay-requires : tie.Need-put-asked-delay-requires
 put-asked-delay-requires c κs =
-    let s = c .before .before .before .before .before .before .before .before .before .before in
-    let f = fit (length (s .args .header .now)) (length (s .args .texts .now)) (length (s .args .out .now)) 3 (c .before .before .before .before .before .too-short .ensures) (omega (arith, c .before .before .before .before .if1 .left)) in
+    let s = c .before .before .before .before .before .before .before .before .before .before .before in
+    let f = fit (length (s .args .header .now)) (length (s .args .texts .now)) (length (s .args .out .now)) 3 (c .before .before .before .before .before .before .too-short .ensures) (omega (arith, c .before .before .before .before .before .if1 .left)) in
     f .result
 
 same-length : tie.Need-same-length
@@ -39,10 +53,10 @@ same-length c = search needs
 
 returns-2 : tie.Need-returns-2
 returns-2 c =
-    let s = c .before .before .before .before .before .before .before .before .before .before .before .before .before in
-    let a = rw (c .before .before .before .before .before .before .header-in .ensures, c .before .before .before .before .before .texts-in .ensures, toZ-ofZ (s .fits .lat), toZ-ofZ (s .fits .lon)) at (c .before .before .before .before .ask-delay .ensures) in
+    let s = c .before .before .before .before .before .before .before .before .before .before .before .before .before .before in
+    let a = rw (c .before .before .before .before .before .before .before .header-in .ensures, c .before .before .before .before .before .before .texts-in .ensures, toZ-ofZ (s .fits .lat), toZ-ofZ (s .fits .lon)) at (c .before .before .before .before .ask-delay .ensures) in
     let p = c .before .before .put-asked-delay .ensures in
-    rw (p .0, p .1) (asked (none (length (s .args .header .now)) (length (s .args .texts .now)) (length (s .args .out .now)) 3 (c .before .before .before .before .before .before .before .before .too-short .ensures) (omega (arith, c .before .before .before .before .before .before .before .if1 .left))) _ a)
+    rw (p .0, p .1) (asked (none (length (s .args .header .now)) (length (s .args .texts .now)) (length (s .args .out .now)) 3 (c .before .before .before .before .before .before .before .before .before .too-short .ensures) (omega (arith, c .before .before .before .before .before .before .before .before .if1 .left))) _ a)
 
 pub ionex-delay-spec : {M : Type 1} → statement M
 ionex-delay-spec =
@@ -52,6 +66,9 @@ ionex-delay-spec =
     returns
     header-in-requires
     texts-in-requires
+    sub-ask-delay
+    part-ask-delay-start
+    part-ask-delay-end
     ask-delay-requires
     put-asked-delay-requires
     same-length

@@ -1,7 +1,10 @@
 use mathlib.Core.Path.{_≡_, _∙_}
-use Prim.Native.Nat.{ℕ}
+use mathlib.Core.List.{List}
+use Prim.Native.Nat.{ℕ, _≤_}
 use native.Mathlib.Omega.{arith}
-use lib.ListN.{length}
+use lib.ListN.{length, take, drop, length-drop}
+use lib.Seq.{length-take-le}
+use Rattle.mapset.specs.Described.{full}
 use Rattle.mapset.specs.Areas.{Areas, six}
 use Rattle.join.specs.Into.{lent-of}
 use Rattle.c_answers.specs.Own.{too-short, shortest}
@@ -26,12 +29,23 @@ late s = (six (s .args .btec .now) (s .args .brms .now) (s .args .bheight .now) 
 abbrev out : tie.Start → Areas
 out s = (six (s .args .tec .now) (s .args .rms .now) (s .args .height .now) (s .args .exponents .now) (s .args .epochs .now) (s .args .marks .now))
 
+-- the description of a caller's texts
+abbrev lines : List ℕ → List ℕ
+lines b = take 1200 (drop 124 b)
+
+whole : (b : List ℕ) → 1324 ≤ length b → length (lines b) ≡ 1200
+whole b h = length-take-le 1200 (drop 124 b) (simp length-drop (omega (arith, h)))
+
 -- the number told of the call's own areas, and that they are long enough where it is 0
 told : (c : tie.After-too-short) → c .too-short .result ≡ too-short (headers (c .before .before .before .before .before .before .before .before .before .before .before .before .before)) (bytes (c .before .before .before .before .before .before .before .before .before .before .before .before .before)) (length (c .before .before .before .before .before .before .before .before .before .before .before .before .before .args .place .now)) 2
 told c = let s = c .before .before .before .before .before .before .before .before .before .before .before .before .before in c .too-short .ensures ∙ (λ i. too-short (c .before .before .shortest .ensures i) (c .before .shortest2 .ensures i) (length (s .args .place .now)) 2)
 
 fits : (c : tie.Else1) → Fit (headers (c .before .before .before .before .before .before .before .before .before .before .before .before .before .before)) (bytes (c .before .before .before .before .before .before .before .before .before .before .before .before .before .before)) (length (c .before .before .before .before .before .before .before .before .before .before .before .before .before .before .args .place .now)) 2
 fits c = fit (headers (c .before .before .before .before .before .before .before .before .before .before .before .before .before .before)) (bytes (c .before .before .before .before .before .before .before .before .before .before .before .before .before .before)) (length (c .before .before .before .before .before .before .before .before .before .before .before .before .before .before .args .place .now)) 2 (told (c .before)) (omega (arith, c .if1 .left))
+
+-- the texts reach to the end of the description
+long : (c : tie.Else1) → let s = c .before .before .before .before .before .before .before .before .before .before .before .before .before .before in (1324 ≤ length (s .args .atexts .now)) × (1324 ≤ length (s .args .btexts .now)) × (1324 ≤ length (s .args .texts .now))
+long c = let s = c .before .before .before .before .before .before .before .before .before .before .before .before .before .before in all-long 1324 (length (s .args .atexts .now)) (length (s .args .btexts .now)) (length (s .args .texts .now)) (fits c .texts)
 
 shortest-requires : tie.Need-shortest-requires
 shortest-requires c κs = search needs
@@ -46,27 +60,54 @@ returns : tie.Need-returns
 returns c = let s = c .before .before .before .before .before .before .before .before .before .before .before .before .before .before in join-short (s .args .aheader .now) (s .args .atexts .now) (early s) (s .args .bheader .now) (s .args .btexts .now) (late s) (out s) (s .args .header .now) (s .args .texts .now) (s .args .place .now) (told (c .before)) (omega (arith, c .if1 .taken))
 
 header-in-requires : tie.Need-header-in-requires
-header-in-requires c κs = let s = c .before .before .before .before .before .before .before .before .before .before .before .before .before .before in all-long 44 (length (s .args .aheader .now)) (length (s .args .bheader .now)) (length (s .args .header .now)) (fits c .header) .0
+header-in-requires c κs = let s = c .before .before .before .before .before .before .before .before .before .before .before .before .before .before in all-long 45 (length (s .args .aheader .now)) (length (s .args .bheader .now)) (length (s .args .header .now)) (fits c .header) .0
 
 texts-in-requires : tie.Need-texts-in-requires
-texts-in-requires c κs = let s = c .before .before .before .before .before .before .before .before .before .before .before .before .before .before .before in all-long 124 (length (s .args .atexts .now)) (length (s .args .btexts .now)) (length (s .args .texts .now)) (fits (c .before) .texts) .0
+texts-in-requires c κs = let s = c .before .before .before .before .before .before .before .before .before .before .before .before .before .before .before in all-long 1324 (length (s .args .atexts .now)) (length (s .args .btexts .now)) (length (s .args .texts .now)) (fits (c .before) .texts) .0
 
 header-in-requires-2 : tie.Need-header-in-requires-2
-header-in-requires-2 c κs = let s = c .before .before .before .before .before .before .before .before .before .before .before .before .before .before .before .before in all-long 44 (length (s .args .aheader .now)) (length (s .args .bheader .now)) (length (s .args .header .now)) (fits (c .before .before) .header) .1
+header-in-requires-2 c κs = let s = c .before .before .before .before .before .before .before .before .before .before .before .before .before .before .before .before in all-long 45 (length (s .args .aheader .now)) (length (s .args .bheader .now)) (length (s .args .header .now)) (fits (c .before .before) .header) .1
 
 texts-in-requires-2 : tie.Need-texts-in-requires-2
-texts-in-requires-2 c κs = let s = c .before .before .before .before .before .before .before .before .before .before .before .before .before .before .before .before .before in all-long 124 (length (s .args .atexts .now)) (length (s .args .btexts .now)) (length (s .args .texts .now)) (fits (c .before .before .before) .texts) .1
+texts-in-requires-2 c κs = let s = c .before .before .before .before .before .before .before .before .before .before .before .before .before .before .before .before .before in all-long 1324 (length (s .args .atexts .now)) (length (s .args .btexts .now)) (length (s .args .texts .now)) (fits (c .before .before .before) .texts) .1
+
+sub-join : tie.Need-sub-join
+sub-join c = search needs
+
+part-join-start : tie.Need-part-join-start
+part-join-start c = omega (arith, long (c .before .before .before .before) .0)
+
+part-join-end : tie.Need-part-join-end
+part-join-end c = omega (arith, long (c .before .before .before .before) .0)
+
+sub-join-2 : tie.Need-sub-join-2
+sub-join-2 c = search needs
+
+part-join-start-2 : tie.Need-part-join-start-2
+part-join-start-2 c = omega (arith, long (c .before .before .before .before .before) .1)
+
+part-join-end-2 : tie.Need-part-join-end-2
+part-join-end-2 c = omega (arith, long (c .before .before .before .before .before) .1)
 
 join-requires : tie.Need-join-requires
 join-requires c κs = search needs
 
+sub-put-joined : tie.Need-sub-put-joined
+sub-put-joined c = search needs
+
+part-put-joined-start : tie.Need-part-put-joined-start
+part-put-joined-start c = omega (arith, long (c .before .before .before .before .before .before .before .before .before .before .before .before .before .before .before .before .before .before .before .before .before) .1)
+
+part-put-joined-end : tie.Need-part-put-joined-end
+part-put-joined-end c = omega (arith, long (c .before .before .before .before .before .before .before .before .before .before .before .before .before .before .before .before .before .before .before .before .before) .1)
+
 put-joined-requires : tie.Need-put-joined-requires
 put-joined-requires c κs =
-    let s = c .before .before .before .before .before .before .before .before .before .before .before .before .before .before .before .before .before .before .before .before .before .before .before .before .before .before .before .before .before .before .before .before .before .before .before .before in
-    let r = c .before .before .before .before .before .before .before .before .before .before .before .join in
-    let f = fits (c .before .before .before .before .before .before .before .before .before .before .before .before .before .before .before .before .before .before .before .before .before .before) in
-    let z = small-epochs (lent-of (c .before .before .before .before .before .before .before .before .before .before .before .before .before .before .before .before .before .before .before .before .before .header-in .result) (c .before .before .before .before .before .before .before .before .before .before .before .before .before .before .before .before .before .before .before .before .texts-in .result) (early s)) (lent-of (c .before .before .before .before .before .before .before .before .before .before .before .before .before .before .before .before .before .before .before .header-in2 .result) (c .before .before .before .before .before .before .before .before .before .before .before .before .before .before .before .before .before .before .texts-in2 .result) (late s)) (out s) (r .result) (c .before .before .before .before .before .before .before .before .before .before .before .before .before .before .before .before .before .before .texts-in2 .result) (six (r .last .1 .1 .1 .1 .1 .1 .1 .1 .1 .1 .1 .1 .1 .1 .1 .1 .0) (r .last .1 .1 .1 .1 .1 .1 .1 .1 .1 .1 .1 .1 .1 .1 .1 .1 .1 .0) (r .last .1 .1 .1 .1 .1 .1 .1 .1 .1 .1 .1 .1 .1 .1 .1 .1 .1 .1 .0) (r .last .1 .1 .1 .1 .1 .1 .1 .1 .1 .1 .1 .1 .1 .1 .1 .1 .1 .1 .1 .0) (r .last .1 .1 .1 .1 .1 .1 .1 .1 .1 .1 .1 .1 .1 .1 .1 .1 .1 .1 .1 .1 .0) (r .last .1 .1 .1 .1 .1 .1 .1 .1 .1 .1 .1 .1 .1 .1 .1 .1 .1 .1 .1 .1 .1 .0)) (r .ensures) in
-    (all-long 44 (length (s .args .aheader .now)) (length (s .args .bheader .now)) (length (s .args .header .now)) (f .header) .2, (all-long 124 (length (s .args .atexts .now)) (length (s .args .btexts .now)) (length (s .args .texts .now)) (f .texts) .2, (f .result, z)))
+    let s = c .before .before .before .before .before .before .before .before .before .before .before .before .before .before .before .before .before .before .before .before .before .before .before .before .before .before .before .before .before .before .before .before .before .before .before .before .before .before .before in
+    let r = c .before .before .before .before .before .before .before .before .before .before .before .before .join in
+    let f = fits (c .before .before .before .before .before .before .before .before .before .before .before .before .before .before .before .before .before .before .before .before .before .before .before .before .before) in
+    let z = small-epochs (lent-of (c .before .before .before .before .before .before .before .before .before .before .before .before .before .before .before .before .before .before .before .before .before .before .before .before .header-in .result) (full (c .before .before .before .before .before .before .before .before .before .before .before .before .before .before .before .before .before .before .before .before .before .before .before .texts-in .result) (lines (s .args .atexts .now))) (early s)) (lent-of (c .before .before .before .before .before .before .before .before .before .before .before .before .before .before .before .before .before .before .before .before .before .before .header-in2 .result) (full (c .before .before .before .before .before .before .before .before .before .before .before .before .before .before .before .before .before .before .before .before .before .texts-in2 .result) (lines (s .args .btexts .now))) (late s)) (out s) (r .result) (full (c .before .before .before .before .before .before .before .before .before .before .before .before .before .before .before .before .before .before .before .before .before .texts-in2 .result) (lines (s .args .btexts .now))) (six (r .last .1 .1 .1 .1 .1 .1 .1 .1 .1 .1 .1 .1 .1 .1 .1 .1 .1 .1 .0) (r .last .1 .1 .1 .1 .1 .1 .1 .1 .1 .1 .1 .1 .1 .1 .1 .1 .1 .1 .1 .0) (r .last .1 .1 .1 .1 .1 .1 .1 .1 .1 .1 .1 .1 .1 .1 .1 .1 .1 .1 .1 .1 .0) (r .last .1 .1 .1 .1 .1 .1 .1 .1 .1 .1 .1 .1 .1 .1 .1 .1 .1 .1 .1 .1 .1 .0) (r .last .1 .1 .1 .1 .1 .1 .1 .1 .1 .1 .1 .1 .1 .1 .1 .1 .1 .1 .1 .1 .1 .1 .0) (r .last .1 .1 .1 .1 .1 .1 .1 .1 .1 .1 .1 .1 .1 .1 .1 .1 .1 .1 .1 .1 .1 .1 .1 .0)) (r .ensures) in
+    (all-long 45 (length (s .args .aheader .now)) (length (s .args .bheader .now)) (length (s .args .header .now)) (f .header) .2, (all-long 1324 (length (s .args .atexts .now)) (length (s .args .btexts .now)) (length (s .args .texts .now)) (f .texts) .2, (f .result, (whole (s .args .btexts .now) (all-long 1324 (length (s .args .atexts .now)) (length (s .args .btexts .now)) (length (s .args .texts .now)) (f .texts) .1), z))))
 
 same-length : tie.Need-same-length
 same-length c = search needs
@@ -97,13 +138,13 @@ same-length-9 c = search needs
 
 returns-2 : tie.Need-returns-2
 returns-2 c =
-    let s = c .before .before .before .before .before .before .before .before .before .before .before .before .before .before .before .before .before .before .before .before .before .before .before .before .before .before .before .before .before .before .before .before .before .before .before .before .before .before .before .before .before .before in
-    let r = c .before .before .before .before .before .before .before .before .before .before .before .before .before .before .before .before .before .join in
+    let s = c .before .before .before .before .before .before .before .before .before .before .before .before .before .before .before .before .before .before .before .before .before .before .before .before .before .before .before .before .before .before .before .before .before .before .before .before .before .before .before .before .before .before .before .before .before in
+    let r = c .before .before .before .before .before .before .before .before .before .before .before .before .before .before .before .before .before .before .join in
     let w = c .before .before .before .before .before .put-joined .ensures in
-    let y = c .before .before .before .before .before .before .before .before .before .before .before .before .before .before .before .before .before .before .before .before .before .before .before .before .texts-in2 .ensures in
-    let e = rw (c .before .before .before .before .before .before .before .before .before .before .before .before .before .before .before .before .before .before .before .before .before .before .before .before .before .before .before .header-in .ensures, c .before .before .before .before .before .before .before .before .before .before .before .before .before .before .before .before .before .before .before .before .before .before .before .before .before .before .texts-in .ensures, c .before .before .before .before .before .before .before .before .before .before .before .before .before .before .before .before .before .before .before .before .before .before .before .before .before .header-in2 .ensures, y) at (r .ensures) in
-    let n = none (headers s) (bytes s) (length (s .args .place .now)) 2 (told (c .before .before .before .before .before .before .before .before .before .before .before .before .before .before .before .before .before .before .before .before .before .before .before .before .before .before .before .before .before)) (omega (arith, c .before .before .before .before .before .before .before .before .before .before .before .before .before .before .before .before .before .before .before .before .before .before .before .before .before .before .before .before .if1 .left)) in
-    join-answer (s .args .aheader .now) (s .args .atexts .now) (early s) (s .args .bheader .now) (s .args .btexts .now) (late s) (out s) (s .args .header .now) (s .args .texts .now) (s .args .place .now) n (r .result) (six (r .last .1 .1 .1 .1 .1 .1 .1 .1 .1 .1 .1 .1 .1 .1 .1 .1 .0) (r .last .1 .1 .1 .1 .1 .1 .1 .1 .1 .1 .1 .1 .1 .1 .1 .1 .1 .0) (r .last .1 .1 .1 .1 .1 .1 .1 .1 .1 .1 .1 .1 .1 .1 .1 .1 .1 .1 .0) (r .last .1 .1 .1 .1 .1 .1 .1 .1 .1 .1 .1 .1 .1 .1 .1 .1 .1 .1 .1 .0) (r .last .1 .1 .1 .1 .1 .1 .1 .1 .1 .1 .1 .1 .1 .1 .1 .1 .1 .1 .1 .1 .0) (r .last .1 .1 .1 .1 .1 .1 .1 .1 .1 .1 .1 .1 .1 .1 .1 .1 .1 .1 .1 .1 .1 .0)) e (w .0) (w .1 .0) (rw y at (w .1 .1 .0)) (w .1 .1 .1)
+    let y = c .before .before .before .before .before .before .before .before .before .before .before .before .before .before .before .before .before .before .before .before .before .before .before .before .before .before .before .texts-in2 .ensures in
+    let e = rw (c .before .before .before .before .before .before .before .before .before .before .before .before .before .before .before .before .before .before .before .before .before .before .before .before .before .before .before .before .before .before .header-in .ensures, c .before .before .before .before .before .before .before .before .before .before .before .before .before .before .before .before .before .before .before .before .before .before .before .before .before .before .before .before .before .texts-in .ensures, c .before .before .before .before .before .before .before .before .before .before .before .before .before .before .before .before .before .before .before .before .before .before .before .before .before .before .before .before .header-in2 .ensures, y) at (r .ensures) in
+    let n = none (headers s) (bytes s) (length (s .args .place .now)) 2 (told (c .before .before .before .before .before .before .before .before .before .before .before .before .before .before .before .before .before .before .before .before .before .before .before .before .before .before .before .before .before .before .before .before)) (omega (arith, c .before .before .before .before .before .before .before .before .before .before .before .before .before .before .before .before .before .before .before .before .before .before .before .before .before .before .before .before .before .before .before .if1 .left)) in
+    join-answer (s .args .aheader .now) (s .args .atexts .now) (early s) (s .args .bheader .now) (s .args .btexts .now) (late s) (out s) (s .args .header .now) (s .args .texts .now) (s .args .place .now) n (r .result) (six (r .last .1 .1 .1 .1 .1 .1 .1 .1 .1 .1 .1 .1 .1 .1 .1 .1 .1 .1 .0) (r .last .1 .1 .1 .1 .1 .1 .1 .1 .1 .1 .1 .1 .1 .1 .1 .1 .1 .1 .1 .0) (r .last .1 .1 .1 .1 .1 .1 .1 .1 .1 .1 .1 .1 .1 .1 .1 .1 .1 .1 .1 .1 .0) (r .last .1 .1 .1 .1 .1 .1 .1 .1 .1 .1 .1 .1 .1 .1 .1 .1 .1 .1 .1 .1 .1 .0) (r .last .1 .1 .1 .1 .1 .1 .1 .1 .1 .1 .1 .1 .1 .1 .1 .1 .1 .1 .1 .1 .1 .1 .0) (r .last .1 .1 .1 .1 .1 .1 .1 .1 .1 .1 .1 .1 .1 .1 .1 .1 .1 .1 .1 .1 .1 .1 .1 .0)) e (w .0) (w .1 .0) (rw y at (w .1 .1 .0)) (w .1 .1 .1)
 
 pub ionex-join-spec : {M : Type 1} → statement M
 ionex-join-spec =
@@ -117,7 +158,16 @@ ionex-join-spec =
     texts-in-requires
     header-in-requires-2
     texts-in-requires-2
+    sub-join
+    part-join-start
+    part-join-end
+    sub-join-2
+    part-join-start-2
+    part-join-end-2
     join-requires
+    sub-put-joined
+    part-put-joined-start
+    part-put-joined-end
     put-joined-requires
     same-length
     same-length-2

@@ -30,11 +30,11 @@ module _ (d : tie.Else1) where
 -- what was added, of the caller's numbers
 module _ (a : tie.After-add) where
   abbrev from : tie.Else1
-  from = a .before .before .before .before .before .before
+  from = a .before .before .before .before .before .before .before
 
-  added : comes (a .add .result) (a .add .last .1 .1 .1 .1 .1 .1 .1 .1 .1 .0) ≡ outcome (week-at (now (s from .args .week))) (set-of (now (s from .args .header)) (now (s from .args .texts)) (lent (s from)) (now (s from .args .rows)))
+  added : comes (a .add .result) (a .add .last .1 .1 .1 .1 .1 .1 .1 .1 .1 .1 .0) ≡ outcome (week-at (now (s from .args .week))) (set-of (now (s from .args .header)) (now (s from .args .texts)) (lent (s from)) (now (s from .args .rows)))
   added =
-      rw (a .before .before .before .before .week-in .ensures, a .before .before .before .header-in .ensures, a .before .before .texts-in .ensures) at (a .add .ensures)
+      rw (a .before .before .before .before .before .week-in .ensures, a .before .before .before .before .header-in .ensures, a .before .before .before .texts-in .ensures) at (a .add .ensures)
 
 too-short-requires : tie.Need-too-short-requires
 too-short-requires c κs = search needs
@@ -52,6 +52,15 @@ header-in-requires c κs = long (c .before .before) .header
 
 texts-in-requires : tie.Need-texts-in-requires
 texts-in-requires c κs = long (c .before .before .before) .texts
+
+sub-add : tie.Need-sub-add
+sub-add c = search needs
+
+part-add-start : tie.Need-part-add-start
+part-add-start c = omega (arith, long (c .before .before .before .before) .texts)
+
+part-add-end : tie.Need-part-add-end
+part-add-end c = omega (arith, long (c .before .before .before .before) .texts)
 
 add-requires : tie.Need-add-requires
 add-requires c κs = search needs
@@ -89,6 +98,9 @@ ionex-week-add-spec =
     week-in-requires
     header-in-requires
     texts-in-requires
+    sub-add
+    part-add-start
+    part-add-end
     add-requires
     put-added-requires
     same-length
