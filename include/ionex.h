@@ -91,7 +91,8 @@ enum ionex_answer {
      * and then nothing is written. So is a program that was built with a header file of before IONEX_DESCRIPTIONS. */
     IONEX_SHORT_HEADER = 101, /* fewer than IONEX_HEADER numbers of header */
     IONEX_SHORT_TEXTS = 102,  /* fewer than IONEX_TEXTS bytes of texts */
-    IONEX_SHORT_RESULT = 103  /* no room for place, needs, count, value, bounds, record, moved, counts or week */
+    IONEX_SHORT_RESULT = 103  /* no room for place, needs, count, value, explained, lacking, bounds, record, moved,
+                               * counts or week */
 };
 
 /*
@@ -287,6 +288,74 @@ uint64_t ionex_ask(const int64_t *header, size_t header_len, /* IONEX_HEADER num
                    uint64_t kind, uint64_t method, uint64_t layer,
                    int32_t lat, int32_t lon, uint64_t second,
                    int32_t *value, size_t value_len); /* 1 number, else 103 */
+
+/* Places in what ionex_explain tells of an answer, IONEX_EXPLAINED numbers. */
+enum ionex_explained {
+    IONEX_NODES = 0,       /* how many nodes the answer is made of, 1 to 8 */
+    IONEX_DENOMINATOR = 1, /* what their weights add to */
+    IONEX_ANSWER = 2,      /* the value that ionex_ask answers */
+    IONEX_NODE = 3,        /* eight nodes, IONEX_NODE_SIZE numbers each; those that are not used hold 0 */
+    IONEX_EXPLAINED = 51   /* how many numbers there are */
+};
+
+/* Places in a node. */
+enum ionex_node {
+    IONEX_NODE_MAP = 0, /* counted from 1; layer, row and column from 0 */
+    IONEX_NODE_LAYER = 1,
+    IONEX_NODE_ROW = 2,
+    IONEX_NODE_COLUMN = 3,
+    IONEX_NODE_VALUE = 4,  /* thousandths of a TECU (TEC, RMS) or of a kilometre (height) */
+    IONEX_NODE_WEIGHT = 5, /* positive */
+    IONEX_NODE_SIZE = 6    /* how many numbers there are */
+};
+
+/* Where a number of the j-th node stands (j from 0), as explained[IONEX_NODE_AT(j, IONEX_NODE_VALUE)]. */
+#define IONEX_NODE_AT(j, number) (IONEX_NODE + IONEX_NODE_SIZE * (j) + (number))
+
+/* Places in what ionex_explain tells of a node that has no value, IONEX_LACKING numbers. */
+enum ionex_lacking {
+    IONEX_LACKING_MAP = 0, /* counted as in a node */
+    IONEX_LACKING_LAYER = 1,
+    IONEX_LACKING_ROW = 2,
+    IONEX_LACKING_COLUMN = 3,
+    IONEX_LACKING_CAUSE = 4, /* of enum ionex_cause */
+    IONEX_LACKING = 5        /* how many numbers there are */
+};
+
+/* Why a node has no value; of two causes the first of these. */
+enum ionex_cause {
+    IONEX_CAUSE_MAP = 1,      /* its map does not stand */
+    IONEX_CAUSE_EXPONENT = 2, /* its exponent is outside -3 to 0 */
+    IONEX_CAUSE_NUMBER = 3,   /* its number is outside -9999 to 99999 */
+    IONEX_CAUSE_ABSENT = 4    /* it holds IONEX_ABSENT */
+};
+
+/*
+ * Asks what ionex_ask asks, and tells where the answer came from: the nodes that it needs, each with its value and its
+ * weight, and the denominator that the weights add to. The answer is the sum of value times weight over the denominator,
+ * rounded once. The nodes come by map, row and column; each once, and none whose weight is zero.
+ *
+ * The denominator is |DLAT| times DLON, both in hundredths of a degree, DLON in 1/1200 of a degree for IONEX_SUN and
+ * IONEX_NEAREST_SUN; for IONEX_BETWEEN and IONEX_SUN, before the last epoch, also times the seconds between the two maps
+ * around the second. It is not reduced.
+ *
+ *   0                    number of nodes, denominator, answer and nodes stand in front of explained; lacking is as found.
+ *   22                   lacking tells of the first needed node without a value, by map, row and column, and its cause;
+ *                        explained is as found.
+ *   23, 31, 24, 20, 21   refused as ionex_ask refuses; both are as found.
+ */
+uint64_t ionex_explain(const int64_t *header, size_t header_len, /* IONEX_HEADER numbers, else 101 */
+                       const uint8_t *texts, size_t texts_len,   /* IONEX_TEXTS bytes, else 102 */
+                       const int32_t *tec, size_t tec_len,
+                       const int32_t *rms, size_t rms_len,
+                       const int32_t *height, size_t height_len,
+                       const int32_t *exponents, size_t exponents_len,
+                       const uint64_t *epochs, size_t epochs_len,
+                       const uint8_t *marks, size_t marks_len,
+                       uint64_t kind, uint64_t method, uint64_t layer,
+                       int32_t lat, int32_t lon, uint64_t second,
+                       int64_t *explained, size_t explained_len, /* IONEX_EXPLAINED numbers, else 103 */
+                       uint64_t *lacking, size_t lacking_len);   /* IONEX_LACKING numbers, else 103 */
 
 /* Places in the record of a delay, IONEX_RECORD numbers. */
 enum ionex_delay_record {

@@ -2,7 +2,7 @@
  * after another from standard input and answers each on standard output. src/bridge.rs is the other end.
  *
  * A call is a struct call, then its areas. What goes back is the function's answer, then the areas that were lent, as
- * the call left them. -D READ, NEEDS, WRITE, ASK, TECU_DELAY, DELAY, MOVED, JOIN, WEEK_ADD, INDEX, INDEXED_NODE,
+ * the call left them. -D READ, NEEDS, WRITE, ASK, EXPLAIN, TECU_DELAY, DELAY, MOVED, JOIN, WEEK_ADD, INDEX, INDEXED_NODE,
  * INDEXED_BLOCK or BIASES: the archive has this function. */
 #include "ionex.h"
 #include <stdio.h>
@@ -25,7 +25,8 @@ enum function {
     FUNCTION_INDEX,
     FUNCTION_INDEXED_NODE,
     FUNCTION_INDEXED_BLOCK,
-    FUNCTION_BIASES
+    FUNCTION_BIASES,
+    FUNCTION_EXPLAIN
 };
 
 struct area {
@@ -110,6 +111,10 @@ static uint64_t answer(const struct call *call, void *const *at)
 #ifdef BIASES
     case FUNCTION_BIASES:
         return ionex_biases(SIX);
+#endif
+#ifdef EXPLAIN
+    case FUNCTION_EXPLAIN:
+        return ionex_explain(EIGHT, N(0), N(1), N(2), (int32_t)N(3), (int32_t)N(4), N(5), AREA(8), AREA(9));
 #endif
     default:
         fprintf(stderr, "bridge: no function %d\n", (int)call->function);

@@ -6,10 +6,11 @@ use std::env;
 use std::path::{Path, PathBuf};
 use std::process::Command;
 
-const FUNCTIONS: [&str; 13] = [
+const FUNCTIONS: [&str; 14] = [
     "READ",
     "NEEDS",
     "ASK",
+    "EXPLAIN",
     "TECU_DELAY",
     "DELAY",
     "MOVED",

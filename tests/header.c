@@ -74,6 +74,11 @@ static void old_lengths(size_t length)
     must(out[0] == 7 && place[0] == 99 && place[1] == 99 && count[0] == 99 && value[0] == 99, "nor anywhere else");
 }
 
+static uint64_t explain(enum ionex_kind kind, int64_t *nodes, uint64_t *lacking)
+{
+    return ionex_explain(SET, kind, IONEX_BETWEEN, 0, -1000, 0, epochs[0], nodes, IONEX_EXPLAINED, lacking, IONEX_LACKING);
+}
+
 int main(int argc, char **argv)
 {
     if (argc != 3)
@@ -118,6 +123,22 @@ int main(int argc, char **argv)
     must(ask(IONEX_KIND_TEC) == IONEX_DONE && value[0] == 10, "TEC asked for");
     must(ask(IONEX_KIND_HEIGHT) == IONEX_DONE && value[0] == 50, "height asked for");
     must(ask(IONEX_KIND_RMS) == IONEX_NO_VALUE && value[0] == 50, "no RMS value");
+
+    int64_t nodes[IONEX_EXPLAINED] = {7};
+    uint64_t lacking[IONEX_LACKING] = {7};
+    must(explain(IONEX_KIND_TEC, nodes, lacking) == IONEX_DONE && lacking[0] == 7, "TEC explained");
+    must(nodes[IONEX_NODES] == 1 && nodes[IONEX_DENOMINATOR] == 1000000 && nodes[IONEX_ANSWER] == 10, "one node");
+    must(nodes[IONEX_NODE_AT(0, IONEX_NODE_MAP)] == 1 && nodes[IONEX_NODE_AT(0, IONEX_NODE_LAYER)] == 0, "map and layer");
+    must(nodes[IONEX_NODE_AT(0, IONEX_NODE_ROW)] == 0 && nodes[IONEX_NODE_AT(0, IONEX_NODE_COLUMN)] == 0, "row and column");
+    must(nodes[IONEX_NODE_AT(0, IONEX_NODE_VALUE)] == 10 && nodes[IONEX_NODE_AT(0, IONEX_NODE_WEIGHT)] == 1000000 &&
+         nodes[IONEX_NODE_AT(1, IONEX_NODE_MAP)] == 0, "value and weight, and no other node");
+    must(IONEX_NODE_AT(8, 0) == IONEX_EXPLAINED, "eight nodes");
+    must(explain(IONEX_KIND_RMS, nodes, lacking) == IONEX_NO_VALUE && nodes[IONEX_ANSWER] == 10, "no RMS explained");
+    must(lacking[IONEX_LACKING_MAP] == 1 && lacking[IONEX_LACKING_LAYER] == 0 && lacking[IONEX_LACKING_ROW] == 0 &&
+         lacking[IONEX_LACKING_COLUMN] == 0 && lacking[IONEX_LACKING_CAUSE] == IONEX_CAUSE_MAP, "because of its map");
+    must(ionex_explain(SET, IONEX_KIND_TEC, IONEX_NEAREST, 0, 0, 1000, epochs[0], AREA(nodes), AREA(lacking)) ==
+         IONEX_NO_VALUE && lacking[IONEX_LACKING_ROW] == 1 && lacking[IONEX_LACKING_COLUMN] == 1 &&
+         lacking[IONEX_LACKING_CAUSE] == IONEX_CAUSE_ABSENT, "because of 9999");
 
     must(tec[3] == IONEX_ABSENT && rms[0] == IONEX_ABSENT, "no value, and no map");
     int32_t node = tec[1];

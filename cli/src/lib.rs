@@ -5,7 +5,7 @@
 mod args;
 pub mod commands;
 mod crc;
-pub mod explain;
+pub mod diagnosis;
 mod files;
 mod form;
 mod index_file;
@@ -133,7 +133,7 @@ fn introduction() -> String {
 fn meant(name: &str) -> String {
     let near = COMMANDS
         .iter()
-        .map(|command| (explain::distance(command.name, name), command.name))
+        .map(|command| (diagnosis::distance(command.name, name), command.name))
         .min();
     match near {
         Some((slips, command)) if slips <= 2 && slips < command.len() => format!(" ({command}?)"),

@@ -13,11 +13,18 @@ use std::io::{self, BufRead, BufReader, IsTerminal, Read};
 
 /// The question of the options, or none where standard input has them.
 pub fn of(args: &Args, file: &OsStr) -> Result<Option<(Place, Epoch)>, Stop> {
-    match (args.word("--at"), args.word("--time")) {
-        (Some(at), Some(time)) => place_and_time(&at, &time).map(Some),
-        (None, None) if file == "-" => {
+    match given(args)? {
+        None if file == "-" => {
             usage("FILE is standard input, so the question needs --at and --time")
         }
+        asked => Ok(asked),
+    }
+}
+
+/// The question of the options, where there is one.
+pub fn given(args: &Args) -> Result<Option<(Place, Epoch)>, Stop> {
+    match (args.word("--at"), args.word("--time")) {
+        (Some(at), Some(time)) => place_and_time(&at, &time).map(Some),
         (None, None) => Ok(None),
         (Some(_), None) => usage("--at needs --time"),
         (None, Some(_)) => usage("--time needs --at"),

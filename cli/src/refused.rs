@@ -1,6 +1,6 @@
 //! A refused text: one line as compilers print it, the line of the text, and what was expected there.
 
-use crate::explain::{explain, show};
+use crate::diagnosis::{diagnose, show};
 use crate::json::{array, string, Object};
 use crate::output::Style;
 use crate::status::{Status, Stop};
@@ -9,17 +9,17 @@ use ionex::{MapSet, Refusal};
 /// For people, without the last line end.
 pub fn words(name: &str, text: &[u8], refusal: &Refusal, style: Style) -> String {
     let (number, line, column) = place(refusal);
-    let explanation = explain(text, number, line, column);
+    let diagnosis = diagnose(text, number, line, column);
     let place = style.bold(&format!("{name}:{line}:{column}:"));
     let refused = style.red(&format!("refused {number}:"));
-    let below = show(text, &explanation, style);
+    let below = show(text, &diagnosis, style);
     format!("{place} {refused} {}\n{below}", refusal.meaning())
 }
 
 /// For machines.
 pub fn json(name: &str, text: &[u8], refusal: &Refusal) -> Object {
     let (number, line, column) = place(refusal);
-    let explanation = explain(text, number, line, column);
+    let diagnosis = diagnose(text, number, line, column);
     Object::new()
         .text("file", name)
         .text("status", "refused")
@@ -27,10 +27,10 @@ pub fn json(name: &str, text: &[u8], refusal: &Refusal) -> Object {
         .raw("line", line)
         .raw("column", column)
         .text("reason", refusal.meaning())
-        .text("expected", &explanation.expected)
+        .text("expected", &diagnosis.expected)
         .raw(
             "hints",
-            array(explanation.hints.iter().map(|hint| string(hint))),
+            array(diagnosis.hints.iter().map(|hint| string(hint))),
         )
 }
 

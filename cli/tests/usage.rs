@@ -87,6 +87,14 @@ fn not_understood() {
             &["ask", "x", "--layer", "-1"],
             "ask: --layer -1: expected a whole number from 0 on; see ionex ask --help",
         ),
+        (&["why"], "why: no FILE is given; see ionex why --help"),
+        (&["why", "x", "y"], "why: more than one FILE is given; see ionex why --help"),
+        (&["why", "x"], "why: no --at and --time are given; see ionex why --help"),
+        (&["why", "x", "--at", "1,2"], "why: --at needs --time; see ionex why --help"),
+        (
+            &["why", "x", "--at", "1,2", "--time", "2010-12-04", "--method", "linear"],
+            "why: --method linear: expected one of between, nearest, sun, nearest-sun; see ionex why --help",
+        ),
         (
             &["delay", "x", "--at", "1,2", "--time", "2010-12-04"],
             "delay: no --carrier is given: L1, L2, L5 or hertz; see ionex delay --help",

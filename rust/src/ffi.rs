@@ -33,6 +33,15 @@ extern "C" {
         value: *mut i32, value_len: usize,
     ) -> u64;
 
+    fn ionex_explain(
+        header: *const i64, header_len: usize, texts: *const u8, texts_len: usize,
+        tec: *const i32, tec_len: usize, rms: *const i32, rms_len: usize, height: *const i32, height_len: usize,
+        exponents: *const i32, exponents_len: usize, epochs: *const u64, epochs_len: usize,
+        marks: *const u8, marks_len: usize,
+        kind: u64, method: u64, layer: u64, lat: i32, lon: i32, second: u64,
+        nodes: *mut i64, nodes_len: usize, lacking: *mut u64, lacking_len: usize,
+    ) -> u64;
+
     fn ionex_moved(epoch: u64, by: i64, moved: *mut u64, moved_len: usize) -> u64;
 }
 
@@ -124,6 +133,22 @@ pub fn ask(given: Given, asked: Asked, value: &mut [i32]) -> u64 {
             exponents.as_ptr(), exponents.len(), epochs.as_ptr(), epochs.len(), marks.as_ptr(), marks.len(),
             kind, method, layer, lat, lon, second,
             value.as_mut_ptr(), value.len(),
+        )
+    }
+}
+
+/// `ionex_explain`.
+#[rustfmt::skip]
+pub fn explain(given: Given, asked: Asked, nodes: &mut [i64], lacking: &mut [u64]) -> u64 {
+    let Given { header, texts, tec, rms, height, exponents, epochs, marks } = given;
+    let Asked { kind, method, layer, lat, lon, second } = asked;
+    unsafe {
+        ionex_explain(
+            header.as_ptr(), header.len(), texts.as_ptr(), texts.len(),
+            tec.as_ptr(), tec.len(), rms.as_ptr(), rms.len(), height.as_ptr(), height.len(),
+            exponents.as_ptr(), exponents.len(), epochs.as_ptr(), epochs.len(), marks.as_ptr(), marks.len(),
+            kind, method, layer, lat, lon, second,
+            nodes.as_mut_ptr(), nodes.len(), lacking.as_mut_ptr(), lacking.len(),
         )
     }
 }

@@ -24,6 +24,7 @@
 mod biases;
 mod delay;
 mod epoch;
+mod explanation;
 #[doc(hidden)]
 #[allow(unsafe_code, missing_debug_implementations)]
 pub mod ffi;
@@ -39,6 +40,7 @@ mod words;
 pub use biases::{Biases, MilliNs, Satellite, Station, System};
 pub use delay::{Carrier, Delay, Metres, Tecu};
 pub use epoch::{Date, Epoch};
+pub use explanation::{Cause, Explanation, Lacking, Node, Weighted};
 pub use header::{Axis, Code, Header, Version, DESCRIPTIONS, DESCRIPTION_COLUMNS, HEADER, TEXTS};
 pub use index::{Index, IndexAreas};
 pub use mapset::{Areas, MapSet, NO_VALUE};

@@ -1,5 +1,6 @@
 //! Why a call is refused: by number and place as the scope paper has them, and in words.
 
+use crate::explanation::Lacking;
 use std::fmt;
 
 /// The refusals by number, in a few words each.
@@ -62,6 +63,7 @@ enum Place {
     Output {
         needs: u64,
     },
+    Node(Lacking),
 }
 
 /// A call that was refused: nothing was changed by it.
@@ -126,6 +128,14 @@ impl Refusal {
         Refusal { number, place }
     }
 
+    /// A refusal 22 with the node that has no value.
+    pub(crate) fn of_lacking(lacking: Lacking) -> Refusal {
+        Refusal {
+            number: 22,
+            place: Place::Node(lacking),
+        }
+    }
+
     /// The number that the scope paper gives it.
     pub fn number(&self) -> u64 {
         self.number
@@ -163,6 +173,14 @@ impl Refusal {
         }
     }
 
+    /// The node that has no value (22), where it was looked for: by [`crate::MapSet::explain`] alone.
+    pub fn lacking(&self) -> Option<Lacking> {
+        match self.place {
+            Place::Node(lacking) => Some(lacking),
+            _ => None,
+        }
+    }
+
     /// What the number says, in a few words and without the place.
     pub fn meaning(&self) -> &'static str {
         Refusal::meaning_of(self.number).unwrap_or("a refusal that this crate does not know")
@@ -191,6 +209,7 @@ impl fmt::Display for Refusal {
                 write!(f, ", area {area} ({name}) needs {needs} elements")
             }
             Place::Output { needs } => write!(f, ", {needs} bytes are needed"),
+            Place::Node(lacking) => write!(f, ", {lacking}"),
         }
     }
 }

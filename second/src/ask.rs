@@ -31,9 +31,9 @@ pub enum Answer {
 
 /// A grid line or a map with its weight; only those that are needed.
 #[derive(Clone, Copy, Debug, PartialEq, Eq)]
-struct Part {
-    place: usize,
-    weight: Fraction,
+pub(crate) struct Part {
+    pub(crate) place: usize,
+    pub(crate) weight: Fraction,
 }
 
 /// `place` and `next` with weights 1 - p and p. "A node is needed when its weight
@@ -59,23 +59,74 @@ pub fn ask(
     areas: &View,
     question: &Question,
 ) -> Result<Answer, Refusal> {
-    let kind = match question.kind {
+    let aim = aim(header, texts, areas, question)?;
+    let mut sum = Fraction::ZERO;
+    for (map, columns) in &aim.maps {
+        let Some(value) = four_points(areas, &aim, map.place, columns) else {
+            return refuse(22);
+        };
+        sum = sum.plus(map.weight.times(value));
+    }
+    // "The exact fraction is rounded once."
+    Ok(aim.in_unit(sum.rounded()))
+}
+
+/// What a question looks at: the maps with the columns of each, the layer and the
+/// rows, each with its weight.
+pub(crate) struct Aim {
+    pub(crate) kind: Kind,
+    pub(crate) grid: Grid,
+    pub(crate) maps: Vec<(Part, Vec<Part>)>,
+    pub(crate) layer: usize,
+    pub(crate) rows: Vec<Part>,
+}
+
+impl Aim {
+    /// "the two units are kept apart throughout"
+    pub(crate) fn in_unit(&self, thousandths: i128) -> Answer {
+        let value = i64::try_from(thousandths).unwrap_or(i64::MAX);
+        match self.kind {
+            Kind::Tec | Kind::Rms => Answer::ThousandthsOfTecu(value),
+            Kind::Height => Answer::ThousandthsOfKilometre(value),
+        }
+    }
+}
+
+/// The refusals 23, 31 and 24, which the place and the second have no part in.
+pub(crate) fn served(
+    header: &Header,
+    texts: &Texts,
+    areas: &View,
+    kind: i64,
+    method: i64,
+) -> Result<(Kind, Grid), Refusal> {
+    let kind = match kind {
         0 => Kind::Tec,
         1 => Kind::Rms,
         2 => Kind::Height,
         _ => return refuse(23),
     };
-    if !(0..4).contains(&question.method) {
+    if !(0..4).contains(&method) {
         return refuse(23);
     }
     let Some(grid) = maps::frame(header, texts, areas) else {
         return refuse(31);
     };
-    let epochs = &areas.epochs[..grid.maps];
-    let turned = question.method >= 2;
-    if turned && !can_turn(&header.longitudes, epochs) {
+    if method >= 2 && !can_turn(&header.longitudes, &areas.epochs[..grid.maps]) {
         return refuse(24);
     }
+    Ok((kind, grid))
+}
+
+/// Every refusal but 22.
+pub(crate) fn aim(
+    header: &Header,
+    texts: &Texts,
+    areas: &View,
+    question: &Question,
+) -> Result<Aim, Refusal> {
+    let (kind, grid) = served(header, texts, areas, question.kind, question.method)?;
+    let epochs = &areas.epochs[..grid.maps];
     if question.second < epochs[0] || question.second > epochs[grid.maps - 1] {
         return refuse(20);
     }
@@ -90,31 +141,26 @@ pub fn ask(
     let (Some(layer), Some(rows)) = place else {
         return refuse(21);
     };
-    let mut sum = Fraction::ZERO;
-    for map in maps {
-        let at = if turned {
-            moved(question, epochs[map.place])
-        } else {
-            degrees(question.longitude)
+    let columns = |map: Part| {
+        let at = match question.method {
+            0 | 1 => degrees(question.longitude),
+            _ => moved(question, epochs[map.place]),
         };
-        // Where it is outside for one map, it is so for the first, before any 22.
-        let Some(columns) = longitude(&header.longitudes, at) else {
-            return refuse(21);
-        };
-        let Some(value) = four_points(&grid, areas, kind, map.place, layer, &rows, &columns) else {
-            return refuse(22);
-        };
-        sum = sum.plus(map.weight.times(value));
-    }
-    // "The exact fraction is rounded once."
-    let value = i64::try_from(sum.rounded()).unwrap_or(i64::MAX);
-    Ok(match kind {
-        Kind::Tec | Kind::Rms => Answer::ThousandthsOfTecu(value),
-        Kind::Height => Answer::ThousandthsOfKilometre(value),
+        longitude(&header.longitudes, at).map(|columns| (map, columns))
+    };
+    let Some(maps) = maps.into_iter().map(columns).collect() else {
+        return refuse(21);
+    };
+    Ok(Aim {
+        kind,
+        grid,
+        maps,
+        layer,
+        rows,
     })
 }
 
-fn refuse(number: u8) -> Result<Answer, Refusal> {
+fn refuse<T>(number: u8) -> Result<T, Refusal> {
     Err(Refusal::Bare { number })
 }
 
@@ -207,27 +253,31 @@ fn between_epochs(epochs: &[u64], second: u64) -> Vec<Part> {
 
 /// 001's four-point formula in one map, or nothing where a needed node has no
 /// value.
-fn four_points(
-    grid: &Grid,
-    areas: &View,
-    kind: Kind,
-    map: usize,
-    layer: usize,
-    rows: &[Part],
-    columns: &[Part],
-) -> Option<Fraction> {
+fn four_points(areas: &View, aim: &Aim, map: usize, columns: &[Part]) -> Option<Fraction> {
+    let Aim { kind, grid, .. } = aim;
     let mut sum = Fraction::ZERO;
-    for row in rows {
-        let block = layer * grid.rows + row.place;
+    for row in &aim.rows {
+        let block = aim.layer * grid.rows + row.place;
         for column in columns {
-            let node = Fraction::from(node(grid, areas, kind, map, block, column.place)?);
-            sum = sum.plus(row.weight.times(column.weight).times(node));
+            let node = node(grid, areas, *kind, map, block, column.place).ok()?;
+            let weight = row.weight.times(column.weight);
+            sum = sum.plus(weight.times(Fraction::from(node)));
         }
     }
     Some(sum)
 }
 
-/// A node in thousandths, or nothing "when its number is 9999 or outside -9999 to
+/// Why a node has no value. 02, Ask 10: "of two causes, the absent map first, then
+/// the exponent, then the number".
+#[derive(Clone, Copy, Debug, PartialEq, Eq, PartialOrd, Ord)]
+pub enum Cause {
+    MapAbsent,
+    ExponentOutOfRange,
+    NumberOutOfRange,
+    NoValue,
+}
+
+/// A node in thousandths, or no value "when its number is 9999 or outside -9999 to
 /// 99999, its exponent is outside -3 to 0, or its map is marked absent".
 pub fn node(
     grid: &Grid,
@@ -236,17 +286,23 @@ pub fn node(
     map: usize,
     block: usize,
     column: usize,
-) -> Option<i64> {
+) -> Result<i64, Cause> {
     if !maps::is_present(kind, areas.marks[map]) {
-        return None;
+        return Err(Cause::MapAbsent);
+    }
+    let exponent = i64::from(areas.exponents[grid.exponent_place(kind, map, block)]);
+    if !exponent_fits(exponent) {
+        return Err(Cause::ExponentOutOfRange);
     }
     let value = areas.values(kind)[grid.value_place(map, block) + column];
-    let exponent = i64::from(areas.exponents[grid.exponent_place(kind, map, block)]);
-    if value == NO_VALUE || !maps::value_fits(value) || !exponent_fits(exponent) {
-        return None;
+    if !maps::value_fits(value) {
+        return Err(Cause::NumberOutOfRange);
+    }
+    if value == NO_VALUE {
+        return Err(Cause::NoValue);
     }
     // "A value v under exponent k is v·10^(k+3) thousandths."
-    Some(i64::from(value) * 10_i64.pow((exponent + 3) as u32))
+    Ok(i64::from(value) * 10_i64.pow((exponent + 3) as u32))
 }
 
 #[cfg(test)]

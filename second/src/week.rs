@@ -137,7 +137,7 @@ fn nodes(grid: &Grid, areas: &View, kind: Kind, map: usize) -> Vec<Option<i64>> 
     let mut nodes = Vec::with_capacity(grid.values());
     for block in 0..grid.blocks() {
         for column in 0..grid.columns {
-            nodes.push(ask::node(grid, areas, kind, map, block, column));
+            nodes.push(ask::node(grid, areas, kind, map, block, column).ok());
         }
     }
     nodes

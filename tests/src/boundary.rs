@@ -179,7 +179,7 @@ pub fn asked(question: &Question) -> Asked {
 pub struct Plain;
 
 /// 101 to 103, told before anything else is looked at.
-fn own_areas(header: usize, texts: usize, result: usize, needed: usize) -> Result<(), u64> {
+pub fn own_areas(header: usize, texts: usize, result: usize, needed: usize) -> Result<(), u64> {
     let short = [
         (header < HEADER, 101),
         (texts < TEXTS, 102),
@@ -325,7 +325,7 @@ fn write(given: &Given, out: &mut [u8], count: &mut [u64]) -> Result<(), u64> {
     }
 }
 
-fn question(asked: &Asked) -> Question {
+pub fn question(asked: &Asked) -> Question {
     Question {
         kind: i64::try_from(asked.kind).unwrap_or(-1),
         method: i64::try_from(asked.method).unwrap_or(-1),

@@ -3,6 +3,7 @@
 
 use crate::biases::{self, Biases};
 use crate::boundary::{Asked, Boundary, Given, Lent, Plain};
+use crate::explains::Explains;
 use crate::indexes::{Indexes, Kept};
 use crate::program;
 use crate::weeks::Weeks;
@@ -26,6 +27,7 @@ const INDEX: u64 = 9;
 const INDEXED_NODE: u64 = 10;
 const INDEXED_BLOCK: u64 = 11;
 const BIASES: u64 = 12;
+const EXPLAIN: u64 = 13;
 const NUMBERS: usize = 7;
 const AREAS: usize = 25;
 
@@ -117,6 +119,19 @@ impl Boundary for Archive {
         }
         let mut call = Call::new(MOVED, &[epoch, by as u64]);
         call.lend(moved);
+        call.answer()
+    }
+}
+
+impl Explains for Archive {
+    fn explain(&self, given: &Given, asked: &Asked, nodes: &mut [i64], lacking: &mut [u64]) -> u64 {
+        if !cfg!(feature = "explain") {
+            return Plain.explain(given, asked, nodes, lacking);
+        }
+        let mut call = Call::new(EXPLAIN, &numbers_of(asked));
+        call.give_set(given);
+        call.lend(nodes);
+        call.lend(lacking);
         call.answer()
     }
 }

@@ -3,6 +3,7 @@
 
 use crate::biases::{self, Biases};
 use crate::boundary::{Asked, Boundary, Given, Lent};
+use crate::explains::Explains;
 use crate::indexes::{Indexes, Kept};
 use crate::weeks::Weeks;
 use second::index::Node;
@@ -191,6 +192,16 @@ impl Boundary for Archive {
             "moved",
             ionex::ffi::moved(epoch, by, moved),
             crate::boundary::Plain.moved(epoch, by, moved)
+        )
+    }
+}
+
+impl Explains for Archive {
+    fn explain(&self, given: &Given, asked: &Asked, nodes: &mut [i64], lacking: &mut [u64]) -> u64 {
+        linked!(
+            "explain",
+            ionex::ffi::explain(parts::set(given), parts::question(asked), nodes, lacking),
+            crate::boundary::Plain.explain(given, asked, nodes, lacking)
         )
     }
 }

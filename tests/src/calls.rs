@@ -262,7 +262,7 @@ fn other_flags(rng: &mut Rng, header: &mut [i64]) {
     }
 }
 
-fn asked(rng: &mut Rng, question: &Question) -> Asked {
+pub fn asked(rng: &mut Rng, question: &Question) -> Asked {
     let mut asked = boundary::asked(question);
     if rng.once_in(8) {
         widen_asked(rng, &mut asked);

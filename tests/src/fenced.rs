@@ -4,6 +4,7 @@
 use crate::biases::{self, Biases};
 use crate::boundary::{Asked, Boundary, Given, Lent};
 use crate::c::parts;
+use crate::explains::Explains;
 use crate::indexes::{Indexes, Kept};
 use crate::pages::{Number, Room, Side};
 use crate::weeks::Weeks;
@@ -304,6 +305,24 @@ impl Boundary for Fenced {
             "moved",
             self.call(|desk| desk.area(moved, |moved| ffi::moved(epoch, by, moved))),
             crate::boundary::Plain.moved(epoch, by, moved)
+        )
+    }
+}
+
+impl Explains for Fenced {
+    fn explain(&self, given: &Given, asked: &Asked, nodes: &mut [i64], lacking: &mut [u64]) -> u64 {
+        linked!(
+            "explain",
+            self.call(|desk| {
+                let laid = desk.set(given);
+                let question = parts::question(asked);
+                let named = desk.lay(lacking);
+                let answer = desk.area(nodes, |nodes| ffi::explain(laid, question, nodes, named));
+                lacking.copy_from_slice(named);
+                kept_set(&laid, given);
+                answer
+            }),
+            crate::boundary::Plain.explain(given, asked, nodes, lacking)
         )
     }
 }

@@ -6,6 +6,7 @@ use crate::archive::FUNCTIONS;
 use crate::biases::{self, Biases};
 use crate::boundary::{self, Asked, Boundary, Given, Lent, Plain, HEADER, NEEDS, RECORD, TEXTS};
 use crate::check::{Tally, SHOWN};
+use crate::explains::{Explains, EXPLAINED, LACKING};
 use crate::fenced::{Fenced, Touch};
 use crate::gen;
 use crate::indexes::{self, Indexes, Kept};
@@ -23,9 +24,9 @@ use std::os::unix::process::ExitStatusExt;
 use std::process::{Command, ExitStatus, Stdio};
 
 /// All functions of the library.
-pub trait All: Boundary + Weeks + Indexes + Biases {}
+pub trait All: Boundary + Explains + Weeks + Indexes + Biases {}
 
-impl<L: Boundary + Weeks + Indexes + Biases> All for L {}
+impl<L: Boundary + Explains + Weeks + Indexes + Biases> All for L {}
 
 /// The first has all kinds of maps, CR LF and an aux block, the second code biases.
 const FILES: [&str; 2] = ["accepted-2d-freedoms", "accepted-version-1"];
@@ -122,7 +123,7 @@ fn bias_room(text: &[u8]) -> biases::Lent {
 type Export = fn(&dyn All, &Sample) -> u64;
 
 /// A good call of each export.
-const EXPORTS: [(&str, Export); 13] = [
+const EXPORTS: [(&str, Export); 14] = [
     ("ionex_read", |library, sample| {
         library.read(&sample.text, &mut sample.lent.clone())
     }),
@@ -131,6 +132,10 @@ const EXPORTS: [(&str, Export); 13] = [
     }),
     ("ionex_ask", |library, sample| {
         library.ask(&sample.given, &sample.asked, &mut [0])
+    }),
+    ("ionex_explain", |library, sample| {
+        let (given, asked) = (&sample.given, &sample.asked);
+        library.explain(given, asked, &mut [0; EXPLAINED], &mut [0; LACKING])
     }),
     ("ionex_tecu_delay", |library, _| {
         library.tecu_delay(1000, 1.5e9, &mut [0.0; RECORD])
@@ -325,6 +330,11 @@ impl Guards {
                 let mut value = [7];
                 (library.ask(given, &asked, &mut value), value)
             });
+            self.same("explain", |library| {
+                let (mut nodes, mut lacking) = ([7; EXPLAINED], [7; LACKING]);
+                let answer = library.explain(given, &asked, &mut nodes, &mut lacking);
+                (answer, nodes, lacking)
+            });
         }
         self.same("delay", |library| {
             let mut record = [7.0; RECORD];
@@ -409,6 +419,27 @@ impl Guards {
                 let answer = library.week_add(&mut week, &sample.given, &mut rows, &mut [7; 2]);
                 (answer, week, rows)
             });
+        }
+        for length in 0..=EXPLAINED + 1 {
+            self.same("nodes", |library| {
+                let (mut nodes, mut lacking) = (vec![7; length], [7; LACKING]);
+                let (given, asked) = (&sample.given, &sample.asked);
+                let answer = library.explain(given, asked, &mut nodes, &mut lacking);
+                (answer, nodes, lacking)
+            });
+        }
+        for length in 0..=LACKING + 1 {
+            for kind in 0..3 {
+                let asked = Asked {
+                    kind,
+                    ..sample.asked
+                };
+                self.same("lacking", |library| {
+                    let (mut nodes, mut lacking) = ([7; EXPLAINED], vec![7; length]);
+                    let answer = library.explain(&sample.given, &asked, &mut nodes, &mut lacking);
+                    (answer, nodes, lacking)
+                });
+            }
         }
         for length in 0..5 {
             let few = vec![7; length];

@@ -17,6 +17,7 @@ pub mod calls;
 pub mod check;
 pub mod damage;
 pub mod delays;
+pub mod explains;
 pub mod faults;
 #[cfg(all(target_arch = "x86_64", feature = "ionex"))]
 pub mod fenced;

@@ -3,6 +3,7 @@
 //! compare boundary COUNT SEED     both at the C boundary: own areas of every length, numbers too wide
 //! compare faults COUNT SEED       every planted fault must be found
 //! compare delays SEED             delays of a week's log and of any carriers, by both, bit for bit
+//! compare explains COUNT SEED     where answers came from, by both, and what is listed judged
 //! compare weeks COUNT SEED        weeks in figures, by both, and the reports judged
 //! compare indexes COUNT SEED      indexes, nodes and blocks, by both, and the indexes judged
 //! compare biases COUNT SEED       code biases, by both, and those of good texts judged
@@ -20,7 +21,7 @@
 use compare::archive::{self, Archive, FUNCTIONS};
 use compare::check::{self, Tally};
 use compare::library::{self, Second};
-use compare::{biases, calls, delays, faults, indexes, program, remarks, weeks};
+use compare::{biases, calls, delays, explains, faults, indexes, program, remarks, weeks};
 use std::path::Path;
 use std::process::ExitCode;
 
@@ -73,7 +74,7 @@ fn main() -> ExitCode {
 
 fn usage() -> ExitCode {
     eprintln!(
-        "usage: compare self-check|libraries|boundary|weeks|indexes|biases|faults|places COUNT SEED"
+        "usage: compare self-check|libraries|boundary|explains|weeks|indexes|biases|faults|places COUNT SEED"
     );
     eprintln!("       compare delays SEED");
     eprintln!("       compare program FILE");
@@ -89,6 +90,7 @@ fn seeded(mode: &str, count: u64, seed: u64) -> Option<Tally> {
         "self-check" => check::self_check(library.as_ref(), count, seed),
         "libraries" if linked() => check::compare(&Second, library.as_ref(), count, seed),
         "boundary" if linked() => calls::compare(&archive::fenced(), count, seed),
+        "explains" => explains::compare(&archive::fenced(), count, seed),
         "weeks" => weeks::compare(&archive::fenced(), count, seed),
         "indexes" => indexes::compare(&archive::fenced(), count, seed),
         "biases" => biases::compare(&archive::fenced(), count, seed),
@@ -134,6 +136,11 @@ fn planted_faults(count: u64, seed: u64) -> Tally {
         let found = calls::find(&Archive, fault, count, seed);
         let told = found.map(|(seed, difference)| format!("seed {seed}: {difference}"));
         tell(&mut tally, &format!("{fault:?} at the boundary"), told);
+    }
+    for fault in explains::faults::Fault::all() {
+        let found = explains::faults::find(fault, count, seed);
+        let told = found.map(|(seed, difference)| format!("seed {seed}: {difference}"));
+        tell(&mut tally, &format!("{fault:?} of an explanation"), told);
     }
     for fault in weeks::Fault::all() {
         let found = weeks::find(fault, count, seed);

@@ -148,6 +148,28 @@ pub fn maps(epochs: &[u64], question: &Question) -> Vec<(usize, i128)> {
 
 /// The value of one map, asked at a longitude.
 pub fn of_map(set: &MapSet, question: &Question, map: usize, at: i128) -> Result<Value, u8> {
+    let [rows, columns] = lines(set, question, at)?;
+    let mut value = Value::new(of_map_shares(set));
+    for &(row, b) in &rows {
+        for &(column, c) in &columns {
+            let node = node(set, question, map, row, column).map_err(|_| 22)?;
+            let node = Value {
+                sum: node,
+                all: 1,
+                low: node,
+                high: node,
+            };
+            value.add(&node, b * c);
+        }
+    }
+    Ok(value)
+}
+
+/// Grid lines by their number, with their shares.
+type Lines = Vec<(usize, i128)>;
+
+/// The rows and the columns with a weight where a map is asked at a longitude.
+fn lines(set: &MapSet, question: &Question, at: i128) -> Result<[Lines; 2], u8> {
     let header = &set.header;
     let grid = set.grid();
     let latitude = i128::from(question.latitude);
@@ -177,20 +199,40 @@ pub fn of_map(set: &MapSet, question: &Question, map: usize, at: i128) -> Result
             apart
         }
     });
-    let mut value = Value::new(of_map_shares(set));
-    for &(row, b) in &rows {
-        for &(column, c) in &columns {
-            let node = node(set, question, map, row, column).ok_or(22)?;
-            let node = Value {
-                sum: node,
-                all: 1,
-                low: node,
-                high: node,
-            };
-            value.add(&node, b * c);
+    Ok([rows, columns])
+}
+
+/// A node that a question needs, all counted from 0: its shares of the whole, and its value in thousandths or the number of
+/// the cause that it has none.
+#[derive(Clone, Copy, Debug)]
+pub struct Needed {
+    pub map: usize,
+    pub row: usize,
+    pub column: usize,
+    pub shares: i128,
+    pub value: Result<i128, u64>,
+}
+
+/// The needed nodes of a question that is answered or refused 22, by map, row and column; none of another.
+pub fn needed(set: &MapSet, question: &Question) -> Vec<Needed> {
+    let epochs = &set.areas.epochs[..set.grid().maps];
+    let mut all = Vec::new();
+    for (map, share) in maps(epochs, question) {
+        let Ok([rows, columns]) = lines(set, question, longitude_at(question, epochs[map])) else {
+            return Vec::new();
+        };
+        for (row, b) in rows {
+            // Line by line, and so by column number in the strip too.
+            all.extend(columns.iter().map(|&(column, c)| Needed {
+                map,
+                row,
+                column,
+                shares: share * b * c,
+                value: node(set, question, map, row, column),
+            }));
         }
     }
-    Ok(value)
+    all
 }
 
 /// The shares of all nodes of one map together.
@@ -239,11 +281,19 @@ fn in_time(epochs: &[u64], time: u64) -> Vec<(usize, i128)> {
     ]
 }
 
-fn node(set: &MapSet, question: &Question, map: usize, row: usize, column: usize) -> Option<i128> {
+/// A node in thousandths, or the number of the cause that it has no value: 1 its map is absent, 2 its exponent, 3 its number
+/// out of range, 4 it is 9999.
+fn node(
+    set: &MapSet,
+    question: &Question,
+    map: usize,
+    row: usize,
+    column: usize,
+) -> Result<i128, u64> {
     let grid = set.grid();
     let kind = question.kind as usize;
     if kind != 0 && set.areas.marks[map] & kind as u8 == 0 {
-        return None;
+        return Err(1);
     }
     let values = [&set.areas.tec, &set.areas.rms, &set.areas.height][kind];
     let layer = question.layer as usize;
@@ -255,10 +305,11 @@ fn node(set: &MapSet, question: &Question, map: usize, row: usize, column: usize
         -2 => 10,
         -1 => 100,
         0 => 1000,
-        _ => return None,
+        _ => return Err(2),
     };
-    if value == 9999 || !(-9999..=99_999).contains(&value) {
-        return None;
+    match value {
+        9999 => Err(4),
+        -9999..=99_999 => Ok(i128::from(value) * factor),
+        _ => Err(3),
     }
-    Some(i128::from(value) * factor)
 }

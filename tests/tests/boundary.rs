@@ -4,6 +4,7 @@ use compare::archive::Archive;
 use compare::boundary::{
     Asked, Boundary, Given, Lent, FLAGS, HEADER, OLD_HEADER, OLD_TEXTS, TEXTS,
 };
+use compare::explains::{Explains, EXPLAINED, LACKING};
 use compare::set::Buffers;
 use std::fs;
 use std::path::Path;
@@ -209,6 +210,46 @@ fn own_areas_too_short_for_delays() {
     assert_eq!(record, [-7.5; 5]);
     assert_eq!(Archive.tecu_delay(1000, 1.0e9, &mut record), 0);
     assert_eq!(record, [1.0e9, 1.0, 0.403, -7.5, -7.5]);
+}
+
+#[test]
+fn own_areas_too_short_for_an_explanation() {
+    let set = set();
+    let one_short = [
+        ([HEADER, TEXTS, EXPLAINED - 1, LACKING], 103),
+        ([HEADER, TEXTS, EXPLAINED, LACKING - 1], 103),
+        ([HEADER, TEXTS - 1, 0, LACKING], 102),
+        ([HEADER - 1, 0, EXPLAINED, 0], 101),
+    ];
+    for ([header, texts, nodes, lacking], answer) in one_short {
+        let mut given = set.clone();
+        given.header.truncate(header);
+        given.texts.truncate(texts);
+        for kind in [0, 2, 99] {
+            let asked = Asked {
+                kind,
+                ..question(&set)
+            };
+            let (mut nodes, mut lacking) = (vec![-7; nodes], vec![7; lacking]);
+            let found = Archive.explain(&given, &asked, &mut nodes, &mut lacking);
+            assert_eq!(found, answer);
+            assert!(nodes.iter().all(|&n| n == -7) && lacking.iter().all(|&n| n == 7));
+        }
+    }
+    let (mut nodes, mut lacking) = ([-7; EXPLAINED + 2], [7; LACKING + 1]);
+    let asked = question(&set);
+    assert_eq!(Archive.explain(&set, &asked, &mut nodes, &mut lacking), 0);
+    // One node, and zeros up to the last of the eight.
+    assert_eq!(
+        (nodes[0], nodes[1], &nodes[3..7]),
+        (1, nodes[8], &[1, 0, 0, 0][..])
+    );
+    assert_eq!(nodes[2], nodes[7]);
+    assert!(nodes[9..EXPLAINED].iter().all(|&n| n == 0));
+    assert_eq!(
+        (&nodes[EXPLAINED..], lacking),
+        (&[-7, -7][..], [7; LACKING + 1])
+    );
 }
 
 /// Each of the three headers, and each of the three texts, must be long enough.

@@ -11,6 +11,7 @@ pub mod join;
 pub mod node;
 pub mod plot;
 pub mod week;
+pub mod why;
 
 use crate::args::{Args, Options};
 use crate::output::Output;
@@ -34,6 +35,7 @@ pub const COMMANDS: &[&Command] = &[
     &join::COMMAND,
     &week::COMMAND,
     &ask::COMMAND,
+    &why::COMMAND,
     &delay::COMMAND,
     &index::COMMAND,
     &node::COMMAND,

@@ -2,7 +2,9 @@
 
 use second::index::{indexed_block, indexed_node, make_index, Entries, Index, Node};
 use second::week::{self, Week};
-use second::{ask, read, Answer, Areas, Header, Question, Reading, Refusal, Texts, View};
+use second::{
+    ask, explain, read, Answer, Areas, Axis, Header, Question, Reading, Refusal, Texts, View,
+};
 
 /// A text that the second program accepts, with areas of its own.
 pub struct Peer {
@@ -111,6 +113,50 @@ impl Peer {
         ))
     }
 
+    /// Where the answer came from as `why --json` prints it, from the sum on; or the number of the refusal, and of 22 the
+    /// node without a value, with the number of its cause.
+    pub fn explained(&self, question: &Question) -> Result<String, (u8, Option<String>)> {
+        let found = explain(&self.header, &self.texts, &self.view(), question).map_err(|why| {
+            let lacking = why.lacking.map(|node| {
+                let place = [node.map, node.layer, node.row, node.column];
+                format!("{},\"cause\":{:?}", self.node(place), node.cause)
+            });
+            (why.refusal.number(), lacking)
+        })?;
+        let nodes: Vec<String> = found
+            .nodes
+            .iter()
+            .map(|node| {
+                let place = self.node([node.map, node.layer, node.row, node.column]);
+                let value = decimals(node.value, 1000);
+                format!("{{{place},\"value\":{value},\"weight\":{}}}", node.weight)
+            })
+            .collect();
+        let sum: i128 = found
+            .nodes
+            .iter()
+            .map(|node| i128::from(node.value) * i128::from(node.weight))
+            .sum();
+        Ok(format!(
+            "\"sum\":{sum},\"denominator\":{},\"nodes\":[{}]}}",
+            found.denominator,
+            nodes.join(",")
+        ))
+    }
+
+    /// A node's members.
+    fn node(&self, [map, layer, row, column]: [u64; 4]) -> String {
+        let at = |axis: Axis, line: u64| decimals(axis.first + line as i64 * axis.step, 10);
+        let [year, month, day, hour, minute, second] =
+            second::calendar::date(self.epochs[map as usize - 1]).expect("a date");
+        format!(
+            "\"map\":{map},\"epoch\":\"{year:04}-{month:02}-{day:02}T{hour:02}:{minute:02}:{second:02}\",\
+             \"layer\":{layer},\"row\":{row},\"lat\":{},\"column\":{column},\"lon\":{}",
+            at(self.header.latitudes, row),
+            at(self.header.longitudes, column)
+        )
+    }
+
     /// Carrier, TECU and metres, or the number of the refusal.
     pub fn delay(&self, question: &Question, hertz: f64) -> Result<[f64; 3], u8> {
         let view = self.view();
@@ -185,4 +231,11 @@ impl Chance {
         self.0 ^= self.0 << 17;
         (self.0 >> 11) % end
     }
+}
+
+/// Parts of a whole as a decimal number.
+fn decimals(value: i64, whole: i64) -> String {
+    let sign = if value < 0 { "-" } else { "" };
+    let (size, width) = (value.abs(), whole.ilog10() as usize);
+    format!("{sign}{}.{:0width$}", size / whole, size % whole)
 }

@@ -24,7 +24,7 @@ use Rattle.ask_sums.specs.Mean.{Valued, spread, weight, mean}
 use Rattle.ask.specs.Ask.{Question, Told, refused, in-told, Guard, stop, go, Known, epochs, Served, InTime, Inside, area, shape, asked, Rounded, Answers}
 use Rattle.ask_sums.specs.Sums.{Summable}
 use Rattle.ask.proofs.MeanLaws.{mean-is}
-use Rattle.ask.proofs.ReachLaws.{latitude-step, longitude-step, some-weight, summable}
+use Rattle.ask.proofs.ReachLaws.{latitude-step, longitude-step, total, some-weight, summable}
 use Rattle.ask.specs.Sun.{in-time, unit-of, moved, lon-at, Cells}
 use Rattle.ask_cells.specs.declared.Cell.{Cell}
 use Rattle.ask_spans.specs.declared.Shares.{Shares}
@@ -91,13 +91,16 @@ module _ (q : Question) (sound : Sound (q .header) (q .texts) (q .areas)) where
   pub steady : Regular (epochs q)
   steady = regular (q .header .times .interval) (q .header .times .last) (epochs q) (say .1)
 
+  pub last-is : (i : ℕ) → i + 1 ≡ length (epochs q) → epoch (epochs q) i ≡ q .header .times .last
+  last-is i h = last-epoch (q .header .times .interval) (q .header .times .last) (epochs q) (say .1) i h
+
   pub spanned : InTime q → Spanned (epochs q) (q .second)
   spanned t =
       let s = starts (q .header .times .first) (epochs q) (say .0) in
       record {
         some = s .0;
         from = rw (s .1) (t .0);
-        to = λ i h. rw (last-epoch (q .header .times .interval) (q .header .times .last) (epochs q) (say .1) i h) (t .1);
+        to = λ i h. rw (last-is i h) (t .1);
       }
 
   pub few-epochs : length (epochs q) ≡ q .header .times .maps
@@ -106,7 +109,7 @@ module _ (q : Question) (sound : Sound (q .header) (q .texts) (q .areas)) where
   -- no epoch is past the last
   pub epoch-last : (i : ℕ) → i < length (epochs q) → epoch (epochs q) i ≤ q .header .times .last
   epoch-last i h =
-      let e = last-epoch (q .header .times .interval) (q .header .times .last) (epochs q) (say .1) (length (epochs q) - 1) (omega arith) in
+      let e = last-is (length (epochs q) - 1) (omega arith) in
       rw e at (rises-to (epochs q) steady i (length (epochs q) - 1) (omega arith) (omega arith))
 
   pub can-ask : InTime q → (h : Shares) → Uses (epochs q) (q .second) (in-time (q .method)) h → CanAsk (q .header .grid) (q .second) (epochs q) h
@@ -117,14 +120,14 @@ module _ (q : Question) (sound : Sound (q .header) (q .texts) (q .areas)) where
 
   -- ---- the cells of the maps
   module _ (served : Served q) (h : Shares) (u : Uses (epochs q) (q .second) (in-time (q .method)) h) (c d : Cell) (x : Cells (q .method) (q .header .grid) (q .lat) (q .lon) (q .second) (epochs q) h c d) where
-    abbrev unit : ℕ
+    abbrev pub unit : ℕ
     unit = unit-of (q .method)
 
     small : (1 ≤ h .early) × (h .early + h .late ≤ 21600) × (h .map < length (epochs q)) × ((h .late ≡ 0) ⊎ (h .map + 1 < length (epochs q)))
     small = shares-small (epochs q) steady (q .second) (in-time (q .method)) u
 
     -- the second map's cell is one of the same rows
-    other : (east : ℤ) × InCell unit (q .header .grid) (q .lat) east d
+    pub other : (east : ℤ) × InCell unit (q .header .grid) (q .lat) east d
     other = ⊎-elim (λ z. (lon-at (q .method) (q .lon) (q .second) (epoch (epochs q) (h .map)), rw (z .1) (x .first-in))) (λ z. (lon-at (q .method) (q .lon) (q .second) (epoch (epochs q) (h .map + 1)), z .1)) (x .second-in)
 
     -- the weights come to no more than 64,800,000,000
@@ -147,6 +150,10 @@ module _ (q : Question) (sound : Sound (q .header) (q .texts) (q .areas)) where
 
     pub has-weight : 0 < weight (asked q (spread h c d))
     has-weight = some-weight q sound unit (unit-small (q .method) .0) (q .lat) _ (other .0) c d (x .first-in) (other .1) h (small .0)
+
+    -- the weights come to the gap times the cell's size
+    pub whole-weight : weight (asked q (spread h c d)) ≡ (h .early + h .late) * (c .tall * c .wide)
+    whole-weight = total q sound unit (unit-small (q .method) .0) (q .lat) _ (other .0) c d (x .first-in) (other .1) h
 
     pub can-sum : Known q → q .layer < layers (q .header .grid) → Summable (area (kind-of (q .kind)) (q .areas)) (q .areas .exponents) (q .areas .marks) (shape q) h c d
     can-sum known layer =

@@ -7,9 +7,9 @@ use Prim.Native.Nat.{ℕ, zero, suc, _+_, _-_, _*_, _≤_, _<_}
 use native.Mathlib.Nat.{mul-le-mul-left, mul-pos, mul-sub, lt-of-not-le, mul-zero}
 use native.Mathlib.Decide.{decLe, decLt}
 use native.Mathlib.Omega.{arith}
-use lib.IntN.{ℤ, pos, natAbs, _+ℤ_, _-ℤ_, _*ℤ_, +ℤ-idr, +ℤ-invr, zero-*ℤ}
+use lib.IntN.{ℤ, pos, natAbs, _+ℤ_, _-ℤ_, _*ℤ_, +ℤ-idr, +ℤ-idl, +ℤ-invr, zero-*ℤ}
 use lib.ListN.{length}
-use Rattle.kit.specs.Answer.{All}
+use Rattle.kit.specs.Answer.{All, pick}
 use Rattle.kit.proofs.Parts.{add-parts, sub-parts2, scale-up, scale-dn, eq-parts, abs-scale}
 use Rattle.mapset.specs.Areas.{Sound}
 use Rattle.mapset.specs.declared.Grid.{Grid}
@@ -22,7 +22,8 @@ use Rattle.ask_spans.specs.Time.{epoch, NearestMap, shared, Uses, nearest, betw
 use Rattle.ask_spans.specs.Spans.{Regular}
 use Rattle.ask_spans.proofs.TimeLaws.{nearest-last, nearest-early}
 use Rattle.ask_nodes.specs.Value.{kind-of, value}
-use Rattle.ask_sums.specs.Mean.{corners, spread, Term, terms, Valued, weighted, weight}
+use Rattle.ask_sums.specs.Mean.{left, right, next-left, next-right, by-column, corners, spread, Term, terms, Valued, weighted, weight}
+use Rattle.ask_sums.proofs.SumLaws.{corners-elim}
 use Rattle.ask.specs.Ask.{Question, Told, refused, in-unit, in-told, Guard, stop, go, Known, epochs, Served, InTime, Inside, Weighs, area, shape, asked, Rounded, Blended, Answers}
 use Rattle.ask.specs.Sun.{in-time, moved, CellAt}
 use Rattle.ask.proofs.AskLaws.{in-time-small, steady}
@@ -157,6 +158,14 @@ single k w (some v) zs h z =
     let d : weight ((w, some v) ∷ zs) ≡ w = light-weight ((w, some v) ∷ []) zs z ∙ (unfold weight in omega arith) in
     go (inr tt, light-all zs z) (v, (rw (s, d) (itself w v h), refl))
 
+-- one of weight zero before
+light-first : (k : Kind) (z : Term) (ts : List Term) (a : Told) → z .0 ≡ 0 → Guard (Valued ts) 22 (Rounded k ts) a → Guard (Valued (z ∷ ts)) 22 (Rounded k (z ∷ ts)) a
+light-first k z ts a e (stop n) = stop (λ v. n (v .1))
+light-first k z ts a e (go v (x, (m, f))) =
+    let s : weighted (z ∷ ts) ≡ weighted ts = unfold weighted in rw (e, zero-*ℤ (or-zero (z .1)), +ℤ-idl (weighted ts)) refl in
+    let d : weight (z ∷ ts) ≡ weight ts = unfold weight in omega (arith, e) in
+    go (inl e, v) (x, (rw (s, d) m, f))
+
 terms-append : (q : Question) (l m : List Weighed) → asked q (l ++ m) ≡ asked q l ++ asked q m
 unfolding terms
 terms-append q [] m = refl
@@ -164,20 +173,23 @@ terms-append q (n ∷ l) m = ap (λ (ts : List Term). (n .weight, own q n) ∷ t
 
 -- a share g and units k times as fine make every weight g·k times as large
 heavier : (q : Question) (g k i : ℕ) (c : Cell) → asked q (corners g i (finer k c)) ≡ times (g * k) (asked q (corners 1 i c))
-unfolding corners terms value
+unfolding corners by-column pick terms value
 heavier q g k i c =
     let e : (x y : ℕ) → g * (x * (k * y)) ≡ g * k * (1 * (x * y)) = λ x y. omega arith in
     let f : (x : ℕ) → g * (x * (k * c .wide - k * c .across)) ≡ g * k * (1 * (x * (c .wide - c .across))) = λ x. ap (λ (y : ℕ). g * (x * y)) (sym (mul-sub k (c .wide) (c .across))) ∙ e x (c .wide - c .across) in
-    λ j.
-    (f (c .tall - c .down) j, own q (corner 1 i (c .row) (c .column)))
-    ∷ (e (c .tall - c .down) (c .across) j, own q (corner 1 i (c .row) (c .right)))
-    ∷ (f (c .down) j, own q (corner 1 i (c .row + 1) (c .column)))
-    ∷ (e (c .down) (c .across) j, own q (corner 1 i (c .row + 1) (c .right)))
-    ∷ []
+    by (f (c .tall - c .down)) (e (c .tall - c .down) (c .across)) (f (c .down)) (e (c .down) (c .across)) (decLt (c .right) (c .column))
+  where
+    by : left g i (finer k c) .weight ≡ g * k * left 1 i c .weight → right g i (finer k c) .weight ≡ g * k * right 1 i c .weight
+        → next-left g i (finer k c) .weight ≡ g * k * next-left 1 i c .weight → next-right g i (finer k c) .weight ≡ g * k * next-right 1 i c .weight → (d : Dec (c .right < c .column)) →
+        asked q (pick d (right g i (finer k c) ∷ left g i (finer k c) ∷ []) (left g i (finer k c) ∷ right g i (finer k c) ∷ []) ++ pick d (next-right g i (finer k c) ∷ next-left g i (finer k c) ∷ []) (next-left g i (finer k c) ∷ next-right g i (finer k c) ∷ []))
+        ≡ times (g * k) (asked q (pick d (right 1 i c ∷ left 1 i c ∷ []) (left 1 i c ∷ right 1 i c ∷ []) ++ pick d (next-right 1 i c ∷ next-left 1 i c ∷ []) (next-left 1 i c ∷ next-right 1 i c ∷ [])))
+    by l r m n (yes p) = λ j. (r j, own q (right 1 i c)) ∷ (l j, own q (left 1 i c)) ∷ (n j, own q (next-right 1 i c)) ∷ (m j, own q (next-left 1 i c)) ∷ []
+    by l r m n (no p) = λ j. (l j, own q (left 1 i c)) ∷ (r j, own q (right 1 i c)) ∷ (m j, own q (next-left 1 i c)) ∷ (n j, own q (next-right 1 i c)) ∷ []
 
 shareless : (q : Question) (m : ℕ) (c : Cell) → Weightless (asked q (corners 0 m c))
-unfolding corners terms
-shareless q m c = (omega arith, (omega arith, (omega arith, (omega arith, tt))))
+unfolding terms
+shareless q m c =
+    corners-elim 0 m c (λ ns. Weightless (asked q ns)) (λ n. (omega arith, (omega arith, (omega arith, (omega arith, tt))))) (λ n. (omega arith, (omega arith, (omega arith, (omega arith, tt)))))
 
 passed : {P : Type 0} {n : ℕ} {R : Told → Type 0} {a : Told} → P → Guard P n R a → R a
 passed p (stop n) = absurd (n p)
@@ -246,20 +258,18 @@ module _ (q : Question) (sound : Sound (q .header) (q .texts) (q .areas)) (serve
 
   -- at a node of the map, its own value
   alone-at-node : c .down ≡ 0 → c .across ≡ 0 → Alone q i c (in-told (kind-of (q .kind)) (own q (corner 1 i (c .row) (c .column))))
-  unfolding corners terms value weight
+  unfolding terms value weight
   alone-at-node d e =
-      single (kind-of (q .kind)) (1 * ((c .tall - c .down) * (c .wide - c .across))) (own q (corner 1 i (c .row) (c .column)))
-      ((1 * ((c .tall - c .down) * c .across), own q (corner 1 i (c .row) (c .right))) ∷ (1 * (c .down * (c .wide - c .across)), own q (corner 1 i (c .row + 1) (c .column))) ∷ (1 * (c .down * c .across), own q (corner 1 i (c .row + 1) (c .right))) ∷ [])
-      (positive heavy) (
-        ap (λ (x : ℕ). 1 * ((c .tall - c .down) * x)) e ∙ omega arith,
-        (
-          ap (λ (x : ℕ). 1 * (x * (c .wide - c .across))) d ∙ omega arith,
-          (ap (λ (x : ℕ). 1 * (x * c .across)) d ∙ omega arith, tt),
-        ),
-      )
-    where
-      positive : 0 < 1 * ((c .tall - c .down) * (c .wide - c .across)) + (1 * ((c .tall - c .down) * c .across) + (1 * (c .down * (c .wide - c .across)) + (1 * (c .down * c .across) + 0))) → 0 < 1 * ((c .tall - c .down) * (c .wide - c .across))
-      positive h = omega (arith, ap (λ (k : ℕ). (c .tall - c .down) * k) e, ap (λ (k : ℕ). k * (c .wide - c .across)) d, ap (λ (k : ℕ). k * c .across) d)
+      let r : (x : ℕ) → 1 * (x * c .across) ≡ 0 = λ x. ap (λ (y : ℕ). 1 * (x * y)) e ∙ omega arith in
+      let n : (x : ℕ) → 1 * (c .down * x) ≡ 0 = λ x. ap (λ (y : ℕ). 1 * (y * x)) d ∙ omega arith in
+      let p : 0 < left 1 i c .weight =
+      corners-elim 1 i c (λ ns. 0 < weight (asked q ns) → 0 < left 1 i c .weight)
+      (λ z h. omega (arith, r (c .tall - c .down), n (c .wide - c .across), n (c .across)))
+      (λ z h. omega (arith, r (c .tall - c .down), n (c .wide - c .across), n (c .across))) heavy in
+      corners-elim 1 i c (λ ns. Guard (Valued (asked q ns)) 22 (Rounded (kind-of (q .kind)) (asked q ns)) (in-told (kind-of (q .kind)) (own q (left 1 i c))))
+      (λ z. single (kind-of (q .kind)) (left 1 i c .weight) (own q (left 1 i c)) (asked q (right 1 i c ∷ next-left 1 i c ∷ next-right 1 i c ∷ [])) p (r (c .tall - c .down), (n (c .wide - c .across), (n (c .across), tt))))
+      (λ z. light-first (kind-of (q .kind)) (right 1 i c .weight, own q (right 1 i c)) (asked q (left 1 i c ∷ next-right 1 i c ∷ next-left 1 i c ∷ [])) _ (r (c .tall - c .down))
+      (single (kind-of (q .kind)) (left 1 i c .weight) (own q (left 1 i c)) (asked q (next-right 1 i c ∷ next-left 1 i c ∷ [])) p (n (c .across), (n (c .wide - c .across), tt))))
 
   pub at-node : Known q → InTime q → (a : Told) → c .down ≡ 0 → c .across ≡ 0 → Answers q a → a ≡ in-told (kind-of (q .kind)) (own q (corner 1 i (c .row) (c .column)))
   at-node known time a d e answer =

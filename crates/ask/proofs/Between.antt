@@ -64,15 +64,15 @@ thousandths-of (tecu v) = some v
 thousandths-of (km v) = some v
 thousandths-of (refused n) = none
 
-in-unit-of : (k : Kind) (v : ℤ) → thousandths-of (in-unit k v) ≡ some v
+pub in-unit-of : (k : Kind) (v : ℤ) → thousandths-of (in-unit k v) ≡ some v
 in-unit-of tec v = refl
 in-unit-of rms v = refl
 in-unit-of height v = refl
 
-some-once : (v w : ℤ) → some v ≡ some w → v ≡ w
+pub some-once : (v w : ℤ) → some v ≡ some w → v ≡ w
 some-once v w e = cc
 
-none-some : (v : ℤ) → ¬ (none ≡ some v)
+pub none-some : (v : ℤ) → ¬ (none ≡ some v)
 none-some v e = let z : _≡_ {A = ℕ} 0 1 = cc in omega arith
 
 pub between : (q : Question) (a : Told) (v : ℤ) → Answers q a → thousandths-of a ≡ some v → (ns : List Weighed) → Weighs q ns → (lo hi : ℤ) → All (Bounds lo hi) (asked q ns) → Between lo hi v

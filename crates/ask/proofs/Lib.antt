@@ -7,6 +7,7 @@ pub mod ReachLaws
 pub mod Reckoned
 pub mod Reckonings
 pub mod Sample
+pub mod Standing
 pub mod Strip
 pub mod SunSample
 pub mod WholeTurn

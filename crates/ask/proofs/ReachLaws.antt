@@ -25,6 +25,7 @@ use Rattle.ask_sums.specs.Mean.{corners, spread, terms, weight}
 use Rattle.ask.specs.Ask.{Question, area, shape}
 use Rattle.ask_nodes.specs.Nodes.{Reached}
 use Rattle.ask_sums.specs.Sums.{Reaches, Shared, Summable}
+use Rattle.ask_sums.proofs.SumLaws.{corners-elim, all-corners}
 use Rattle.ask_cells.specs.declared.Cell.{Cell}
 use Rattle.ask_spans.specs.declared.Shares.{Shares}
 use Rattle.ask_nodes.specs.declared.Shape.{Shape}
@@ -46,11 +47,17 @@ longitude-step q s =
 spreads : (t a f b g : ℕ) → t * (a * b) + (t * (a * g) + (t * (f * b) + (t * (f * g) + 0))) ≡ t * ((a + f) * (b + g))
 spreads t a f b g = omega arith
 
+turned : (t a f b g : ℕ) → t * (a * g) + (t * (a * b) + (t * (f * g) + (t * (f * b) + 0))) ≡ t * ((a + f) * (b + g))
+turned t a f b g = omega arith
+
 module _ (s : Shape) (vs ks : List ℤ) (ms : List ℕ) where
   corners-weight : (t m : ℕ) (c : Cell) → c .down ≤ c .tall → c .across ≤ c .wide → weight (terms s vs ks ms (corners t m c)) ≡ t * (c .tall * c .wide)
-  unfolding corners terms weight
+  unfolding terms weight
   corners-weight t m c p q =
-      spreads t (c .tall - c .down) (c .down) (c .wide - c .across) (c .across) ∙ ap₂ (λ (x y : ℕ). t * (x * y)) (sub-add-cancel p) (sub-add-cancel q)
+      let e : t * ((c .tall - c .down + c .down) * (c .wide - c .across + c .across)) ≡ t * (c .tall * c .wide) = ap₂ (λ (x y : ℕ). t * (x * y)) (sub-add-cancel p) (sub-add-cancel q) in
+      corners-elim t m c (λ ns. weight (terms s vs ks ms ns) ≡ t * (c .tall * c .wide))
+      (λ n. spreads t (c .tall - c .down) (c .down) (c .wide - c .across) (c .across) ∙ e)
+      (λ n. turned t (c .tall - c .down) (c .down) (c .wide - c .across) (c .across) ∙ e)
 
   weight-append : (l m : List Weighed) → weight (terms s vs ks ms (l ++ m)) ≡ weight (terms s vs ks ms l) + weight (terms s vs ks ms m)
   unfolding terms weight
@@ -119,22 +126,17 @@ module _ (q : Question) (s : Sound (q .header) (q .texts) (q .areas)) where
   module _ (unit : ℕ) (some : 0 < unit) (lat lon : ℤ) (c : Cell) (i : InCell unit (q .header .grid) lat lon c) where
     -- the needed nodes of a cell, of a map that is there or has no share
     corners-reach : q .kind < 3 → q .layer < L → (t m : ℕ) → (t ≡ 0) ⊎ (m < n) → All Needed (corners t m c)
-    unfolding corners
     corners-reach k l t m (inl z) =
-        (inl (rw z (omega arith)), (inl (rw z (omega arith)), (inl (rw z (omega arith)), (inl (rw z (omega arith)), tt))))
+        all-corners t m c Needed (inl (rw z (omega arith))) (inl (rw z (omega arith))) (inl (rw z (omega arith))) (inl (rw z (omega arith)))
     corners-reach k l t m (inr h) =
         let row = i .row .sits in
         let col = i .column .sits in
-        let east : (c .across ≡ 0) ⊎ (c .right < C) = col .next in (
-          inr (reached k l _ h (row .node) (col .node)),
-          (
-            ⊎-elim (λ z. inl (rw z (omega arith))) (λ e. inr (reached k l _ h (row .node) e)) east,
-            (
-              ⊎-elim (λ z. inl (rw z (omega arith))) (λ d. inr (reached k l _ h d (col .node))) (row .next),
-              (⊎-elim (λ z. inl (rw z (omega arith))) (λ e. ⊎-elim (λ z. inl (rw z (omega arith))) (λ d. inr (reached k l _ h d e)) (row .next)) east, tt),
-            ),
-          ),
-        )
+        let east : (c .across ≡ 0) ⊎ (c .right < C) = col .next in
+        all-corners t m c Needed
+        (inr (reached k l _ h (row .node) (col .node)))
+        (⊎-elim (λ z. inl (rw z (omega arith))) (λ e. inr (reached k l _ h (row .node) e)) east)
+        (⊎-elim (λ z. inl (rw z (omega arith))) (λ d. inr (reached k l _ h d (col .node))) (row .next))
+        (⊎-elim (λ z. inl (rw z (omega arith))) (λ e. ⊎-elim (λ z. inl (rw z (omega arith))) (λ d. inr (reached k l _ h d e)) (row .next)) east)
 
     tall-small : (0 < c .tall) × (c .tall ≤ 1500)
     tall-small = let d = latitude-step q s in (omega (arith, i .tall), omega (arith, i .tall))
@@ -153,13 +155,13 @@ module _ (q : Question) (s : Sound (q .header) (q .texts) (q .areas)) where
 
   -- two cells, those of the two maps
   module _ (unit : ℕ) (some : 0 < unit) (lat lon east : ℤ) (c d : Cell) (i : InCell unit (q .header .grid) lat lon c) (j : InCell unit (q .header .grid) lat east d) where
-    abbrev T : Shares → ℕ
+    abbrev pub T : Shares → ℕ
     T h = weight (terms (shape q) (area (kind-of (q .kind)) (q .areas)) (q .areas .exponents) (q .areas .marks) (spread h c d))
 
     same-size : d .tall * d .wide ≡ c .tall * c .wide
     same-size = ap₂ _*_ (j .tall ∙ sym (i .tall)) (j .wide ∙ sym (i .wide))
 
-    total : (h : Shares) → T h ≡ (h .early + h .late) * (c .tall * c .wide)
+    pub total : (h : Shares) → T h ≡ (h .early + h .late) * (c .tall * c .wide)
     total h =
         spread-weight (shape q) (area (kind-of (q .kind)) (q .areas)) (q .areas .exponents) (q .areas .marks) h c d (down-less unit some lat lon c i) (across-less unit some lat lon c i) (down-less unit some lat east d j) (across-less unit some lat east d j)
         ∙ ap (λ (x : ℕ). h .early * (c .tall * c .wide) + h .late * x) same-size ∙ omega arith

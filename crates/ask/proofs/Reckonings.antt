@@ -23,7 +23,7 @@ use Rattle.ask_round.specs.Round.{rounded}
 use Rattle.ask_cells.specs.Place.{GoesRound}
 use Rattle.ask_cells.specs.Found.{strip?, closed?, goes-round?, after}
 use Rattle.ask_nodes.specs.Value.{is-value?, worth, value}
-use Rattle.ask_sums.specs.Mean.{corners, spread, terms, weighted, weight, valued?, mean}
+use Rattle.ask_sums.specs.Mean.{by-column, corners, spread, terms, weighted, weight, valued?, mean}
 use Rattle.ask.specs.Ask.{Question, question, tecu, refused, Answers}
 use Rattle.ask.specs.Sun.{Turns}
 use Rattle.ask.proofs.Sample.{axis, absent, texts}
@@ -86,7 +86,7 @@ rows =
     ∷ []
 
 pub reckonings : All (λ (r : Row). Answers (r .0) (says (r .1))) rows
-unfolding rows header held fine texts axis absent truth sound? dec-by sound-says? ×-dec ⊎-dec ¬-dec all-dec pick header? version? lines? texts? written? printable? within? times? model? grid? axis? end? step? together? between? ×₃-dec ×₄-dec multiple? le? lt? int? count? systems? system? dimension? limits? epochs? starts? runs? run? follows? marks? lengths? nowhere? present? ℕ-discrete decLe decLt known? timely? same-told strip? closed? goes-round? after rounded mean valued? weighted weight terms spread corners value worth is-value?
+unfolding rows header held fine texts axis absent truth sound? dec-by sound-says? ×-dec ⊎-dec ¬-dec all-dec pick header? version? lines? texts? written? printable? within? times? model? grid? axis? end? step? together? between? ×₃-dec ×₄-dec multiple? le? lt? int? count? systems? system? dimension? limits? epochs? starts? runs? run? follows? marks? lengths? nowhere? present? ℕ-discrete decLe decLt known? timely? same-told strip? closed? goes-round? after rounded mean valued? weighted weight terms spread corners by-column value worth is-value?
 reckonings = all-answer rows tt
 
 -- ---- 24 (02, Ask 3): DLON of 6.0, epochs 7,201 s apart, a grid that ends a column too early; 5.0 and 7,200 s are served (`SunSample`)

@@ -27,7 +27,7 @@ use Rattle.ask_round.specs.Round.{rounded}
 use Rattle.ask_cells.specs.Place.{next, InCell100}
 use Rattle.ask_spans.specs.Time.{alone, Uses, nearest}
 use Rattle.ask_nodes.specs.Value.{is-value?, worth, value}
-use Rattle.ask_sums.specs.Mean.{corners, spread, terms, weighted, weight, valued?, mean}
+use Rattle.ask_sums.specs.Mean.{by-column, corners, spread, terms, weighted, weight, valued?, mean}
 use Rattle.ask.specs.Ask.{Question, epochs, question, tecu, refused, Answers}
 use Rattle.ask.proofs.AskLaws.{answered}
 use Rattle.ask.proofs.Once.{answers-once}
@@ -87,7 +87,7 @@ unfolding sample header held
 uses = nearest 0 refl (record { map = omega arith; near = λ j h. omega arith; earlier = λ j h. absurd (omega arith) })
 
 pub sample-answer : Answers sample (tecu (pos 25000))
-unfolding sample header axis middle held rounded mean valued? weighted weight ⊎-dec all-dec terms spread corners value worth is-value? between? present? pick ×-dec ¬-dec dec-by le? int? ℕ-discrete
+unfolding sample header axis middle held rounded mean valued? weighted weight ⊎-dec all-dec terms spread corners by-column decLt value worth is-value? between? present? pick ×-dec ¬-dec dec-by le? int? ℕ-discrete
 sample-answer =
     answered sample sound (inl (omega arith)) (alone 0) uses middle middle (record { first-in = inside; second-in = inl (refl, refl) })
     (omega arith, omega arith) (omega arith, omega arith) (record { layer = omega arith; cell = middle; place = inside }) (tecu (pos 25000)) refl

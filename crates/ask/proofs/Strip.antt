@@ -15,6 +15,7 @@ use Rattle.mapset.specs.SoundDecided.{header-groups}
 use Rattle.ask_cells.specs.Place.{InRow, Strip, GoesRound, InCell, InCell100}
 use Rattle.ask_cells.proofs.EarthLaws.{round-inside, strip-right}
 use Rattle.ask_sums.specs.Mean.{corners, spread}
+use Rattle.ask_sums.proofs.SumLaws.{all-corners}
 use Rattle.ask_spans.specs.Time.{epoch}
 use Rattle.ask.specs.Sun.{unit-of, lon-at, CellAt, Cells}
 use Rattle.ask.specs.Ask.{Question, epochs, Served, Inside, Weighs}
@@ -30,8 +31,7 @@ abbrev pub Stands : ℕ → ℕ → Weighed → Type 0
 Stands x y n = (n .column ≡ x) ⊎ (n .column ≡ y)
 
 corners-of : (t m : ℕ) (c : Cell) (x y : ℕ) → c .column ≡ x → c .right ≡ y → All (Stands x y) (corners t m c)
-unfolding corners
-corners-of t m c x y e f = (inl e, (inr f, (inl e, (inr f, tt))))
+corners-of t m c x y e f = all-corners t m c (Stands x y) (inl e) (inr f) (inl e) (inr f)
 
 spread-of : (h : Shares) (c : Cell) (x y : ℕ) → c .column ≡ x → c .right ≡ y → All (Stands x y) (spread h c c)
 unfolding spread
@@ -40,15 +40,13 @@ spread-of h c x y e f =
 
 -- on a column all the weight is that column's
 pub left-weight : (t m : ℕ) (c : Cell) → c .across ≡ 0 → All (λ (n : Weighed). (n .weight ≡ 0) ⊎ (n .column ≡ c .column)) (corners t m c)
-unfolding corners
 left-weight t m c e =
-    (inr refl, (inl (rw e (omega arith)), (inr refl, (inl (rw e (omega arith)), tt))))
+    all-corners t m c (λ (n : Weighed). (n .weight ≡ 0) ⊎ (n .column ≡ c .column)) (inr refl) (inl (rw e (omega arith))) (inr refl) (inl (rw e (omega arith)))
 
 pub right-weight : (t m : ℕ) (c : Cell) → c .across ≡ c .wide → All (λ (n : Weighed). (n .weight ≡ 0) ⊎ (n .column ≡ c .right)) (corners t m c)
-unfolding corners
 right-weight t m c e =
     let z : c .wide - c .across ≡ 0 = omega arith in
-    (inl (rw z (omega arith)), (inr refl, (inl (rw z (omega arith)), (inr refl, tt))))
+    all-corners t m c (λ (n : Weighed). (n .weight ≡ 0) ⊎ (n .column ≡ c .right)) (inl (rw z (omega arith))) (inr refl) (inl (rw z (omega arith))) (inr refl)
 
 -- ---- methods 0 and 1 ask every map at the place itself
 module _ (m : ℕ) (h : m < 2) (g : Grid) (lat lon : ℤ) (t e : ℕ) (c : Cell) where

@@ -25,7 +25,7 @@ use Rattle.ask_round.specs.Round.{rounded}
 use Rattle.ask_cells.specs.Place.{first, next, InCell}
 use Rattle.ask_spans.specs.Time.{epoch, gap, alone, shared, nearest, between}
 use Rattle.ask_nodes.specs.Value.{is-value?, worth, value}
-use Rattle.ask_sums.specs.Mean.{corners, spread, terms, weighted, weight, valued?, mean}
+use Rattle.ask_sums.specs.Mean.{by-column, corners, spread, terms, weighted, weight, valued?, mean}
 use Rattle.ask.specs.Sun.{Turns}
 use Rattle.ask.specs.Ask.{Question, question, tecu, Inside, Answers}
 use Rattle.ask.proofs.AskLaws.{answered}
@@ -96,7 +96,7 @@ strip = record {
 
 -- by method 0 at the first epoch: (10.0 + 20.0) / 2 = 15.0
 pub strip-answer : Answers (ask-at 0 (pos 35750) 0) (tecu (pos 15000))
-unfolding ask-at header axis cell held rounded mean valued? weighted weight ⊎-dec all-dec terms spread corners value worth is-value? between? present? pick ×-dec ¬-dec dec-by le? int? ℕ-discrete
+unfolding ask-at header axis cell held rounded mean valued? weighted weight ⊎-dec all-dec terms spread corners by-column decLt value worth is-value? between? present? pick ×-dec ¬-dec dec-by le? int? ℕ-discrete
 strip-answer =
     answered (ask-at 0 (pos 35750) 0) sound (inl (omega arith)) (alone 0)
     (nearest 0 refl (record { map = omega arith; near = λ j h. omega arith; earlier = λ j h. absurd (omega arith) }))
@@ -138,7 +138,7 @@ moved-second = record {
 
 -- by method 2: (10.0 + 20.0 + 30.0 + 40.0) / 4 = 25.0
 pub sun-answer : Answers (ask-at 2 (pos 34250) 3600) (tecu (pos 25000))
-unfolding ask-at header axis cell held rounded mean valued? weighted weight ⊎-dec all-dec terms spread corners value worth is-value? between? present? pick ×-dec ¬-dec dec-by le? int? ℕ-discrete
+unfolding ask-at header axis cell held rounded mean valued? weighted weight ⊎-dec all-dec terms spread corners by-column decLt value worth is-value? between? present? pick ×-dec ¬-dec dec-by le? int? ℕ-discrete
 sun-answer =
     answered (ask-at 2 (pos 34250) 3600) sound (inr turns) (shared 0 3600 3600) (between 0 refl (omega arith) (omega arith) (omega arith))
     (cell 71 0 3000 6000) (cell 65 66 3000 6000) (record { first-in = moved-first; second-in = inr (omega arith, moved-second) })
@@ -146,7 +146,7 @@ sun-answer =
 
 -- by method 3 the earlier of the two, which are equally near: (10.0 + 20.0) / 2 = 15.0
 pub nearest-sun-answer : Answers (ask-at 3 (pos 34250) 3600) (tecu (pos 15000))
-unfolding ask-at header axis cell held rounded mean valued? weighted weight ⊎-dec all-dec terms spread corners value worth is-value? between? present? pick ×-dec ¬-dec dec-by le? int? ℕ-discrete
+unfolding ask-at header axis cell held rounded mean valued? weighted weight ⊎-dec all-dec terms spread corners by-column decLt value worth is-value? between? present? pick ×-dec ¬-dec dec-by le? int? ℕ-discrete
 nearest-sun-answer =
     answered (ask-at 3 (pos 34250) 3600) sound (inr turns) (alone 0) (nearest 0 refl (record { map = omega arith; near = near; earlier = λ j h. absurd (omega arith) }))
     (cell 71 0 3000 6000) (cell 71 0 3000 6000) (record { first-in = moved-first; second-in = inl (refl, refl) })
@@ -163,7 +163,7 @@ unfoldable pub fine-question : Question
 fine-question = question header texts fine 0 2 0 (pos 0) (pos 34250) 3600
 
 pub once-answer : Answers fine-question (tecu (pos 0))
-unfolding fine-question ask-at header axis cell fine rounded mean valued? weighted weight ⊎-dec all-dec terms spread corners value worth is-value? between? present? pick ×-dec ¬-dec dec-by le? int? ℕ-discrete
+unfolding fine-question ask-at header axis cell fine rounded mean valued? weighted weight ⊎-dec all-dec terms spread corners by-column decLt value worth is-value? between? present? pick ×-dec ¬-dec dec-by le? int? ℕ-discrete
 once-answer =
     answered fine-question (truth-true (sound? header texts fine) is-sound-fine) (inr turns) (shared 0 3600 3600) (between 0 refl (omega arith) (omega arith) (omega arith))
     (cell 71 0 3000 6000) (cell 65 66 3000 6000) (record { first-in = moved-first; second-in = inr (omega arith, moved-second) })

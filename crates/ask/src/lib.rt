@@ -18,7 +18,7 @@ use mapset::Times;
 use mapset::axes;
 use sun::Pair;
 
-mod sun;
+pub mod sun;
 mod value;
 
 // Why there is no value: 23, 31, 24, 20, 21 and 22.
@@ -55,7 +55,7 @@ fn has_layer(g: Grid, layer: u64) -> bool
     layer < axes::nodes(g.heights)
 }
 
-fn shape_of(header: Header, kind: u64, layer: u64) -> Shape
+pub fn shape_of(header: Header, kind: u64, layer: u64) -> Shape
     ensures { λ r. ⌜ r ≡ layout header kind layer ⌝ }
 {
     Shape {

@@ -63,7 +63,7 @@ module _ (a : Axis) (ok : AxisRules longitudes a) where
       g ∙ ap (λ (x : ℕ). s * x) m
 
   -- in the strip the columns and the step from the last to the first come to a full turn; else the last column closes it
-  strip-turn : Strip a → s * nodes a ≡ 3600
+  pub strip-turn : Strip a → s * nodes a ≡ 3600
   strip-turn h =
       let z : ℤ = a .last -ℤ a .first in
       let r = parts-le (pos 0) z (ok .together .2 .from) in

@@ -87,7 +87,7 @@ pub fn is_present(kind: u64, mark: u8) -> bool
 }
 
 // The number of a node's block among all of its kind.
-fn block_of(n: Weighed, s: Shape) -> u64
+pub fn block_of(n: Weighed, s: Shape) -> u64
     requires { ⌜ (block s n < 2_000_000) × (1 ≤ s .rows) ⌝ }
     ensures { λ r. ⌜ r ≡ block s n ⌝ }
 {
@@ -95,7 +95,7 @@ fn block_of(n: Weighed, s: Shape) -> u64
 }
 
 // Where the exponents of the kind start.
-fn first_exponent(s: Shape) -> u64
+pub fn first_exponent(s: Shape) -> u64
     requires { ⌜ (s .kind < 3) × (s .layers * s .rows ≤ 2_000_000) × (s .maps * (s .layers * s .rows) ≤ 2_000_000) ⌝ }
     ensures { λ r. ⌜ r ≡ s .kind * (s .maps * (s .layers * s .rows)) ⌝ }
 {

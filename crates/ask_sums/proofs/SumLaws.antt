@@ -7,18 +7,19 @@ use Prim.Native.Nat.{ℕ, zero, suc, _+_, _-_, _≤_, _<_}
 use native.Mathlib.Nat.{mul-le-mul, le-refl, zero-add, add-assoc}
 use native.Mathlib.Omega.{arith}
 use lib.IntN.{ℤ, pos, natAbs, _+ℤ_, _*ℤ_, +ℤ-idr, +ℤ-idl, +ℤ-assoc, zero-*ℤ}
-use lib.ListN.{length, getD, drop}
+use lib.ListN.{length, getD, drop, length-append}
 use lib.Seq.{drop-cons}
+use native.Mathlib.Decide.{decLt}
 use native.Mathlib.Numerals.{add-one}
 use Rattle.kit.proofs.Parts.{abs-add-scaled}
-use Rattle.kit.specs.Answer.{All}
+use Rattle.kit.specs.Answer.{All, pick}
 use Rattle.mapset.specs.declared.Kind.{Kind}
 use Rattle.mapset.specs.declared.Kind.the-variants.{Tec as tec, Rms as rms, Height as height}
 use Rattle.ask_nodes.specs.Value.{kind-of, value}
 use Rattle.ask_nodes.specs.Nodes.{in-node, Small, or-zero, corner, bare}
 use Rattle.ask_nodes.proofs.NodeLaws.{small-value, bare-node}
-use Rattle.ask_sums.specs.Mean.{Term, Valued, valued?, corners, spread, terms, weighted, weight}
-use Rattle.ask_sums.specs.Sums.{in-sum, add-node, add-value, add-all, Fits, Room, Ready}
+use Rattle.ask_sums.specs.Mean.{left, right, next-left, next-right, by-column, Term, Valued, valued?, corners, spread, terms, weighted, weight}
+use Rattle.ask_sums.specs.Sums.{four, beside, in-sum, add-node, add-value, add-all, Fits, Room, Ready}
 use Rattle.ask_cells.specs.declared.Cell.{Cell}
 use Rattle.ask_spans.specs.declared.Shares.{Shares}
 use Rattle.ask_nodes.specs.declared.Shape.{Shape}
@@ -135,20 +136,62 @@ late-at : (l m : List Weighed) (d : Weighed) (k : ℕ) → getD (l ++ m) (length
 late-at [] m d k = rw (zero-add k) refl
 late-at (n ∷ l) m d k = let e : suc (length l) + k ≡ suc (length l + k) = omega arith in rw e (late-at l m d k)
 
+-- the nodes of a cell come in one of two orders
+module _ (t m : ℕ) (c : Cell) where
+  pub corners-elim : (Q : List Weighed → Type 0) → (¬ (c .right < c .column) → Q (four t m c)) → (c .right < c .column → Q (right t m c ∷ left t m c ∷ next-right t m c ∷ next-left t m c ∷ [])) → Q (corners t m c)
+  unfolding corners by-column pick
+  corners-elim Q f g = by (decLt (c .right) (c .column))
+    where
+      by : (d : Dec (c .right < c .column)) → Q (pick d (right t m c ∷ left t m c ∷ []) (left t m c ∷ right t m c ∷ []) ++ pick d (next-right t m c ∷ next-left t m c ∷ []) (next-left t m c ∷ next-right t m c ∷ []))
+      by (yes p) = g p
+      by (no n) = f n
+
+  pub all-corners : (P : Weighed → Type 0) → P (left t m c) → P (right t m c) → P (next-left t m c) → P (next-right t m c) → All P (corners t m c)
+  all-corners P a b d e = corners-elim (All P) (λ n. (a, (b, (d, (e, tt))))) (λ p. (b, (a, (e, (d, tt)))))
+
+  pub four-nodes : length (corners t m c) ≡ 4
+  four-nodes = corners-elim (λ ns. length ns ≡ 4) (λ n. refl) (λ p. refl)
+
+  -- place k of either order
+  pub plain-node : (k : ℕ) → ¬ (c .right < c .column) → getD (corners t m c) k (corner 0 0 0 0) ≡ getD (four t m c) k (corner 0 0 0 0)
+  plain-node k n = corners-elim (λ ns. getD ns k (corner 0 0 0 0) ≡ getD (four t m c) k (corner 0 0 0 0)) (λ h. refl) (λ p. absurd (n p))
+
+  pub strip-node : (k : ℕ) → k < 4 → c .right < c .column → getD (corners t m c) k (corner 0 0 0 0) ≡ getD (four t m c) (beside k) (corner 0 0 0 0)
+  strip-node k h p = corners-elim (λ ns. getD ns k (corner 0 0 0 0) ≡ getD (four t m c) (beside k) (corner 0 0 0 0)) (λ n. absurd (n p)) (λ q. at k h)
+    where
+      at : (k : ℕ) → k < 4 → getD (right t m c ∷ left t m c ∷ next-right t m c ∷ next-left t m c ∷ []) k (corner 0 0 0 0) ≡ getD (four t m c) (beside k) (corner 0 0 0 0)
+      at zero h = refl
+      at (suc zero) h = refl
+      at (suc (suc zero)) h = refl
+      at (suc (suc (suc zero))) h = refl
+      at (suc (suc (suc (suc k)))) h = absurd (omega arith)
+
+pub beside-less : (k : ℕ) → beside k < 4
+beside-less zero = omega arith
+beside-less (suc zero) = omega arith
+beside-less (suc (suc zero)) = omega arith
+beside-less (suc (suc (suc k))) = omega arith
+
+pub beside-last : (k : ℕ) → 3 ≤ k → 2 ≡ beside k
+beside-last zero h = absurd (omega arith)
+beside-last (suc zero) h = absurd (omega arith)
+beside-last (suc (suc zero)) h = absurd (omega arith)
+beside-last (suc (suc (suc k))) h = refl
+
 module _ (h : Shares) (first second : Cell) (k : ℕ) where
   pub early-node : k < 4 → getD (spread h first second) k (corner 0 0 0 0) ≡ getD (corners (h .early) (h .map) first) k (corner 0 0 0 0)
-  unfolding spread corners
-  early-node i = early-at (corners (h .early) (h .map) first) (corners (h .late) (h .map + 1) second) (corner 0 0 0 0) k i
+  unfolding spread
+  early-node i = early-at (corners (h .early) (h .map) first) (corners (h .late) (h .map + 1) second) (corner 0 0 0 0) k (omega (arith, four-nodes (h .early) (h .map) first))
 
   pub late-node : 4 ≤ k → getD (spread h first second) k (corner 0 0 0 0) ≡ getD (corners (h .late) (h .map + 1) second) (k - 4) (corner 0 0 0 0)
-  unfolding spread corners
+  unfolding spread
   late-node i =
-      let e : 4 + (k - 4) ≡ k = omega arith in
+      let e : length (corners (h .early) (h .map) first) + (k - 4) ≡ k = omega (arith, four-nodes (h .early) (h .map) first) in
       rw e at (late-at (corners (h .early) (h .map) first) (corners (h .late) (h .map + 1) second) (corner 0 0 0 0) (k - 4))
 
 pub eight-nodes : (h : Shares) (first second : Cell) → length (spread h first second) ≡ 8
-unfolding spread corners
-eight-nodes h first second = refl
+unfolding spread
+eight-nodes h first second = length-append (corners (h .early) (h .map) first) (corners (h .late) (h .map + 1) second) ∙ ap₂ _+_ (four-nodes (h .early) (h .map) first) (four-nodes (h .late) (h .map + 1) second)
 
 -- ---- what a sum comes to is ready to be told
 small-terms : (s : Shape) (vs ks : List ℤ) (ms : List ℕ) (ns : List Weighed) → All (λ (t : Term). Small (t .1)) (terms s vs ks ms ns)

@@ -5,7 +5,7 @@ use mathlib.Core.List.{List, [], _∷_, _++_}
 use mathlib.Core.Option.{Option, none, some}
 use Prim.Native.Nat.{ℕ, _+_, _-_, _*_}
 use lib.IntN.{ℤ, pos, _+ℤ_, _*ℤ_}
-use native.Mathlib.Decide.{ℕ-discrete}
+use native.Mathlib.Decide.{ℕ-discrete, decLt}
 use Rattle.kit.specs.Answer.{All, all-dec, pick, ⊎-dec}
 use Rattle.ask_round.specs.Round.{Nearest, rounded}
 use Rattle.ask_nodes.specs.Value.{value}
@@ -16,13 +16,26 @@ use Rattle.ask_nodes.specs.declared.Shape.{Shape}
 use Rattle.ask_nodes.specs.Nodes.{corner, or-zero}
 
 -- ---- the four nodes of a cell: 001's four-point formula times `tall` times `wide`, and a map's share
+
+abbrev pub left : ℕ → ℕ → Cell → Weighed
+left share map c = corner (share * ((c .tall - c .down) * (c .wide - c .across))) map (c .row) (c .column)
+
+abbrev pub right : ℕ → ℕ → Cell → Weighed
+right share map c = corner (share * ((c .tall - c .down) * c .across)) map (c .row) (c .right)
+
+abbrev pub next-left : ℕ → ℕ → Cell → Weighed
+next-left share map c = corner (share * (c .down * (c .wide - c .across))) map (c .row + 1) (c .column)
+
+abbrev pub next-right : ℕ → ℕ → Cell → Weighed
+next-right share map c = corner (share * (c .down * c .across)) map (c .row + 1) (c .right)
+
+-- two nodes of a row by their column's number: where the right column is the first of the grid, the right one comes first
+unfoldable pub by-column : Cell → Weighed → Weighed → List Weighed
+by-column c l r = pick (decLt (c .right) (c .column)) (r ∷ l ∷ []) (l ∷ r ∷ [])
+
+-- the row's two, then the next row's
 unfoldable pub corners : ℕ → ℕ → Cell → List Weighed
-corners share map c =
-    corner (share * ((c .tall - c .down) * (c .wide - c .across))) map (c .row) (c .column)
-    ∷ corner (share * ((c .tall - c .down) * c .across)) map (c .row) (c .right)
-    ∷ corner (share * (c .down * (c .wide - c .across))) map (c .row + 1) (c .column)
-    ∷ corner (share * (c .down * c .across)) map (c .row + 1) (c .right)
-    ∷ []
+corners share map c = by-column c (left share map c) (right share map c) ++ by-column c (next-left share map c) (next-right share map c)
 
 -- the nodes of a map and of the next one with their weights, each map with a cell of its own
 unfoldable pub spread : Shares → Cell → Cell → List Weighed

@@ -9,7 +9,7 @@ use Rattle.kit.specs.Answer.{All}
 use Rattle.mapset.specs.declared.Kind.{Kind}
 use Rattle.mapset.specs.declared.Kind.the-variants.{Tec as tec, Rms as rms, Height as height}
 use Rattle.ask_nodes.specs.Nodes.{Reached, Small, in-node, bare}
-use Rattle.ask_sums.specs.Mean.{spread, Term, terms, weight}
+use Rattle.ask_sums.specs.Mean.{left, right, next-left, next-right, spread, Term, terms, weight}
 use Rattle.ask_cells.specs.declared.Cell.{Cell}
 use Rattle.ask_spans.specs.declared.Shares.{Shares}
 use Rattle.ask_nodes.specs.declared.Weighed.{Weighed}
@@ -40,6 +40,19 @@ pub record Summable (values exponents : List ℤ) (marks : List ℕ) (s : Shape)
   pub map : h .map ≤ 1000
   pub reaches : All (Reaches values exponents marks s) (spread h first second)
   pub weights : weight (terms s values exponents marks (spread h first second)) ≤ 64_800_000_000
+
+-- ---- nodes
+
+-- those of a cell, each row's right one behind the other
+abbrev pub four : ℕ → ℕ → Cell → List Weighed
+four share map c = left share map c ∷ right share map c ∷ next-left share map c ∷ next-right share map c ∷ []
+
+-- the place of the other node of the row
+abbrev pub beside : ℕ → ℕ
+beside zero = 1
+beside (suc zero) = 0
+beside (suc (suc zero)) = 3
+beside (suc (suc (suc k))) = 2
 
 -- ---- sums
 

@@ -6,7 +6,7 @@ ghost use lib.ListN.{getD};
 ghost use Rattle.ask_nodes.specs.Nodes.{corner};
 ghost use Rattle.ask_nodes.specs.Value.{kind-of, value};
 ghost use Rattle.ask_sums.specs.Mean.{corners, spread, terms};
-ghost use Rattle.ask_sums.specs.Sums.{Reaches, Shared, Summable, Room, InRange, in-sum, add-node, add-value, add-all};
+ghost use Rattle.ask_sums.specs.Sums.{Reaches, Shared, Summable, Room, InRange, four, beside, in-sum, add-node, add-value, add-all};
 use ask_cells::Cell;
 use ask_nodes::Node;
 use ask_nodes::Shape;
@@ -94,10 +94,10 @@ fn weigh(share: u64, a: u64, b: u64, map: u64, row: u64, column: u64) -> Weighed
     }
 }
 
-// The nodes of a cell: its row's two, then the next row's.
-fn corner_of(share: u64, map: u64, c: Cell, k: u64) -> Weighed
+// The nodes of a cell: its row's left and right one, then the next row's.
+fn cell_node(share: u64, map: u64, c: Cell, k: u64) -> Weighed
     requires { ⌜ Shared share c × (k < 4) ⌝ }
-    ensures { λ r. ⌜ r ≡ getD (corners share map c) k (corner 0 0 0 0) ⌝ }
+    ensures { λ r. ⌜ r ≡ getD (four share map c) k (corner 0 0 0 0) ⌝ }
 {
     match k {
         0 => weigh(
@@ -114,8 +114,31 @@ fn corner_of(share: u64, map: u64, c: Cell, k: u64) -> Weighed
     }
 }
 
-// The nodes that a question looks at, those of the earlier map first.
-fn nth_node(shares: Shares, first: Cell, second: Cell, k: u64) -> Weighed
+// The place of the row's other node.
+fn other(k: u64) -> u64
+    ensures { λ r. ⌜ r ≡ beside k ⌝ }
+{
+    match k {
+        0 => 1,
+        1 => 0,
+        2 => 3,
+        _ => 2,
+    }
+}
+
+// The nodes of a cell, in each row by their column's number.
+fn corner_of(share: u64, map: u64, c: Cell, k: u64) -> Weighed
+    requires { ⌜ Shared share c × (k < 4) ⌝ }
+    ensures { λ r. ⌜ r ≡ getD (corners share map c) k (corner 0 0 0 0) ⌝ }
+{
+    if c.right < c.column {
+        return cell_node(share, map, c, other(k));
+    }
+    cell_node(share, map, c, k)
+}
+
+// The nodes that a question looks at, in the order map, row, column.
+pub fn nth_node(shares: Shares, first: Cell, second: Cell, k: u64) -> Weighed
     requires { ⌜ Shared (shares .early) first × Shared (shares .late) second × (shares .map ≤ 1000) × (k < 8) ⌝ }
     ensures { λ r. ⌜ r ≡ getD (spread shares first second) k (corner 0 0 0 0) ⌝ }
 {

@@ -165,7 +165,7 @@ pub fn put_written(answer: Written, count: &mut [u64]) -> u64
 // ---- Asking
 
 // 01's number of a refusal.
-fn number_of(why: Why) -> u64
+pub fn number_of(why: Why) -> u64
     ensures { λ r. ⌜ r ≡ number why ⌝ }
 {
     match why {

@@ -43,7 +43,7 @@ use Rattle.reading.proofs.Exact.{refused-unmade}
 use Rattle.ask_round.specs.Round.{rounded}
 use Rattle.ask_cells.specs.Found.{strip?, after}
 use Rattle.ask_nodes.specs.Value.{is-value?, worth, value}
-use Rattle.ask_sums.specs.Mean.{corners, spread, terms, weighted, weight, valued?, mean}
+use Rattle.ask_sums.specs.Mean.{by-column, corners, spread, terms, weighted, weight, valued?, mean}
 use Rattle.ask.specs.Ask.{Question, question, Told, tecu, Answers}
 use Rattle.ask.proofs.Sample.{axis, absent, header, texts}
 use Rattle.ask.proofs.Reckoned.{gives, holds, reckoned, known?, timely?, same-told}
@@ -206,5 +206,5 @@ all-right [] h = tt
 all-right (f ∷ fs) h = let b = both (test f) (every fs) h in (sound f (b .0), all-right fs (b .1))
 
 pub figures : All Right table
-unfolding table truth dated second sum yearDays monthDays isLeap natural? within? readField numberOf formed? pick ×-dec ⊎-dec ¬-dec all-dec same sames decLe decLt ℕ-discrete int? le? lt? between? cells number blank pad need amap read begin feed split short header texts axis absent sound? dec-by sound-says? header? version? lines? texts? written? printable? times? model? grid? axis? end? step? together? ×₃-dec ×₄-dec multiple? count? systems? system? dimension? limits? epochs? starts? runs? run? follows? marks? lengths? nowhere? present? known? timely? same-told strip? after rounded mean valued? weighted weight terms spread corners value worth is-value?
+unfolding table truth dated second sum yearDays monthDays isLeap natural? within? readField numberOf formed? pick ×-dec ⊎-dec ¬-dec all-dec same sames decLe decLt ℕ-discrete int? le? lt? between? cells number blank pad need amap read begin feed split short header texts axis absent sound? dec-by sound-says? header? version? lines? texts? written? printable? times? model? grid? axis? end? step? together? ×₃-dec ×₄-dec multiple? count? systems? system? dimension? limits? epochs? starts? runs? run? follows? marks? lengths? nowhere? present? known? timely? same-told strip? after rounded mean valued? weighted weight terms spread corners by-column value worth is-value?
 figures = all-right table tt

@@ -37,7 +37,8 @@ use Rattle.join.specs.Into.{Lent, lent, meaning, MayLent}
 use Rattle.join_ask.proofs.Epochs.{moved}
 use Rattle.join_ask.proofs.Values.{worth-same}
 use Rattle.join_ask.proofs.Terms.{later}
-use Rattle.join_ask.proofs.Parts.{Stands, asked-of-whole}
+use Rattle.ask.proofs.Standing.{Stands}
+use Rattle.join_ask.proofs.Parts.{asked-of-whole}
 use Rattle.join_ask.proofs.AskJoined.{asking, formed-sound, ask-late, ask-early}
 
 -- ---- only what is needed is looked at

@@ -1,12 +1,13 @@
 -- A question to part of a set: where its nodes stand d maps later in the whole, the whole answers as the part does.
-use mathlib.Core.Path.{_≡_, sym, ap, subst, _∙_}
+use mathlib.Core.Path.{_≡_, refl, sym, ap, ap₂, subst, _∙_}
 use mathlib.Core.Logic.{_⊎_, inl, inr, ⊎-elim}
-use mathlib.Core.List.{List, _++_, map}
+use mathlib.Core.List.{List, [], _∷_, _++_, map, map-append}
 use Prim.Native.Nat.{ℕ, _+_, _<_}
+use native.Mathlib.Decide.{decLt}
 use native.Mathlib.Omega.{arith}
 use lib.IntN.{ℤ}
-use Rattle.kit.specs.Answer.{All}
-use Rattle.kit.proofs.ListLaws.{all-append, all-turn}
+use Rattle.kit.specs.Answer.{All, pick}
+use Rattle.kit.proofs.ListLaws.{all-turn}
 use Rattle.mapset.specs.Grid.{layers, rows, columns}
 use Rattle.mapset.specs.Areas.{Areas, Sound}
 use Rattle.mapset.specs.declared.Grid.{Grid}
@@ -18,9 +19,10 @@ use Rattle.ask_spans.specs.Time.{epoch, Uses}
 use Rattle.ask_spans.specs.declared.Shares.{Shares}
 use Rattle.ask_nodes.specs.Value.{kind-of}
 use Rattle.ask_nodes.specs.declared.Weighed.{Weighed}
-use Rattle.ask_sums.specs.Mean.{corners, spread}
+use Rattle.ask_sums.specs.Mean.{left, right, next-left, next-right, by-column, corners, spread}
 use Rattle.ask.specs.Sun.{in-time, unit-of, lon-at, CellAt, Cells}
 use Rattle.ask.specs.Ask.{Question, Told, stop, go, epochs, Served, InTime, area, shape, question, Answers}
+use Rattle.ask.proofs.Standing.{Stands, Light, spread-stand}
 use Rattle.join_ask.proofs.Terms.{later, Agrees, like-terms, like-answer}
 use Rattle.join_ask.proofs.Epochs.{moved}
 
@@ -29,54 +31,22 @@ with-grid g h =
     record { version = h .version; times = h .times; model = h .model; grid = g; stations = h .stations; satellites = h .satellites; systems = h .systems; descriptions = h .descriptions }
 
 -- ---- the nodes d maps later
+corners-later : (d t m : ℕ) (c : Cell) → map (later d) (corners t m c) ≡ corners t (d + m) c
+unfolding corners by-column pick
+corners-later d t m c = by (decLt (c .right) (c .column))
+  where
+    by : (o : Dec (c .right < c .column)) →
+        map (later d) (pick o (right t m c ∷ left t m c ∷ []) (left t m c ∷ right t m c ∷ []) ++ pick o (next-right t m c ∷ next-left t m c ∷ []) (next-left t m c ∷ next-right t m c ∷ []))
+        ≡ pick o (right t (d + m) c ∷ left t (d + m) c ∷ []) (left t (d + m) c ∷ right t (d + m) c ∷ []) ++ pick o (next-right t (d + m) c ∷ next-left t (d + m) c ∷ []) (next-left t (d + m) c ∷ next-right t (d + m) c ∷ [])
+    by (yes p) = refl
+    by (no n) = refl
+
 spread-later : (d : ℕ) (s : Shares) (c e : Cell) → map (later d) (spread s c e) ≡ spread (moved d s) c e
-unfolding spread corners
-spread-later d s c e = let o : d + (s .map + 1) ≡ d + s .map + 1 = omega arith in ap (λ m. corners (s .early) (d + s .map) c ++ corners (s .late) m e) o
-
-module _ (g : Grid) (N : ℕ) where
-  -- of N maps, in the grid
-  pub record Stands (w : Weighed) : Type 0 where
-    pub map : w .map < N
-    pub row : w .row < rows g
-    pub column : w .column < columns g
-
-  abbrev pub Light : Weighed → Type 0
-  Light w = (w .weight ≡ 0) ⊎ Stands w
-
-  -- without a share no corner has weight
-  corners-light : (c : Cell) (t m : ℕ) → t ≡ 0 → All Light (corners t m c)
-  unfolding corners
-  corners-light c t m z = (inl (rw z (omega arith)), (inl (rw z (omega arith)), (inl (rw z (omega arith)), (inl (rw z (omega arith)), tt))))
-
-  corners-stand : (unit : ℕ) (lat lon : ℤ) (c : Cell) → InCell unit g lat lon c → (t m : ℕ) → m < N → All Light (corners t m c)
-  unfolding corners
-  corners-stand unit lat lon c i t m h =
-      let r = i .row .sits in
-      let k = i .column .sits in (
-        inr (record { map = h; row = r .node; column = k .node }),
-        (
-          ⊎-elim (λ z. inl (rw z (omega arith))) (λ e. inr (record { map = h; row = r .node; column = e })) (k .next),
-          (
-            ⊎-elim (λ z. inl (rw z (omega arith))) (λ d. inr (record { map = h; row = d; column = k .node })) (r .next),
-            (⊎-elim (λ z. inl (rw z (omega arith))) (λ e. ⊎-elim (λ z. inl (rw z (omega arith))) (λ d. inr (record { map = h; row = d; column = e })) (r .next)) (k .next), tt),
-          ),
-        ),
-      )
-
-  -- each map has its own cell
-  spread-stand : (method : ℕ) (lat lon : ℤ) (t : ℕ) (es : List ℕ) (s : Shares) (c e : Cell) → Cells method g lat lon t es s c e
-      → s .map < N → (s .late ≡ 0) ⊎ (s .map + 1 < N) → All Light (spread s c e)
-  unfolding spread
-  spread-stand method lat lon t es s c e x h o =
-      all-append Light (corners (s .early) (s .map) c) (corners (s .late) (s .map + 1) e)
-      (corners-stand (unit-of method) lat (lon-at method lon t (epoch es (s .map))) c (x .first-in) (s .early) (s .map) h)
-      (behind (x .second-in) o)
-    where
-      behind : ((s .late ≡ 0) × (e ≡ c)) ⊎ ((0 < s .late) × CellAt method g lat lon t (epoch es (s .map + 1)) e) → (s .late ≡ 0) ⊎ (s .map + 1 < N)
-          → All Light (corners (s .late) (s .map + 1) e)
-      behind (inl z) o = corners-light e (s .late) (s .map + 1) (z .0)
-      behind (inr z) (inl w) = corners-light e (s .late) (s .map + 1) w
-      behind (inr z) (inr w) = corners-stand (unit-of method) lat (lon-at method lon t (epoch es (s .map + 1))) e (z .1) (s .late) (s .map + 1) w
+unfolding spread
+spread-later d s c e =
+    let o : d + (s .map + 1) ≡ d + s .map + 1 = omega arith in
+    map-append (later d) (corners (s .early) (s .map) c) (corners (s .late) (s .map + 1) e)
+    ∙ ap₂ _++_ (corners-later d (s .early) (s .map) c) (corners-later d (s .late) (s .map + 1) e ∙ ap (λ m. corners (s .late) m e) o)
 
 -- the cells stay where the epochs of the maps do
 cells-later : (method : ℕ) (g : Grid) (lat lon : ℤ) (t : ℕ) (es fs : List ℕ) (d : ℕ) (s : Shares) (c e : Cell)

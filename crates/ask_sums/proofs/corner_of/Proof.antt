@@ -1,83 +1,34 @@
 -- `ask_sums::corner_of` meets its contract.
-use mathlib.Core.Path.{_≡_, refl}
-use Prim.Native.Nat.{ℕ, _*_, _≤_}
-use native.Mathlib.Nat.{mul-le-mul, le-refl}
+use borrow.Author.Needs.{needs}
+use mathlib.Core.Path.{sym, ap, _∙_}
+use Prim.Native.Nat.{ℕ}
 use native.Mathlib.Omega.{arith}
-use Rattle.ask_cells.specs.declared.Cell.{Cell}
-use Rattle.ask_sums.specs.Mean.{corners}
-use Rattle.ask_sums.specs.Sums.{Shared}
+use lib.ListN.{getD}
+use Rattle.ask_nodes.specs.Nodes.{corner}
+use Rattle.ask_sums.specs.Sums.{four}
+use Rattle.ask_sums.proofs.SumLaws.{plain-node, strip-node, beside-less}
 use Rattle.ask_sums.proofs.corner_of.Statement.{statement}
 use Rattle.ask_sums.proofs.corner_of.Tie as tie
 
--- a part of the cell weighs no more than the whole
-weighs : {share : ℕ} {c : Cell} {a b : ℕ} → Shared share c → a ≤ c .tall → b ≤ c .wide → (a ≤ 1500) × (b ≤ 6000) × (share * (a * b) ≤ 64_800_000_000)
-weighs {share} p h k =
-    (omega (arith, p .tall), omega (arith, p .wide), omega (arith, p .weights, mul-le-mul (le-refl share) (mul-le-mul h k)))
+other-requires : tie.Need-other-requires
+other-requires c κs = search needs
 
-sub-weigh : tie.Need-sub-weigh
-sub-weigh c = let h = c .before .before .pre .0 .down in omega arith
-
-sub-weigh-2 : tie.Need-sub-weigh-2
-sub-weigh-2 c = let h = c .before .before .before .pre .0 .across in omega arith
-
-weigh-requires : tie.Need-weigh-requires
-weigh-requires c κs = let p = c .before .before .before .pre .0 in weighs p (omega (arith, p .down)) (omega (arith, p .across))
-
-sub-weigh-3 : tie.Need-sub-weigh-3
-sub-weigh-3 c = let h = c .before .before .pre .0 .down in omega arith
-
-weigh-requires-2 : tie.Need-weigh-requires-2
-weigh-requires-2 c κs = let p = c .before .before .pre .0 in weighs p (omega (arith, p .down)) (omega (arith, p .across))
-
-sub-weigh-4 : tie.Need-sub-weigh-4
-sub-weigh-4 c = let h = c .before .before .pre .0 .across in omega arith
-
-add-weigh : tie.Need-add-weigh
-add-weigh c = let h = c .before .before .before .pre .0 .row in omega arith
-
-weigh-requires-3 : tie.Need-weigh-requires-3
-weigh-requires-3 c κs = let p = c .before .before .before .pre .0 in weighs p (omega (arith, p .down)) (omega (arith, p .across))
-
-add-weigh-2 : tie.Need-add-weigh-2
-add-weigh-2 c = let h = c .before .before .pre .0 .row in omega arith
-
-weigh-requires-4 : tie.Need-weigh-requires-4
-weigh-requires-4 c κs = let p = c .before .before .pre .0 in weighs p (omega (arith, p .down)) (omega (arith, p .across))
+cell-node-requires : tie.Need-cell-node-requires
+cell-node-requires c κs = let s = c .before .before .before in (s .pre .0, omega (arith, c .other .ensures, beside-less (s .args .k)))
 
 returns : tie.Need-returns
-unfolding corners
-returns c = rw (c .before .before .before .match .keys1, c .weigh .ensures) refl
+returns c =
+    let s = c .before .before .before .before in
+    let a = s .args in
+    c .cell-node .ensures ∙ ap (λ (k : ℕ). getD (four (a .share) (a .map) (a .c)) k (corner 0 0 0 0)) (c .before .other .ensures) ∙ sym (strip-node (a .share) (a .map) (a .c) (a .k) (s .pre .1) (c .before .before .if1 .taken))
+
+cell-node-requires-2 : tie.Need-cell-node-requires-2
+cell-node-requires-2 c κs = c .before .before .pre
 
 returns-2 : tie.Need-returns-2
-unfolding corners
-returns-2 c = rw (c .before .before .match .keys2, c .weigh2 .ensures) refl
-
-returns-3 : tie.Need-returns-3
-unfolding corners
-returns-3 c = rw (c .before .before .before .match .keys3, c .weigh3 .ensures) refl
-
-returns-4 : tie.Need-returns-4
-unfolding corners
-returns-4 c =
-    let m = c .before .before in
-    let e : m .before .args .k ≡ 3 = omega (arith, m .match .rest, m .before .pre .1) in
-    rw (e, c .weigh4 .ensures) refl
+returns-2 c =
+    let a = c .before .before .before .args in
+    c .cell-node2 .ensures ∙ sym (plain-node (a .share) (a .map) (a .c) (a .k) (λ p. omega (arith, p, c .before .if1 .left)))
 
 pub corner-of-spec : {M : Type 1} → statement M
-corner-of-spec =
-    tie.close
-    (tie.spec
-    sub-weigh
-    sub-weigh-2
-    weigh-requires
-    sub-weigh-3
-    weigh-requires-2
-    sub-weigh-4
-    add-weigh
-    weigh-requires-3
-    add-weigh-2
-    weigh-requires-4
-    returns
-    returns-2
-    returns-3
-    returns-4)
+corner-of-spec = tie.close (tie.spec other-requires cell-node-requires returns cell-node-requires-2 returns-2)

@@ -18,7 +18,7 @@ use records::Record;
 use state::{Stage, State};
 
 /// What is told of a refused text beside its number, line and column.
-pub struct Explanation {
+pub struct Diagnosis {
     pub expected: String,
     pub hints: Vec<String>,
     /// The line that is shown, the first column of its mark and the mark's width.
@@ -59,7 +59,7 @@ impl Place<'_> {
 }
 
 /// Explains refusal `number`, 1 to 10, of a text at a line and column.
-pub fn explain(text: &[u8], number: u64, line: u64, column: u64) -> Explanation {
+pub fn diagnose(text: &[u8], number: u64, line: u64, column: u64) -> Diagnosis {
     let bytes = text::line(text, line).unwrap_or(b"");
     let card = text::card(bytes);
     let state = State::before(text, line);
@@ -77,7 +77,7 @@ pub fn explain(text: &[u8], number: u64, line: u64, column: u64) -> Explanation 
         record,
         state,
     };
-    Explanation {
+    Diagnosis {
         expected: expected(&place),
         hints: hints::hints(&place),
         mark: mark(&place),

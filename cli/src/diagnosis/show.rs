@@ -1,6 +1,6 @@
 //! A refused place as compilers print it: the line, a mark under the column, and words.
 
-use super::Explanation;
+use super::Diagnosis;
 use crate::output::Style;
 use crate::text;
 use std::fmt::Write;
@@ -9,10 +9,10 @@ use std::fmt::Write;
 const SHOWN: usize = 100;
 
 /// The lines below `FILE:LINE:COLUMN: refused …`, without the last line end.
-pub fn show(text: &[u8], explanation: &Explanation, style: Style) -> String {
+pub fn show(text: &[u8], diagnosis: &Diagnosis, style: Style) -> String {
     let mut out = String::new();
     let mut margin = 4;
-    if let Some(mark) = explanation.mark {
+    if let Some(mark) = diagnosis.mark {
         let number = mark.line.to_string();
         margin = number.len().max(4);
         let line = shown(text::line(text, mark.line).unwrap_or(b""));
@@ -22,8 +22,8 @@ pub fn show(text: &[u8], explanation: &Explanation, style: Style) -> String {
         let mark = style.green(&format!("^{tail}"));
         let _ = writeln!(out, " {:margin$} | {blanks}{mark}", "");
     }
-    let _ = write!(out, " {:margin$} = expected {}", "", explanation.expected);
-    for hint in &explanation.hints {
+    let _ = write!(out, " {:margin$} = expected {}", "", diagnosis.expected);
+    for hint in &diagnosis.hints {
         let _ = write!(out, "\n {:margin$} = hint: {hint}", "");
     }
     out

@@ -1,0 +1,7 @@
+pub mod NodeList
+pub mod Once
+pub mod Order
+pub mod Sample
+pub mod Shown
+pub mod WhyLaws
+pub mod Theorems

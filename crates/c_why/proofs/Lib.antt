@@ -1,0 +1,4 @@
+pub mod CrossLaws
+pub mod ExplainOnce
+pub mod SmallLaws
+pub mod Theorems

@@ -1,0 +1,2 @@
+-- The theorems told of explaining as it crosses.
+pub use Rattle.c_why.proofs.ExplainOnce.{ionex-explain-once}

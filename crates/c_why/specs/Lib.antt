@@ -1,0 +1,2 @@
+-- An explanation as it crosses to other languages.
+pub mod ExplainExported
