@@ -1,19 +1,47 @@
-//! Global files as the analysis centres make them: 25 maps of 71 rows and 73 columns.
+//! Global files as the analysis centres make them: 25 maps of 71 rows and 73 columns; the same in other forms; and
+//! large texts.
 
 use std::fmt::Write;
 
-const MAPS: usize = 25;
-const ROWS: usize = 71;
-const COLUMNS: usize = 73;
+/// The maps and the grid of a file: rows southward and layers upward, from the first by the step.
+struct Shape {
+    maps: usize,
+    rows: usize,
+    columns: usize,
+    layers: usize,
+    latitude: [f64; 2],
+    height: [f64; 2],
+}
 
-/// Elements of the six areas that such a file needs at most.
+const GLOBAL: Shape = Shape {
+    maps: 25,
+    rows: 71,
+    columns: 73,
+    layers: 1,
+    latitude: [87.5, -2.5],
+    height: [450.0, 0.0],
+};
+
+/// As many values as a file may have, each a block of its own.
+const ONE_COLUMN: Shape = Shape {
+    maps: 250,
+    rows: 200,
+    columns: 1,
+    layers: 40,
+    latitude: [50.0, -0.5],
+    height: [100.0, 10.0],
+};
+
+const VALUES: usize = GLOBAL.maps * GLOBAL.rows * GLOBAL.columns;
+
+/// Elements of the six areas that a global file needs at most.
 pub const NEEDS: [usize; 6] = [
-    MAPS * ROWS * COLUMNS,
-    MAPS * ROWS * COLUMNS,
-    MAPS * ROWS * COLUMNS,
-    3 * MAPS * ROWS,
-    MAPS,
-    MAPS,
+    VALUES,
+    VALUES,
+    VALUES,
+    3 * GLOBAL.maps * GLOBAL.rows,
+    GLOBAL.maps,
+    GLOBAL.maps,
 ];
 
 /// The text of a file with TEC maps and, if asked for, RMS maps.
@@ -23,17 +51,91 @@ pub fn global(with_rms: bool) -> String {
 
 /// The file of a day of January 2024.
 pub fn of_day(day: usize, with_rms: bool) -> String {
-    let mut text = header(day);
-    for map in 0..MAPS {
-        add_map(&mut text, "TEC", day, map, tec);
-    }
-    if with_rms {
-        for map in 0..MAPS {
-            add_map(&mut text, "RMS", day, map, rms);
+    let kinds: &[&str] = if with_rms { &["TEC", "RMS"] } else { &["TEC"] };
+    file(&GLOBAL, day, kinds)
+}
+
+/// 300 maps, as many as a file may have.
+pub fn many_maps() -> String {
+    let shape = Shape {
+        maps: 300,
+        ..GLOBAL
+    };
+    file(&shape, 1, &["TEC"])
+}
+
+/// One map of two rows, each of a full line of values and a short one.
+pub fn small() -> String {
+    let shape = Shape {
+        maps: 1,
+        rows: 2,
+        columns: 18,
+        ..GLOBAL
+    };
+    file(&shape, 1, &["TEC"])
+}
+
+pub fn one_column() -> String {
+    file(&ONE_COLUMN, 1, &["TEC"])
+}
+
+fn file(shape: &Shape, day: usize, kinds: &[&str]) -> String {
+    let mut text = header(shape, day);
+    for kind in kinds {
+        let value = if *kind == "TEC" { tec } else { rms };
+        for map in 0..shape.maps {
+            add_map(&mut text, shape, kind, day, map, value);
         }
     }
     record(&mut text, "", "END OF FILE");
     text
+}
+
+/// The file of TEC maps with CR LF.
+pub fn with_cr() -> String {
+    global(false).replace('\n', "\r\n")
+}
+
+/// The file of TEC maps in version 1.0, with 20 DESCRIPTION records.
+pub fn version_1_0() -> String {
+    let text = global(false).replacen("     1.1", "     1.0", 1);
+    let mut more = String::new();
+    for number in 2..=20 {
+        let body = format!("Line {number} of what the centre says about its model");
+        record(&mut more, &body, "DESCRIPTION");
+    }
+    in_header(&text, &more)
+}
+
+/// The file of TEC maps with an EXPONENT record before every block.
+pub fn with_exponents() -> String {
+    let mut text = String::new();
+    for line in global(false).lines() {
+        if line.ends_with(BLOCK) {
+            record(&mut text, "    -1", "EXPONENT");
+        }
+        text += line;
+        text.push('\n');
+    }
+    text
+}
+
+/// The file of TEC maps with so many COMMENT records in its header.
+pub fn with_comments(count: usize) -> String {
+    let mut line = String::new();
+    record(&mut line, "What the centre says besides", "COMMENT");
+    in_header(&global(false), &line.repeat(count))
+}
+
+/// The file of TEC maps with so many lines of this many blanks in its header.
+pub fn with_blanks(blanks: usize, count: usize) -> String {
+    let line = " ".repeat(blanks) + "\n";
+    in_header(&global(false), &line.repeat(count))
+}
+
+/// The text with lines more at the end of its header.
+fn in_header(text: &str, lines: &str) -> String {
+    text.replacen(END_OF_HEADER, &format!("{lines}{END_OF_HEADER}"), 1)
 }
 
 /// The file of TEC maps with a block of code biases: 32 satellites and so many stations.
@@ -50,18 +152,10 @@ pub fn with_biases(stations: usize) -> String {
         record(&mut block, &body, "STATION / BIAS / RMS");
     }
     record(&mut block, TITLE, "END OF AUX DATA");
-    global(false).replacen(END_OF_HEADER, &(block + END_OF_HEADER), 1)
+    in_header(&global(false), &block)
 }
 
-/// The file of TEC maps with so many COMMENT lines in its header.
-pub fn with_comments(lines: usize) -> String {
-    let mut remarks = String::new();
-    for line in 0..lines {
-        record(&mut remarks, &format!("remark {line}"), "COMMENT");
-    }
-    global(false).replacen(END_OF_HEADER, &(remarks + END_OF_HEADER), 1)
-}
-
+const BLOCK: &str = "LAT/LON1/LON2/DLON/H";
 const TITLE: &str = "DIFFERENTIAL CODE BIASES";
 const END_OF_HEADER: &str =
     "                                                            END OF HEADER";
@@ -75,13 +169,24 @@ fn record(text: &mut String, body: &str, label: &str) {
     writeln!(text, "{body:<60}{label}").expect("a string takes all");
 }
 
-fn date(day: usize, hour: usize) -> String {
+/// The epoch of a map: one an hour from the day's midnight.
+fn epoch(day: usize, map: usize) -> String {
+    let (day, hour) = (day + map / 24, map % 24);
     format!("  2024     1{day:>6}{hour:>6}     0     0")
 }
 
-fn header(day: usize) -> String {
+fn header(shape: &Shape, day: usize) -> String {
     let mut text = String::new();
-    let ends = [date(day, 0), date(day + 1, 0)];
+    let ends = [0, shape.maps - 1].map(|map| epoch(day, map));
+    let maps = format!("{:>6}", shape.maps);
+    let dimension = if shape.layers > 1 { "     3" } else { "     2" };
+    let axis = |[first, step]: [f64; 2], count: usize| {
+        let last = first + step * (count - 1) as f64;
+        format!("  {first:>6.1}{last:>6.1}{step:>6.1}")
+    };
+    let heights = axis(shape.height, shape.layers);
+    let latitudes = axis(shape.latitude, shape.rows);
+    let longitudes = axis([-180.0, 5.0], shape.columns);
     let records = [
         (
             "     1.1            IONOSPHERE MAPS     GNSS",
@@ -95,17 +200,17 @@ fn header(day: usize) -> String {
         (&ends[0], "EPOCH OF FIRST MAP"),
         (&ends[1], "EPOCH OF LAST MAP"),
         ("  3600", "INTERVAL"),
-        ("    25", "# OF MAPS IN FILE"),
+        (&maps, "# OF MAPS IN FILE"),
         ("  COSZ", "MAPPING FUNCTION"),
         ("    10.0", "ELEVATION CUTOFF"),
         ("One-way carrier phase leveled to code", "OBSERVABLES USED"),
         ("   254", "# OF STATIONS"),
         ("    55", "# OF SATELLITES"),
         ("  6371.0", "BASE RADIUS"),
-        ("     2", "MAP DIMENSION"),
-        ("   450.0 450.0   0.0", "HGT1 / HGT2 / DHGT"),
-        ("    87.5 -87.5  -2.5", "LAT1 / LAT2 / DLAT"),
-        ("  -180.0 180.0   5.0", "LON1 / LON2 / DLON"),
+        (dimension, "MAP DIMENSION"),
+        (&heights, "HGT1 / HGT2 / DHGT"),
+        (&latitudes, "LAT1 / LAT2 / DLAT"),
+        (&longitudes, "LON1 / LON2 / DLON"),
         ("    -1", "EXPONENT"),
         ("", "END OF HEADER"),
     ];
@@ -117,6 +222,7 @@ fn header(day: usize) -> String {
 
 fn add_map(
     text: &mut String,
+    shape: &Shape,
     kind: &str,
     day: usize,
     map: usize,
@@ -124,14 +230,16 @@ fn add_map(
 ) {
     let number = format!("{:>6}", map + 1);
     record(text, &number, &format!("START OF {kind} MAP"));
-    let epoch = date(day + map / 24, map % 24);
-    record(text, &epoch, "EPOCH OF CURRENT MAP");
-    for row in 0..ROWS {
-        let latitude = 87.5 - 2.5 * row as f64;
-        let opening = format!("  {latitude:>6.1}-180.0 180.0   5.0 450.0");
-        record(text, &opening, "LAT/LON1/LON2/DLON/H");
-        for from in (0..COLUMNS).step_by(16) {
-            for column in from..COLUMNS.min(from + 16) {
+    record(text, &epoch(day, map), "EPOCH OF CURRENT MAP");
+    let east = 5.0 * (shape.columns - 1) as f64 - 180.0;
+    let at = |[first, step]: [f64; 2], k: usize| first + step * k as f64;
+    for block in 0..shape.layers * shape.rows {
+        let (layer, row) = (block / shape.rows, block % shape.rows);
+        let (latitude, height) = (at(shape.latitude, row), at(shape.height, layer));
+        let opening = format!("  {latitude:>6.1}-180.0{east:>6.1}   5.0{height:>6.1}");
+        record(text, &opening, BLOCK);
+        for from in (0..shape.columns).step_by(16) {
+            for column in from..shape.columns.min(from + 16) {
                 write!(text, "{:>5}", value(map, row, column)).expect("a string takes all");
             }
             text.push('\n');

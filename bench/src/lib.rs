@@ -6,4 +6,6 @@ pub mod ask;
 pub mod calendar;
 pub mod files;
 pub mod join;
+mod lines;
 pub mod plain;
+mod rows;

@@ -1,5 +1,5 @@
-//! Times the library beside plain Rust that makes the same checks: reading two global files, asking, writing,
-//! and joining; and the library alone: an epoch moved, the biases of a header, and its COMMENT lines.
+//! Times the library beside plain Rust that makes the same checks: reading global files and large texts, asking,
+//! writing, and joining; and the library alone: an epoch moved, and the biases of a header.
 //! The last line is `ratio X`: the library's time over the plain reader's for the file of TEC maps.
 
 #![forbid(unsafe_code)]
@@ -17,8 +17,10 @@ use second::Question;
 use std::hint::black_box;
 use std::time::{Duration, Instant};
 
-/// Rounds of reading and writing, of asking, and questions in a round of asking.
+/// Rounds of reading and writing, of a header with many lines, of reading large texts, of asking, and questions in a round of asking.
 const ROUNDS: usize = 200;
+const HEADER_ROUNDS: usize = 20;
+const LARGE_ROUNDS: usize = 5;
 const ASKING_ROUNDS: usize = 50;
 const QUESTIONS: usize = 1000;
 
@@ -30,8 +32,21 @@ fn main() {
     }
     let tec = files::global(false);
     let both = files::global(true);
-    let ratio = report_reading("25 TEC maps", &tec);
-    report_reading("25 TEC and 25 RMS maps", &both);
+    let global = report_reading("25 TEC maps", &tec, ROUNDS);
+    report_reading("25 TEC and 25 RMS maps", &both, ROUNDS);
+    report_reading("25 TEC maps with CR LF", &files::with_cr(), ROUNDS);
+    report_reading(
+        "25 TEC maps in version 1.0, 20 DESCRIPTION lines",
+        &files::version_1_0(),
+        ROUNDS,
+    );
+    report_reading(
+        "25 TEC maps with EXPONENT before every block",
+        &files::with_exponents(),
+        ROUNDS,
+    );
+    report_header(&global);
+    report_growth(&global);
     let one = report_asking(&tec, 1);
     let two = report_asking(&tec, 2);
     let ratio_of = two / one;
@@ -42,8 +57,7 @@ fn main() {
     report_joining(&both, &files::of_day(2, true));
     report_biases(300);
     report_biases(2000);
-    report_comments(100_000);
-    println!("ratio {ratio:.2}");
+    println!("ratio {:.2}", global.ratio());
 }
 
 fn lent() -> Lent {
@@ -75,13 +89,43 @@ fn micros(time: Duration) -> f64 {
     time.as_secs_f64() * 1e6
 }
 
-/// Both readers in turn, on areas cleared first; gives the library's best time over the plain reader's.
-fn report_reading(name: &str, text: &str) -> f64 {
+/// The best times of both readers for a text, in microseconds, and its bytes.
+struct Times {
+    library: f64,
+    plain: f64,
+    bytes: usize,
+}
+
+impl Times {
+    fn ratio(&self) -> f64 {
+        self.library / self.plain
+    }
+
+    /// Nanoseconds per byte of both.
+    fn per_byte(&self) -> [f64; 2] {
+        [self.library, self.plain].map(|time| time * 1000.0 / self.bytes as f64)
+    }
+}
+
+/// The areas that a text needs.
+fn needs(text: &[u8]) -> [usize; 6] {
+    let mut needs = [0; 6];
+    let answer = Archive.needs(text, &mut needs, &mut [0; 2]);
+    assert_eq!(answer, 0, "the library refuses the file");
+    needs.map(|need| need as usize)
+}
+
+/// Both readers in turn, on areas cleared first.
+fn time_reading(text: &str, rounds: usize) -> Times {
     let text = text.as_bytes();
-    let mut ours = lent();
-    let mut plain = Buffers::filled(files::NEEDS, 1);
+    let needs = needs(text);
+    let mut ours = Lent {
+        areas: Buffers::filled(needs, 1),
+        ..lent()
+    };
+    let mut plain = Buffers::filled(needs, 1);
     let mut best = [Duration::MAX; 2];
-    for _ in 0..ROUNDS {
+    for _ in 0..rounds {
         clear(&mut ours.areas);
         let answer = timed(&mut best[0], || Archive.read(black_box(text), &mut ours));
         assert_eq!(answer, 0, "the library refuses the file");
@@ -91,9 +135,60 @@ fn report_reading(name: &str, text: &str) -> f64 {
     }
     assert!(ours.areas == plain, "the two readers disagree");
     let [library, plain] = best.map(micros);
+    Times {
+        library,
+        plain,
+        bytes: text.len(),
+    }
+}
+
+fn report_reading(name: &str, text: &str, rounds: usize) -> Times {
+    let times = time_reading(text, rounds);
+    println!(
+        "reading {name}: library {:.0} us, plain {:.0} us, ratio {:.2}",
+        times.library,
+        times.plain,
+        times.ratio()
+    );
+    times
+}
+
+/// What each COMMENT line of a header takes.
+fn report_header(global: &Times) {
+    const LINES: usize = 100_000;
+    let times = time_reading(&files::with_comments(LINES), HEADER_ROUNDS);
+    let each = |with: f64, without: f64| (with - without) * 1000.0 / LINES as f64;
+    let library = each(times.library, global.library);
+    let plain = each(times.plain, global.plain);
     let ratio = library / plain;
-    println!("reading {name}: library {library:.0} us, plain {plain:.0} us, ratio {ratio:.2}");
-    ratio
+    println!("one header line: library {library:.0} ns, plain {plain:.0} ns, ratio {ratio:.2}");
+}
+
+type NamedText = (&'static str, fn() -> String);
+
+/// The time per byte of large texts, against the global file's.
+fn report_growth(global: &Times) {
+    const LARGE: usize = 10_000_000;
+    let texts: [NamedText; 5] = [
+        ("lines of 80 blanks", || files::with_blanks(80, LARGE / 81)),
+        ("COMMENT lines", || files::with_comments(LARGE / 68)),
+        ("2,000,000 values in one column", files::one_column),
+        ("300 maps", files::many_maps),
+        ("empty lines", || files::with_blanks(0, LARGE)),
+    ];
+    let of_global = global.per_byte();
+    for (name, text) in texts {
+        let times = time_reading(&text(), LARGE_ROUNDS);
+        let [library, plain] = times.per_byte();
+        println!(
+            "growth, {name}, {:.0} MB: library {library:.2} ns per byte, {:.2} of the global file's; \
+             plain {plain:.2} ns, {:.2}; ratio {:.2}",
+            times.bytes as f64 / 1e6,
+            library / of_global[0],
+            plain / of_global[1],
+            times.ratio()
+        );
+    }
 }
 
 /// The map set of a file, for the library and for the plain asker.
@@ -262,21 +357,4 @@ fn report_biases(stations: usize) {
     }
     let [biases, needs] = best.map(micros);
     println!("biases of 32 satellites and {stations} stations: {biases:.0} us, the text's needs {needs:.0} us");
-}
-
-/// What each of so many COMMENT lines costs, by the needs of the text with them and without.
-fn report_comments(lines: usize) {
-    let texts = [files::global(false), files::with_comments(lines)];
-    let mut best = [Duration::MAX; 2];
-    for _ in 0..ASKING_ROUNDS {
-        for (best, text) in best.iter_mut().zip(&texts) {
-            let answer = timed(best, || {
-                Archive.needs(black_box(text.as_bytes()), &mut [0; 6], &mut [0; 2])
-            });
-            assert_eq!(answer, 0);
-        }
-    }
-    let [without, with] = best.map(micros);
-    let each = (with - without) * 1000.0 / lines as f64;
-    println!("one of {lines} COMMENT lines in the header: library {each:.0} ns");
 }

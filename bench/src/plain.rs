@@ -2,25 +2,24 @@
 //! once nothing is wrong, so that a refused text leaves them as they were.
 
 use crate::calendar;
+use crate::lines::{self, check, fault, is_blank, Step};
+use crate::rows::{self, BEFORE, VALUES, WIDTH};
 use second::header::{self, Axis, AxisFault, Count, Header, System, Texts, CODES, SYSTEMS};
 use second::labels::{self, Label};
 use second::maps::{self, FIRST_EXPONENT, NO_VALUE};
 use second::read::NEEDED;
-use second::refusal::{self, Fault};
+use second::refusal::Fault;
 use second::{Areas, Refusal};
+use std::sync::LazyLock;
 
 /// Reads a text into the lent areas.
 pub fn read(text: &[u8], areas: &mut Areas) -> Result<(Header, Texts), Refusal> {
     let mut reader = Reader::default();
-    let mut rest = text;
-    let mut line = 0;
-    while !rest.is_empty() {
+    let (mut at, mut line) = (0, 0);
+    while at < text.len() {
         line += 1;
-        let step = cut(rest).and_then(|(bytes, after)| {
-            rest = after;
-            reader.line(bytes)
-        });
-        step.map_err(|Fault { number, column }| Refusal::Place {
+        let step = reader.step(text, at);
+        at = step.map_err(|Fault { number, column }| Refusal::Place {
             number,
             line,
             column,
@@ -36,46 +35,7 @@ pub fn read(text: &[u8], areas: &mut Areas) -> Result<(Header, Texts), Refusal> 
     reader.hand_over(areas)
 }
 
-type Step<T = ()> = Result<T, Fault>;
-
-fn fault<T>(number: u8, column: usize) -> Step<T> {
-    refusal::fault(number, column as u64)
-}
-
-fn check(good: bool, number: u8, column: usize) -> Step {
-    if good {
-        Ok(())
-    } else {
-        fault(number, column)
-    }
-}
-
-// ---- lines and fields ----
-
-/// The first line without its end, and the text behind it. Printable bytes up to the line's end make a good line.
-fn cut(text: &[u8]) -> Step<(&[u8], &[u8])> {
-    let end = text.iter().position(|b| !(32..=126).contains(b));
-    let end = end.unwrap_or(text.len());
-    let after: &[u8] = match &text[end..] {
-        [] => &[],
-        [b'\n', after @ ..] | [b'\r', b'\n', after @ ..] => after,
-        _ => return bad_byte(text, end),
-    };
-    check(end <= 80, 1, 81)?;
-    Ok((&text[..end], after))
-}
-
-/// A line with a bad byte is refused for its length first.
-fn bad_byte<T>(text: &[u8], at: usize) -> Step<T> {
-    let line = text.split(|&b| b == b'\n').next().unwrap_or(text);
-    let ended = line.len() < text.len();
-    let line = match line {
-        [front @ .., b'\r'] if ended => front,
-        _ => line,
-    };
-    check(line.len() <= 80, 1, 81)?;
-    fault(2, at + 1)
-}
+// ---- fields ----
 
 /// Blanks, an optional minus, then so many digits at least, to the last column: the sign and the size.
 fn signed(field: &[u8], least: usize) -> Option<(bool, i32)> {
@@ -139,7 +99,11 @@ fn decimals<const N: usize>(body: &[u8], at: usize, width: usize) -> Step<[i64; 
 }
 
 fn blank(bytes: &[u8], from: usize, to: usize) -> Step {
-    match bytes[from..to].iter().position(|&b| b != b' ') {
+    let bytes = &bytes[..to];
+    if is_blank(&bytes[from..]) {
+        return Ok(());
+    }
+    match bytes[from..].iter().position(|&b| b != b' ') {
         Some(k) => fault(6, from + k + 1),
         None => Ok(()),
     }
@@ -196,15 +160,38 @@ fn axis(body: &[u8], rule: fn(&Axis) -> Option<AxisFault>) -> Step<Axis> {
     }
 }
 
+/// 2X,5F6.1,28X, behind its two blanks.
+fn check_block(header: &Header, body: &[u8], latitude: i64, height: i64) -> Step {
+    let found: [i64; 5] = decimals(body, 2, 6)?;
+    blank(body, 32, 60)?;
+    let axis = &header.longitudes;
+    let expected = [latitude, axis.first, axis.last, axis.step, height];
+    // In dimension 2 any height will do.
+    let compared = if header.dimension == 2 { 4 } else { 5 };
+    match (0..compared).find(|&k| found[k] != expected[k]) {
+        Some(k) => fault(8, 6 * k + 3),
+        None => Ok(()),
+    }
+}
+
 // ---- labels ----
+
+type Named = (&'static [u8], Label);
+
+/// The labels of each length.
+static LABELS: LazyLock<[Vec<Named>; 21]> = LazyLock::new(|| {
+    let mut found = [const { Vec::new() }; 21];
+    for label in labels::all() {
+        let text = labels::label_text(label).as_bytes();
+        found[text.len()].push((text, label));
+    }
+    found
+});
 
 fn label(line: &[u8]) -> Option<Label> {
     let name = line.get(60..)?.trim_ascii_end();
-    let is = |label: &Label| labels::label_text(*label).as_bytes() == name;
-    // Most labels are those of blocks.
-    Some(Label::Block)
-        .filter(is)
-        .or_else(|| labels::all().find(is))
+    let found = LABELS[name.len()].iter().find(|(text, _)| *text == name);
+    found.map(|&(_, label)| label)
 }
 
 /// The kind of a START or END record: 0 TEC, 1 RMS, 2 height.
@@ -234,6 +221,9 @@ struct Map {
     number: usize,
     has_epoch: bool,
     blocks: usize,
+    /// The layer and the row of the next block.
+    layer: i64,
+    row: i64,
 }
 
 /// What was read of a kind.
@@ -252,13 +242,15 @@ struct Reader {
     /// The records of `NEEDED` that stood.
     stood: [bool; NEEDED.len()],
     maps: usize,
-    rows: usize,
+    rows: i64,
     columns: usize,
     blocks: usize,
     exponent: i32,
     open: Option<Map>,
     /// Values still due in the open block.
     due: usize,
+    /// Columns 9 to 60 of the block before in this layer, which are good; no line has these zeros.
+    behind_latitude: [u8; 52],
     kinds: [Kind; 3],
     epochs: Vec<u64>,
     marks: Vec<u8>,
@@ -278,6 +270,7 @@ impl Default for Reader {
             exponent: FIRST_EXPONENT,
             open: None,
             due: 0,
+            behind_latitude: [0; 52],
             kinds: Default::default(),
             epochs: Vec::new(),
             marks: Vec::new(),
@@ -286,8 +279,20 @@ impl Default for Reader {
 }
 
 impl Reader {
+    /// Takes the line that begins here, and gives the place behind it.
+    fn step(&mut self, text: &[u8], at: usize) -> Step<usize> {
+        if self.due > 0 {
+            if let Some(after) = self.usual_row(text, at) {
+                return Ok(after);
+            }
+        }
+        let (line, after) = lines::cut(&text[at..])?;
+        self.line(line)?;
+        Ok(text.len() - after.len())
+    }
+
     fn line(&mut self, line: &[u8]) -> Step {
-        if line.iter().all(|&b| b == b' ') {
+        if is_blank(line) {
             return Ok(());
         }
         if self.due > 0 {
@@ -411,9 +416,9 @@ impl Reader {
         check(self.header.dimension_agrees(), 8, 0)?;
         check(self.header.size_fits(), 7, 0)?;
         self.maps = self.header.maps as usize;
-        self.rows = self.header.latitudes.count() as usize;
+        self.rows = self.header.latitudes.count();
         self.columns = self.header.longitudes.count() as usize;
-        self.blocks = self.header.heights.count() as usize * self.rows;
+        self.blocks = (self.header.heights.count() * self.rows) as usize;
         self.marks = vec![0; self.maps];
         self.stage = Stage::Maps;
         Ok(())
@@ -475,7 +480,10 @@ impl Reader {
             number,
             has_epoch: false,
             blocks: 0,
+            layer: 0,
+            row: 0,
         });
+        self.behind_latitude = [0; 52];
         Ok(())
     }
 
@@ -498,38 +506,55 @@ impl Reader {
 
     /// 2X,5F6.1,28X
     fn start_block(&mut self, body: &[u8]) -> Step {
-        blank(body, 0, 2)?;
-        let found: [i64; 5] = decimals(body, 2, 6)?;
-        blank(body, 32, 60)?;
         let Some(map) = &mut self.open else {
             return fault(5, 61);
         };
         let header = &self.header;
-        let layer = (map.blocks / self.rows) as i64;
-        let row = (map.blocks % self.rows) as i64;
-        let expected = [
-            header.latitudes.first + row * header.latitudes.step,
-            header.longitudes.first,
-            header.longitudes.last,
-            header.longitudes.step,
-            header.heights.first + layer * header.heights.step,
-        ];
-        // In dimension 2 any height will do.
-        let compared = if header.dimension == 2 { 4 } else { 5 };
-        if let Some(k) = (0..compared).find(|&k| found[k] != expected[k]) {
-            return fault(8, 6 * k + 3);
+        let latitude = header.latitudes.first + map.row * header.latitudes.step;
+        blank(body, 0, 2)?;
+        if body[8..] == self.behind_latitude {
+            let [found] = decimals(body, 2, 6)?;
+            check(found == latitude, 8, 3)?;
+        } else {
+            let height = header.heights.first + map.layer * header.heights.step;
+            check_block(header, body, latitude, height)?;
+            self.behind_latitude.copy_from_slice(&body[8..]);
         }
         self.kinds[map.kind].exponents.push(self.exponent);
         map.blocks += 1;
+        map.row += 1;
+        if map.row == self.rows {
+            map.row = 0;
+            map.layer += 1;
+            self.behind_latitude = [0; 52];
+        }
         self.due = self.columns;
         Ok(())
+    }
+
+    /// The values due, where the line ends right behind them and none is wrong. Their digits make it printable.
+    fn usual_row(&mut self, text: &[u8], at: usize) -> Option<usize> {
+        let count = self.due.min(VALUES);
+        let end = at + WIDTH * count;
+        let after = lines::behind_end(text.get(end..)?)?;
+        let kind = self.open.as_ref()?.kind;
+        let values = &mut self.kinds[kind].values;
+        if count == VALUES {
+            let bytes = text[at - BEFORE..end].try_into().ok()?;
+            values.extend_from_slice(&rows::full_row(bytes)?);
+        } else {
+            let row = rows::short_row(&text[at..end])?;
+            values.extend_from_slice(&row[..count]);
+        }
+        self.due -= count;
+        Some(text.len() - after.len())
     }
 
     fn values(&mut self, line: &[u8]) -> Step {
         let Some(map) = &self.open else {
             return Ok(());
         };
-        let count = self.due.min(16);
+        let count = self.due.min(VALUES);
         let values = &mut self.kinds[map.kind].values;
         for (k, field) in line.chunks_exact(5).take(count).enumerate() {
             match integer(field) {

@@ -81,10 +81,24 @@ fn jobs_of_the_seeds() {
     assert!(readings >= 20_000 && questions >= 15_000 && joinings >= 5_000);
 }
 
+/// The files that are timed, but for the large texts.
+fn timed() -> Vec<String> {
+    use bench::files;
+    vec![
+        files::global(false),
+        files::global(true),
+        files::with_cr(),
+        files::version_1_0(),
+        files::with_exponents(),
+        files::with_comments(100),
+        files::with_blanks(80, 100),
+        files::with_blanks(0, 100),
+    ]
+}
+
 #[test]
 fn the_files_timed_are_accepted() {
-    for with_rms in [false, true] {
-        let text = bench::files::global(with_rms);
+    for text in timed() {
         let lent = Buffers::filled(bench::files::NEEDS, 1);
         same_reading(text.as_bytes(), &lent);
         let found = read(text.as_bytes(), &mut lent.clone().lent());
@@ -94,5 +108,24 @@ fn the_files_timed_are_accepted() {
             (header.latitudes.count(), header.longitudes.count()),
             (71, 73)
         );
+    }
+}
+
+/// Every byte of a small file changed to bytes at the borders of what the quick ways of the reader look for, and the
+/// file cut off before it.
+#[test]
+fn every_byte_of_a_small_file() {
+    let text = bench::files::small();
+    for text in [text.replace('\n', "\r\n"), text] {
+        let lent = Buffers::filled([40; 6], 1);
+        same_reading(text.as_bytes(), &lent);
+        for at in 0..text.len() {
+            for byte in *b" -0:/9.\r\n~\x7f\x1f\x80" {
+                let mut damaged = text.clone().into_bytes();
+                damaged[at] = byte;
+                same_reading(&damaged, &lent);
+            }
+            same_reading(&text.as_bytes()[..at], &lent);
+        }
     }
 }

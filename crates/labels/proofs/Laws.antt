@@ -91,3 +91,11 @@ place-alone s a n e (l ∷ ls) (suc k) h g t =
 pub opens-block : (s : List ℕ) → holds s 60 (getD names 30 []) ≡ true → 30 ≡ number-of s
 unfolding names name number-of
 opens-block s e = sym (place-alone s 60 (getD names 30 []) e names 30 (omega arith) refl tt)
+
+pub says-comment : (s : List ℕ) → holds s 60 (getD names 3 []) ≡ true → 3 ≡ number-of s
+unfolding names name number-of
+says-comment s e = sym (place-alone s 60 (getD names 3 []) e names 3 (omega arith) refl tt)
+
+pub says-exponent : (s : List ℕ) → holds s 60 (getD names 19 []) ≡ true → 19 ≡ number-of s
+unfolding names name number-of
+says-exponent s e = sym (place-alone s 60 (getD names 19 []) e names 19 (omega arith) refl tt)

@@ -7,16 +7,21 @@ ghost use Rattle.layout.specs.Labels.{letters};
 ghost use Rattle.layout.specs.Names.{holds, number-of};
 ghost use Rattle.reading.specs.Head.{place};
 ghost use Rattle.labels.specs.Letters.{if-below};
+ghost use Rattle.labels.specs.Found.{Found};
 
-// The label that opens a block, as nearly all labels of a file do.
+// The label that opens a block, as nearly all labels of a file do, and two that may stand between blocks.
 const OPENING: [u8; 20] = *b"LAT/LON1/LON2/DLON/H";
+
+const REMARK: [u8; 20] = *b"COMMENT             ";
+
+const POWER: [u8; 20] = *b"EXPONENT            ";
 
 // In 01's order: 23 of the header, 9 of the maps.
 pub const LABELS: [[u8; 20]; 32] = [
     *b"IONEX VERSION / TYPE",
     *b"PGM / RUN BY / DATE ",
     *b"DESCRIPTION         ",
-    *b"COMMENT             ",
+    REMARK,
     *b"EPOCH OF FIRST MAP  ",
     *b"EPOCH OF LAST MAP   ",
     *b"INTERVAL            ",
@@ -32,7 +37,7 @@ pub const LABELS: [[u8; 20]; 32] = [
     *b"HGT1 / HGT2 / DHGT  ",
     *b"LAT1 / LAT2 / DLAT  ",
     *b"LON1 / LON2 / DLON  ",
-    *b"EXPONENT            ",
+    POWER,
     *b"START OF AUX DATA   ",
     *b"END OF AUX DATA     ",
     *b"END OF HEADER       ",
@@ -184,16 +189,45 @@ fn search(line: &[u8]) -> usize
     32
 }
 
-// The place in LABELS of the label in columns 61 to 80, 32 where it is none of them. The opening of a block is tried first.
+// A label that a file may have many of, known by its first letter; 32 where it is another.
+fn frequent(line: &[u8]) -> usize
+    ensures { λ r. ⌜ Found (now (line .entry)) r ⌝ }
+{
+    let first = fields::byte_at(line, 60);
+    if first == b'L' {
+        if line.len() < 80 {
+            return 32;
+        }
+        let opening = OPENING;
+        if has_whole(line, &opening) {
+            return BLOCK;
+        }
+        return 32;
+    }
+    if first == b'C' {
+        let remark = REMARK;
+        if has_label(line, &remark) {
+            return COMMENT;
+        }
+        return 32;
+    }
+    if first == b'E' {
+        let power = POWER;
+        if has_label(line, &power) {
+            return EXPONENT;
+        }
+        return 32;
+    }
+    32
+}
+
+// The place in LABELS of the label in columns 61 to 80, 32 where it is none of them. Those that a file may have many of are tried first.
 pub fn label_of(line: &[u8]) -> usize
     ensures { λ r. ⌜ r ≡ number-of (now (line .entry)) ⌝ }
 {
-    if line.len() < 80 {
-        return search(line);
-    }
-    let opening = OPENING;
-    if has_whole(line, &opening) {
-        return BLOCK;
+    let k = frequent(line);
+    if k < 32 {
+        return k;
     }
     search(line)
 }

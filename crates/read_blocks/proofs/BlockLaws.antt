@@ -1,6 +1,6 @@
 -- A block, line by line.
 use mathlib.Core.Path.{_≡_, refl, sym, ap, _∙_, subst}
-use Prim.Native.Nat.{ℕ, zero, suc, _+_, _-_, _≤_, _<_, _^_}
+use Prim.Native.Nat.{ℕ, zero, suc, _+_, _-_, _*_, _≤_, _<_, _^_}
 use native.Mathlib.Omega.{arith}
 use native.Mathlib.Numerals.{add-one}
 use native.Mathlib.Decide.{decLe}
@@ -20,7 +20,11 @@ use Rattle.reading.specs.Feed.{Fault, Why, why, on-line, Feed, over, bad, row, 
 use Rattle.reading.specs.Fields.{number, blank, cells}
 use Rattle.reading.specs.Maps.{short, on-row}
 use Rattle.read_lines.specs.Lines.{Stands, Skips, Rows}
+use Rattle.kit.proofs.ListLaws.{rest-of}
+use Rattle.read_lines.proofs.Parts.{row-in}
 use Rattle.read_values.specs.Values.{Okay, listOf, Judges}
+use Rattle.read_values.specs.Quick.{UsualRow, Usual}
+use Rattle.read_values.specs.Bare.{Plain, BareRow, Bared}
 use Rattle.read_blocks.specs.Blocks.{values, Done, Filled}
 use Rattle.read_blocks.specs.Steps.{Moved, Stepped, Puts, Turned}
 use Rattle.read_values.specs.declared.Cells.{Cells}
@@ -185,6 +189,45 @@ module _ (t : List ℕ) (at n left : ℕ) (some : 0 < left) where
       pub puts-row : (o : Okay (values (feed (suc n) (split (drop at t))) left)) (out : List ℤ) → take m out ≡ okay-cells o .0 → Puts t at n left (at + next) m out
       unfolding step-put
       puts-row o out e = let a = h .ahead in record { ahead = omega arith; upto = omega arith; moved = step-put (okay-cells o); front = e }
+
+-- ---- a line that is found fast
+
+module _ (t : List ℕ) (at n left : ℕ) (some : 0 < left) (inside : at ≤ length t) (small : n ≤ at) (m : ℕ) (is : m ≡ on-row left) (r : ℕ) (seen : 0 < r) where
+  module _ (u : Usual (take (length t - at) (drop at t)) m r) where
+    usual-there : UsualRow (drop at t) m r
+    usual-there = subst (λ (x : List ℕ). UsualRow x m r) (rest-of t at) (u seen)
+
+    pub usual-in : at + r ≤ length t
+    usual-in = row-in t at inside (m * 5) r (usual-there .rows)
+
+    pub usual-step : (at < at + r) × Moved t at n left (at + r) (n + 1) (left - m)
+    usual-step =
+        let q = usual-there in
+        let e : at + m * 5 - at ≡ m * 5 = omega arith in
+        (omega arith, step-put t at n left some inside small (m * 5) r (q .rows) m is (rw e (q .fine)))
+
+  module _ (u : Bared (take (length t - at) (drop at t)) m r) where
+    bare-there : BareRow (drop at t) m r
+    bare-there = subst (λ (x : List ℕ). BareRow x m r) (rest-of t at) (u seen)
+
+    pub bare-in : at + r ≤ length t
+    bare-in = row-in t at inside (m * 5) r (bare-there .rows)
+
+    module _ (o : Okay (values (feed (suc n) (split (drop at t))) left)) (k : ℕ) (e : k ≡ m) where
+      cut : take (k * 5) (take (length t - at) (drop at t)) ≡ take (at + m * 5 - at) (drop at t)
+      cut = let f : at + m * 5 - at ≡ k * 5 = omega arith in rw f (ap (take (k * 5)) (rest-of t at))
+
+      pub bare-needs : (k ≤ 16) × (Plain (take (length t - at) (drop at t)) k × Okay (cells 1 k (pad (take (k * 5) (take (length t - at) (drop at t))))))
+      bare-needs =
+          let q = bare-there in
+          let p : Plain (take (length t - at) (drop at t)) k = rw (e, rest-of t at) (q .plain) in
+          (omega arith, (p, rw cut (okay-one t at n left some inside small (m * 5) r (q .rows) m is o k e)))
+
+      pub bare-puts : (new rest : List ℤ) → new ≡ listOf (cells 1 k (pad (take (k * 5) (take (length t - at) (drop at t))))) → Puts t at n left (at + r) m (new ++ rest)
+      bare-puts new rest f =
+          let q = bare-there in
+          let g : new ≡ listOf (cells 1 k (pad (take (at + m * 5 - at) (drop at t)))) = f ∙ ap (λ (x : List ℕ). listOf (cells 1 k (pad x))) cut in
+          puts-row t at n left some inside small (m * 5) r (q .rows) m is o (new ++ rest) (row-front t at n left some inside small (m * 5) r (q .rows) m is o k e new rest g)
 
 -- ---- the loop
 

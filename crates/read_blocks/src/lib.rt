@@ -31,7 +31,7 @@ pub enum Step {
     End,
 }
 
-fn step_at(text: &[u8], ends: &[u8; 80], at: usize, lines: u64, left: usize) -> Step
+fn any_step_at(text: &[u8], ends: &[u8; 80], at: usize, lines: u64, left: usize) -> Step
     requires { ⌜ ((at ≤ length (now text)) × (lines ≤ at)) × ((0 < left) × (now ends ≡ last-columns)) ⌝ }
     ensures { λ r. ⌜ Stepped (now (text .entry)) at lines left r ⌝ }
 {
@@ -47,6 +47,19 @@ fn step_at(text: &[u8], ends: &[u8; 80], at: usize, lines: u64, left: usize) -> 
             }
         }
     }
+}
+
+// One line of a block. Nearly every one is a row of values and nothing else: that is looked for first, since it is found fast.
+fn step_at(text: &[u8], ends: &[u8; 80], at: usize, lines: u64, left: usize) -> Step
+    requires { ⌜ ((at ≤ length (now text)) × (lines ≤ at)) × ((0 < left) × (now ends ≡ last-columns)) ⌝ }
+    ensures { λ r. ⌜ Stepped (now (text .entry)) at lines left r ⌝ }
+{
+    let m = on_row(left);
+    let next = read_values::usual_row(&text[at..], ends, m);
+    if next == 0 {
+        return any_step_at(text, ends, at, lines, left);
+    }
+    Step::On(at + next, lines + 1, left - m)
 }
 
 // The next `count` values, from the line that starts at `from`, where so many lines are passed.
@@ -84,7 +97,7 @@ pub enum Turn {
     Stuck,
 }
 
-fn fill_step(text: &[u8], at: usize, lines: u64, out: &mut [i32]) -> Turn
+fn any_fill_step(text: &[u8], at: usize, lines: u64, out: &mut [i32]) -> Turn
     requires { ⌜ ((at ≤ length (now text)) × (lines ≤ at)) × ((0 < length (now out)) × Okay (values (feed (suc lines) (split (drop at (now text)))) (length (now out)))) ⌝ }
     ensures { λ r. ⌜ Turned (now (text .entry)) at lines (length (now (out .entry))) r (now (out .exit)) ⌝ }
 {
@@ -99,6 +112,20 @@ fn fill_step(text: &[u8], at: usize, lines: u64, out: &mut [i32]) -> Turn
             Turn::Put(at + next, m)
         }
     }
+}
+
+// One line, as `step_at` looks at it: a row without a minus is stored at once.
+fn fill_step(text: &[u8], at: usize, lines: u64, out: &mut [i32]) -> Turn
+    requires { ⌜ ((at ≤ length (now text)) × (lines ≤ at)) × ((0 < length (now out)) × Okay (values (feed (suc lines) (split (drop at (now text)))) (length (now out)))) ⌝ }
+    ensures { λ r. ⌜ Turned (now (text .entry)) at lines (length (now (out .entry))) r (now (out .exit)) ⌝ }
+{
+    let m = on_row(out.len());
+    let next = read_values::bare_row(&text[at..], m);
+    if next == 0 {
+        return any_fill_step(text, at, lines, out);
+    }
+    read_values::fill_bare(&text[at..], &mut out[..m]);
+    Turn::Put(at + next, m)
 }
 
 // The values of a block that is judged, as many as `out` holds; where the next line starts.

@@ -1,20 +1,20 @@
--- The fast way over a line: a run of printable bytes, and an LF right behind it.
+-- The fast way over a line: a run of printable bytes, and LF or CR LF right behind it.
 use mathlib.Core.Path.{_≡_, refl, sym, ap, _∙_}
 use mathlib.Core.Bool.{Bool, true, false, _&&_}
 use mathlib.Core.List.{List}
-use Prim.Native.Nat.{ℕ, _+_, _-_, _≤_, _<_}
+use Prim.Native.Nat.{ℕ, zero, suc, _+_, _-_, _≤_, _<_}
 use native.Mathlib.Omega.{arith}
-use native.Mathlib.Decide.{ℕ-discrete}
+use native.Mathlib.Decide.{ℕ-discrete, decLe}
 use lib.Dec.{leb}
 use lib.ListN.{length, getD, take, drop, length-drop}
-use lib.Seq.{drop-drop, length-take-le}
+use lib.Seq.{drop-drop, length-take-le, getD-take}
 use borrow.Author.Tests.{leb-true}
 use Rattle.kit.specs.Range.{Within}
 use Rattle.kit.proofs.ListLaws.{rest-of}
 use Rattle.read_lines.specs.Lines.{passing, not-lf?, printable?, blank?, Spans, Skips, Rows}
-use Rattle.read_lines.specs.Quick.{Sixteen, Ahead}
+use Rattle.read_lines.specs.Quick.{Sixteen, Ahead, Ending}
 use Rattle.read_lines.proofs.Passing.{passing-le, passing-all, passing-step, passing-end, passing-skip, passing-before, passing-is, passing-full}
-use Rattle.read_lines.proofs.Firsts.{spans-empty, spans-lf, look-full, look-blank, stand-skip, stand-row}
+use Rattle.read_lines.proofs.Firsts.{spans-empty, spans-lf, spans-cr, look-full, look-blank, stand-skip, stand-row}
 
 -- ---- 16 bytes
 
@@ -68,19 +68,51 @@ ahead-none t = record { within = omega arith; on = omega arith }
 
 -- ---- the line
 
-module _ (t : List ℕ) (w : ℕ) (is : w ≡ passing printable? t) (h : w < length t) (x : getD t w 0 ≡ 10) where
+-- a line's end is in the text, and no printable byte stands there
+pub ending-in : (t : List ℕ) (w z : ℕ) → w < length t → Ending t w z → (w + z ≤ length t) × (z ≤ 2)
+ending-in t w zero h e = (omega arith, omega arith)
+ending-in t w (suc zero) h e = (omega arith, omega arith)
+ending-in t w (suc (suc zero)) h e = let q = e .0 in (omega arith, omega arith)
+ending-in t w (suc (suc (suc z))) h e = absurd e
+
+pub ending-odd : (t : List ℕ) (w z : ℕ) → Ending t w z → 0 < z → ¬ Within 32 126 (getD t w 0)
+ending-odd t w zero e s = absurd (omega arith)
+ending-odd t w (suc zero) e s = λ q. let x : getD t w 0 ≡ 10 = e in omega (arith, q .0)
+ending-odd t w (suc (suc zero)) e s = λ q. let x : getD t w 0 ≡ 13 = e .1 .0 in omega (arith, q .0)
+ending-odd t w (suc (suc (suc z))) e s = absurd e
+
+module _ (t : List ℕ) (w : ℕ) (is : w ≡ passing printable? t) (h : w < length t) where
   shown : (i : ℕ) → i < w → Within 32 126 (getD t i 0)
   shown i q = passing-before printable? t i (omega arith)
 
-  first : w ≡ passing not-lf? t
-  first = passing-is not-lf? t w h (λ i q e. let s = shown i q in omega arith) (λ n. n x)
-
-  span : Spans t (record { width = w; next = w + 1 })
-  span = by (ℕ-discrete w 0)
+  span-lf : getD t w 0 ≡ 10 → Spans t (record { width = w; next = w + 1 })
+  span-lf x = by (ℕ-discrete w 0)
     where
+      first : w ≡ passing not-lf? t
+      first = passing-is not-lf? t w h (λ i q e. let s = shown i q in omega arith) (λ n. n x)
+
       by : Dec (w ≡ 0) → Spans t (record { width = w; next = w + 1 })
       by (yes z) = let s = spans-empty t w first h z in rw z s
       by (no n) = spans-lf t w first h n (λ e. let s = shown (w - 1) (omega arith) in omega arith)
+
+  span-crlf : suc w < length t → getD t w 0 ≡ 13 → getD t (suc w) 0 ≡ 10 → Spans t (record { width = w; next = w + 2 })
+  span-crlf k x y =
+      let a : suc w - 1 ≡ w = omega arith in
+      let b : suc w + 1 ≡ w + 2 = omega arith in
+      rw (a, b) at (spans-cr t (suc w) first k (omega arith) (rw a x))
+    where
+      before : (i : ℕ) → i < suc w → Dec (i ≡ w) → ¬ (getD t i 0 ≡ 10)
+      before i q (yes e) = λ f. let g : getD t i 0 ≡ 13 = rw e x in omega arith
+      before i q (no n) = λ f. let s = shown i (omega arith) in omega arith
+
+      first : suc w ≡ passing not-lf? t
+      first = passing-is not-lf? t (suc w) k (λ i q. before i q (ℕ-discrete i w)) (λ n. n y)
+
+  span : (z : ℕ) → Ending t w z → 0 < z → Spans t (record { width = w; next = w + z })
+  span zero e s = absurd (omega arith)
+  span (suc zero) e s = span-lf e
+  span (suc (suc zero)) e s = span-crlf (e .0) (e .1 .0) (e .1 .1)
+  span (suc (suc (suc z))) e s = absurd e
 
   size : length (take w t) ≡ w
   size = length-take-le w t (omega arith)
@@ -88,13 +120,27 @@ module _ (t : List ℕ) (w : ℕ) (is : w ≡ passing printable? t) (h : w < len
   whole : length (take w t) ≡ passing printable? (take w t)
   whole = sym (passing-full printable? (take w t) (rw is (passing-all printable? t)))
 
-  module _ (fits : w ≤ 80) (b : ℕ) (bs : b ≡ passing blank? (take w t)) where
-    pub quick-row : b < w → Rows t w (w + 1)
+  module _ (z : ℕ) (e : Ending t w z) (some : 0 < z) (fits : w ≤ 80) (b : ℕ) (bs : b ≡ passing blank? (take w t)) where
+    pub quick-row : b < w → Rows t w (w + z)
     quick-row q =
         let s = size in
-        stand-row t _ span (look-full (take w t) (omega arith) _ whole (omega arith) b bs (omega arith))
+        stand-row t _ (span z e some) (look-full (take w t) (omega arith) _ whole (omega arith) b bs (omega arith))
 
-    pub quick-skip : w ≤ b → Skips t (w + 1)
+    pub quick-skip : w ≤ b → Skips t (w + z)
     quick-skip q =
         let s = size in
-        stand-skip t _ span (look-blank (take w t) (omega arith) _ whole (omega arith) b bs (omega arith))
+        stand-skip t _ (span z e some) (look-blank (take w t) (omega arith) _ whole (omega arith) b bs (omega arith))
+
+-- ---- a row that is known byte by byte
+
+module _ (t : List ℕ) (w z : ℕ) (h : w < length t) (e : Ending t w z) (some : 0 < z) (fits : w ≤ 80) (shown : (i : ℕ) → i < w → Within 32 126 (getD t i 0)) where
+  pub known-row : (i : ℕ) → i < w → ¬ (getD t i 0 ≡ 32) → Rows t w (w + z)
+  known-row i q n =
+      let is : w ≡ passing printable? t = passing-is printable? t w h shown (ending-odd t w z e some) in
+      let p = passing-le blank? (take w t) in
+      let l : length (take w t) ≡ w = length-take-le w t (omega arith) in
+      quick-row t w is h z e some fits (passing blank? (take w t)) refl (short (decLe w (passing blank? (take w t))))
+    where
+      short : Dec (w ≤ passing blank? (take w t)) → passing blank? (take w t) < w
+      short (yes k) = absurd (n (sym (getD-take w t i 0 q) ∙ passing-before blank? (take w t) i (omega arith)))
+      short (no k) = omega arith

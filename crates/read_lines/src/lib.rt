@@ -3,7 +3,7 @@ ghost use mathlib.Core.Path.{_≡_};
 ghost use Prim.Native.Nat.{_<_, _≤_};
 ghost use lib.ListN.{length};
 ghost use Rattle.read_lines.specs.Lines.{passing, not-lf?, printable?, blank?, Spans, look-of, Stands};
-ghost use Rattle.read_lines.specs.Quick.{Sixteen, Ahead};
+ghost use Rattle.read_lines.specs.Quick.{Sixteen, Ahead, Ending};
 ghost use Rattle.read_lines.specs.Leads.{Leads, after-all};
 
 // A line's bytes, without the CR before its LF, and where the next line starts.
@@ -172,7 +172,28 @@ fn any_line_in(text: &[u8]) -> Line
     }
 }
 
-// The line that starts this part of a text. Nearly every line is printable bytes and an LF: that is looked for first, since it is found fast.
+// What ends a line of w bytes that starts a text: 1 for LF, 2 for CR LF, 0 where neither stands there.
+pub fn end_at(text: &[u8], w: usize) -> usize
+    requires { ⌜ w < length (now text) ⌝ }
+    ensures { λ r. ⌜ Ending (now (text .entry)) w r ⌝ }
+{
+    if text[w] == b'\n' {
+        return 1;
+    }
+    if text[w] != b'\r' {
+        return 0;
+    }
+    let e = w + 1;
+    if text.len() <= e {
+        return 0;
+    }
+    if text[e] != b'\n' {
+        return 0;
+    }
+    2
+}
+
+// The line that starts this part of a text. Nearly every line is printable bytes and its end: that is looked for first, since it is found fast.
 pub fn line_in(text: &[u8]) -> Line
     ensures { λ r. ⌜ Stands (now (text .entry)) r ⌝ }
 {
@@ -183,14 +204,15 @@ pub fn line_in(text: &[u8]) -> Line
     if 80 < w {
         return any_line_in(text);
     }
-    if text[w] != b'\n' {
+    let z = end_at(text, w);
+    if z == 0 {
         return any_line_in(text);
     }
     let b = blanks_in(&text[..w]);
     if b < w {
-        return Line::Row(w, w + 1);
+        return Line::Row(w, w + z);
     }
-    Line::Skip(w + 1)
+    Line::Skip(w + z)
 }
 
 // The next row, from a line's start on, where so many lines are passed: blank lines are skipped.

@@ -1,6 +1,7 @@
 -- The fast way over a row of values: byte by byte, with the byte behind it.
 use mathlib.Core.Path.{_≡_, refl, sym, ap, _∙_}
 use mathlib.Core.Bool.{Bool, true, false, not, _&&_, _||_, cond}
+use mathlib.Core.Logic.{_⊎_, inl, inr, ⊎-elim}
 use mathlib.Core.List.{List, [], _∷_}
 use Prim.Native.Nat.{ℕ, zero, suc, _+_, _-_, _*_, _≤_, _<_}
 use native.Mathlib.Omega.{arith}
@@ -9,15 +10,20 @@ use native.Mathlib.Decide.{ℕ-discrete, decLe}
 use lib.Dec.{T, eqb}
 use lib.ListN.{length, getD, take, drop, length-drop}
 use lib.Seq.{drop-cons, length-take-le, getD-take, getD-drop}
-use Rattle.kit.proofs.TruthLaws.{tested-at, clash}
+use borrow.Author.Tests.{eqb-true}
+use Rattle.kit.specs.Range.{Within}
+use Rattle.kit.proofs.TruthLaws.{tested-at, clash, and-true}
 use Rattle.kit.proofs.ListLaws.{rest-of}
 use Rattle.forms.specs.Form.{I}
 use Rattle.forms.specs.Read.{readField, isNumber}
 use Rattle.forms.specs.Bytes.{isDigit, mayPrecede}
-use Rattle.fields.proofs.Judged.{well, int-judged}
-use Rattle.read_values.specs.Quick.{fits-as, last-columns, Standing, Fitting}
+use Rattle.fields.proofs.Judged.{well, int-judged, true-digit}
+use Rattle.read_lines.specs.Quick.{Ending}
+use Rattle.read_lines.proofs.QuickLines.{known-row}
+use Rattle.read_values.specs.Quick.{fits-as, last-columns, Standing, Fitting, UsualRow}
 use Rattle.read_values.specs.Values.{value-field, Passed}
-use Rattle.read_values.proofs.ValueLaws.{field-whole, passed-none, passed-more}
+use Rattle.read_values.specs.declared.Cells.the-variants.{Fine}
+use Rattle.read_values.proofs.ValueLaws.{field-whole, passed-none, passed-more, judged, rest-none}
 
 -- ---- a byte
 
@@ -70,7 +76,7 @@ Fit l i = (j : ℕ) → j < i → fits-at l j ≡ true
 pub fit-none : (l : List ℕ) → Fit l 0
 fit-none l j h = absurd (omega arith)
 
-part-at : (l : List ℕ) (s w i : ℕ) → i < w → getD (take w (drop s l)) i 0 ≡ getD l (s + i) 0
+pub part-at : (l : List ℕ) (s w i : ℕ) → i < w → getD (take w (drop s l)) i 0 ≡ getD l (s + i) 0
 part-at l s w i h = getD-take w (drop s l) i 0 h ∙ getD-drop s l i 0
 
 module _ (l es : List ℕ) (same : es ≡ last-columns) (a s w : ℕ) (from : s ≤ a) (long : w ≡ 17) (fit : Fit l a) where
@@ -114,7 +120,7 @@ all-five true true false d e p q r s t = clash (cc)
 all-five true true true false e p q r s t = clash (cc)
 all-five true true true true false p q r s t = clash (cc)
 
-five-of : (l : List ℕ) (a : ℕ) → a + 5 ≤ length l
+pub five-of : (l : List ℕ) (a : ℕ) → a + 5 ≤ length l
     → take 5 (drop a l) ≡ getD l a 0 ∷ getD l (suc a) 0 ∷ getD l (suc (suc a)) 0 ∷ getD l (suc (suc (suc a))) 0 ∷ getD l (suc (suc (suc (suc a)))) 0 ∷ []
 five-of l a h =
     let e0 : drop a l ≡ getD l a 0 ∷ drop (suc a) l = drop-cons l a 0 (omega arith) in
@@ -145,18 +151,12 @@ module _ (l : List ℕ) (m : ℕ) (long : m * 5 < length l) (most : m ≤ 16) (f
       let w : readField I (take 5 (drop (k * 5) l)) ≡ value-field l k = rw n at (field-whole l k (omega arith)) in
       sym (well-at k h) ∙ int-judged (take 5 (drop (k * 5) l)) ∙ ap isNumber w
 
-pub fit-end : (l : List ℕ) (m i : ℕ) → m * 5 < length l → m ≤ 16 → i ≡ m * 5 → Fit l i → Fitting true l m
-fit-end l m i long most e s = λ k h. number-at l m long most (λ j q. s j (omega arith)) k h
-
--- the last 16, which may overlap
-pub fit-last : (l es : List ℕ) → es ≡ last-columns → (m a s w : ℕ) → m * 5 < length l → m ≤ 16 → s ≤ a → s + 16 ≡ m * 5 → w ≡ 17 → Fit l a
-    → (ok : Bool) → Standing ok (take w (drop s l)) es s → Fitting ok l m
-fit-last l es same m a s w long most from e n fit true st = fit-end l m (s + 16) long most e (stand-on l es same a s w from n fit true st refl)
-fit-last l es same m a s w long most from e n fit false st = tt
+pub fit-end : (l : List ℕ) (m i : ℕ) → m * 5 ≤ i → Fit l i → Fitting true l m
+fit-end l m i e s = λ j q. s j (omega arith)
 
 -- ---- the row
 
-take-in : (n a w : ℕ) (l : List ℕ) → a + n ≤ w → take n (drop a (take w l)) ≡ take n (drop a l)
+pub take-in : (n a w : ℕ) (l : List ℕ) → a + n ≤ w → take n (drop a (take w l)) ≡ take n (drop a l)
 take-in n zero w l h = take-first n w l (omega arith)
   where
     take-first : (n w : ℕ) (l : List ℕ) → n ≤ w → take n (take w l) ≡ take n l
@@ -187,10 +187,45 @@ module _ (u : List ℕ) (w m : ℕ) (long : w ≤ length u) (fits : w ≤ 80) (m
       let e : k + 1 ≡ suc k = omega arith in
       rw e at (passed-more (take w u) m k (omega arith) most (omega arith) (upto k (omega arith)) (f k (omega arith) ∙ ap isNumber (same-field k (omega arith))))
 
-pub fit-row : (t : List ℕ) (at w m : ℕ) → at + w ≤ length t → w ≤ 80 → m ≤ 16 → m * 5 ≤ w → (ok : Bool) → Fitting ok (take (length t - at) (drop at t)) m → ok ≡ true
+pub fit-row : (t : List ℕ) (at w m : ℕ) → at + w < length t → w ≤ 80 → m ≤ 16 → m * 5 ≤ w → (ok : Bool) → Fitting ok (take (length t - at) (drop at t)) m → ok ≡ true
     → Passed (take (at + w - at) (drop at t)) m m
 fit-row t at w m h fits most room false f e = clash (cc)
 fit-row t at w m h fits most room true f e =
     let n : at + w - at ≡ w = omega arith in
     let d = length-drop at t in
-    rw n (upto (drop at t) w m (omega arith) fits most room (rw (rest-of t at) at f) m (omega arith))
+    rw n (upto (drop at t) w m (omega arith) fits most room (number-at (drop at t) m (omega arith) most (rw (rest-of t at) at f)) m (omega arith))
+
+-- ---- a row that ends right behind its values
+
+pub or-true : (x y : Bool) → (x || y) ≡ true → (x ≡ true) ⊎ (y ≡ true)
+or-true true y e = inl refl
+or-true false y e = inr e
+
+digit-shown : (b : ℕ) → isDigit b ≡ true → Within 32 126 b
+digit-shown b e = let d = true-digit b e in (omega (arith, d .0), omega (arith, d .1))
+
+precede-shown : (b n : ℕ) → mayPrecede b n ≡ true → Within 32 126 b
+precede-shown b n e = ⊎-elim blank other (or-true (eqb b 32) ((eqb b 45 || isDigit b) && isDigit n) e)
+  where
+    blank : eqb b 32 ≡ true → Within 32 126 b
+    blank p = let q = eqb-true b 32 p in (omega arith, omega arith)
+
+    minus : eqb b 45 ≡ true → Within 32 126 b
+    minus p = let q = eqb-true b 45 p in (omega arith, omega arith)
+
+    other : ((eqb b 45 || isDigit b) && isDigit n) ≡ true → Within 32 126 b
+    other p = ⊎-elim minus (digit-shown b) (or-true (eqb b 45) (isDigit b) (and-true (eqb b 45 || isDigit b) (isDigit n) p .0))
+
+fits-shown : (b n : ℕ) (x : Bool) → fits-as b n x ≡ true → Within 32 126 b
+fits-shown b n true e = digit-shown b e
+fits-shown b n false e = precede-shown b n e
+
+pub usual : (t : List ℕ) (m z : ℕ) → 0 < m → m ≤ 16 → m * 5 < length t → Ending t (m * 5) z → 0 < z → (ok : Bool) → Fitting ok t m → ok ≡ true → UsualRow t m (m * 5 + z)
+usual t m z some most long e s false f o = clash (cc)
+usual t m z some most long e s true f o =
+    let d = true-digit (getD t 4 0) (f 4 (omega arith)) in
+    let l : length (take (m * 5) t) ≡ m * 5 = length-take-le (m * 5) t (omega arith) in
+    record {
+      rows = known-row t (m * 5) z long e s (omega arith) (λ i q. fits-shown (getD t i 0) (getD t (suc i) 0) (last? i) (f i q)) 4 (omega arith) (λ x. omega (arith, d .0));
+      fine = judged (take (m * 5) t) m (upto t (m * 5) m (omega arith) (omega arith) most (omega arith) (number-at t m long most f) m (omega arith)) Fine (rest-none (take (m * 5) t) m (omega arith));
+    }

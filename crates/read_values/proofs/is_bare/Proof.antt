@@ -1,0 +1,12 @@
+use borrow.Author.Needs.{needs}
+use Rattle.read_values.proofs.is_bare.Statement.{statement}
+use Rattle.read_values.proofs.is_bare.Tie as tie
+
+is-digit-requires : tie.Need-is-digit-requires
+is-digit-requires c κs = search needs
+
+returns : tie.Need-returns
+returns c = rw (c .is-digit .ensures)
+
+pub is-bare-spec : {M : Type 1} → statement M
+is-bare-spec = tie.close (tie.spec is-digit-requires returns)
