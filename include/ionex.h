@@ -289,6 +289,53 @@ uint64_t ionex_ask(const int64_t *header, size_t header_len, /* IONEX_HEADER num
                    int32_t lat, int32_t lon, uint64_t second,
                    int32_t *value, size_t value_len); /* 1 number, else 103 */
 
+/*
+ * Answers for many places and seconds in one call: what ionex_ask answers to each of them, for one kind, method and layer.
+ * The map set is judged once for the call (31), not for each question, so that a call of many questions takes much less time
+ * than as many calls of ionex_ask. The seconds may come in any order.
+ *
+ *   lats, lons, seconds   given: the place and the second of each question, as for ionex_ask
+ *   answers, values       lent: answers[i] is 0, 20, 21 or 22; where it is 0 values[i] is the value, else it is as found
+ *
+ * There are as many questions as the shortest of these five has elements; what stands behind the last question in answers
+ * and values is as found.
+ *
+ *   0            every question has its answer, also where there is none.
+ *   23, 31, 24   refused as a whole, told in this order; answers and values are as found.
+ *
+ * Worked example, for a map set read as above: the TEC over three rovers at one second, in thousandths of a TECU;
+ * the third is beyond the pole, and refused (21).
+ *
+ *     int32_t lats[] = {-1000, -500, 9001}, lons[] = {0, 0, 0};
+ *     uint64_t seconds[] = {second, second, second};
+ *     uint8_t answers[3];
+ *     int32_t values[3];
+ *     uint64_t answer = ionex_ask_all(header, IONEX_HEADER, texts, IONEX_TEXTS, tec, tec_len, rms, rms_len,
+ *                                     height, height_len, exponents, exponents_len, epochs, epochs_len, marks, marks_len,
+ *                                     IONEX_KIND_TEC, IONEX_BETWEEN, 0, lats, 3, lons, 3, seconds, 3, answers, 3, values, 3);
+ *     for (int i = 0; answer == IONEX_DONE && i < 3; i++)
+ *         if (answers[i] == IONEX_DONE)
+ *             printf("rover %d: %d\n", i, (int)values[i]);
+ *         else
+ *             printf("rover %d: refused %d\n", i, (int)answers[i]);
+ *     if (answer != IONEX_DONE)
+ *         printf("refused %d\n", (int)answer);
+ */
+uint64_t ionex_ask_all(const int64_t *header, size_t header_len, /* IONEX_HEADER numbers, else 101 */
+                       const uint8_t *texts, size_t texts_len,   /* IONEX_TEXTS bytes, else 102 */
+                       const int32_t *tec, size_t tec_len,
+                       const int32_t *rms, size_t rms_len,
+                       const int32_t *height, size_t height_len,
+                       const int32_t *exponents, size_t exponents_len,
+                       const uint64_t *epochs, size_t epochs_len,
+                       const uint8_t *marks, size_t marks_len,
+                       uint64_t kind, uint64_t method, uint64_t layer,
+                       const int32_t *lats, size_t lats_len,
+                       const int32_t *lons, size_t lons_len,
+                       const uint64_t *seconds, size_t seconds_len,
+                       uint8_t *answers, size_t answers_len,
+                       int32_t *values, size_t values_len);
+
 /* Places in what ionex_explain tells of an answer, IONEX_EXPLAINED numbers. */
 enum ionex_explained {
     IONEX_NODES = 0,       /* how many nodes the answer is made of, 1 to 8 */

@@ -2,7 +2,7 @@
  * after another from standard input and answers each on standard output. src/bridge.rs is the other end.
  *
  * A call is a struct call, then its areas. What goes back is the function's answer, then the areas that were lent, as
- * the call left them. -D READ, NEEDS, WRITE, ASK, EXPLAIN, TECU_DELAY, DELAY, MOVED, JOIN, WEEK_ADD, INDEX, INDEXED_NODE,
+ * the call left them. -D READ, NEEDS, WRITE, ASK, ASK_ALL, EXPLAIN, TECU_DELAY, DELAY, MOVED, JOIN, WEEK_ADD, INDEX, INDEXED_NODE,
  * INDEXED_BLOCK or BIASES: the archive has this function. */
 #include "ionex.h"
 #include <stdio.h>
@@ -26,7 +26,8 @@ enum function {
     FUNCTION_INDEXED_NODE,
     FUNCTION_INDEXED_BLOCK,
     FUNCTION_BIASES,
-    FUNCTION_EXPLAIN
+    FUNCTION_EXPLAIN,
+    FUNCTION_ASK_ALL
 };
 
 struct area {
@@ -115,6 +116,10 @@ static uint64_t answer(const struct call *call, void *const *at)
 #ifdef EXPLAIN
     case FUNCTION_EXPLAIN:
         return ionex_explain(EIGHT, N(0), N(1), N(2), (int32_t)N(3), (int32_t)N(4), N(5), AREA(8), AREA(9));
+#endif
+#ifdef ASK_ALL
+    case FUNCTION_ASK_ALL:
+        return ionex_ask_all(EIGHT, N(0), N(1), N(2), AREA(8), AREA(9), AREA(10), AREA(11), AREA(12));
 #endif
     default:
         fprintf(stderr, "bridge: no function %d\n", (int)call->function);

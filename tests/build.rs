@@ -6,10 +6,11 @@ use std::env;
 use std::path::{Path, PathBuf};
 use std::process::Command;
 
-const FUNCTIONS: [&str; 14] = [
+const FUNCTIONS: [&str; 15] = [
     "READ",
     "NEEDS",
     "ASK",
+    "ASK_ALL",
     "EXPLAIN",
     "TECU_DELAY",
     "DELAY",

@@ -79,6 +79,14 @@ static uint64_t explain(enum ionex_kind kind, int64_t *nodes, uint64_t *lacking)
     return ionex_explain(SET, kind, IONEX_BETWEEN, 0, -1000, 0, epochs[0], nodes, IONEX_EXPLAINED, lacking, IONEX_LACKING);
 }
 
+/* The worked example of ionex_ask_all, as tests/run takes it from the header file. */
+static uint64_t rovers(uint64_t second)
+{
+    size_t tec_len = 8, rms_len = 8, height_len = 8, exponents_len = 12, epochs_len = 2, marks_len = 2;
+#include "rovers.h"
+    return answer;
+}
+
 int main(int argc, char **argv)
 {
     if (argc != 3)
@@ -123,6 +131,18 @@ int main(int argc, char **argv)
     must(ask(IONEX_KIND_TEC) == IONEX_DONE && value[0] == 10, "TEC asked for");
     must(ask(IONEX_KIND_HEIGHT) == IONEX_DONE && value[0] == 50, "height asked for");
     must(ask(IONEX_KIND_RMS) == IONEX_NO_VALUE && value[0] == 50, "no RMS value");
+
+    int32_t lats[] = {-1000, -1000, 1}, lons[] = {0, 0, 0}, many[4] = {7, 7, 7, 7};
+    uint64_t seconds[] = {epochs[0], epochs[1] + 1, epochs[0]};
+    uint8_t answers[5] = {77, 77, 77, 77, 77};
+    must(ionex_ask_all(SET, IONEX_KIND_TEC, IONEX_BETWEEN, 0, AREA(lats), AREA(lons), AREA(seconds), AREA(answers),
+                       AREA(many)) == IONEX_DONE, "many questions");
+    must(answers[0] == IONEX_DONE && answers[1] == IONEX_OUTSIDE_TIME && answers[2] == IONEX_OUTSIDE_GRID, "each answer");
+    must(many[0] == 10 && many[1] == 7 && many[2] == 7, "the value of each, or as found");
+    must(many[3] == 7 && answers[3] == 77 && answers[4] == 77, "behind the last question");
+    must(ionex_ask_all(SET, IONEX_KIND_TEC, IONEX_SUN, 0, AREA(lats), AREA(lons), AREA(seconds), AREA(answers),
+                       AREA(many)) == IONEX_UNSERVED && answers[0] == IONEX_DONE, "many questions refused");
+    must(rovers(epochs[0]) == IONEX_DONE, "the worked example");
 
     int64_t nodes[IONEX_EXPLAINED] = {7};
     uint64_t lacking[IONEX_LACKING] = {7};

@@ -16,6 +16,10 @@ static int32_t tec2[2000000], rms2[2000000], height2[2000000], exponents2[600000
 static uint64_t epochs[300], epochs2[300], place[2], needs[IONEX_NEEDS], count[1], moved[1], positions[6000000], method;
 static uint8_t text[1 << 24], out[1 << 24], marks[300], marks2[300], texts[IONEX_TEXTS], texts2[IONEX_TEXTS];
 static int64_t header[IONEX_HEADER], header2[IONEX_HEADER], week[IONEX_WEEK], figures[15 * 301];
+enum { MANY = 100 };
+static int32_t lats[MANY], lons[MANY], values[MANY];
+static uint64_t seconds[MANY];
+static uint8_t answers[MANY];
 static int64_t explained[IONEX_EXPLAINED];
 static uint64_t lacking[IONEX_LACKING];
 static double record[IONEX_RECORD];
@@ -43,6 +47,16 @@ static void asking(void)
     int32_t lat = (int32_t)(10 * header[IONEX_LAT1] + 3 * header[IONEX_DLAT]);
     int32_t lon = (int32_t)(10 * header[IONEX_LON1] + 3 * header[IONEX_DLON]);
     ionex_ask(SET, IONEX_KIND_TEC, method, 0, lat, lon, epochs[0] + 1, AREA(value));
+}
+
+static void asking_many(void)
+{
+    for (int k = 0; k < MANY; k++) {
+        lats[k] = (int32_t)(10 * header[IONEX_LAT1] + k * header[IONEX_DLAT]);
+        lons[k] = (int32_t)(10 * header[IONEX_LON1] + k * header[IONEX_DLON]);
+        seconds[k] = epochs[0] + (uint64_t)k;
+    }
+    ionex_ask_all(SET, IONEX_KIND_TEC, method, 0, AREA(lats), AREA(lons), AREA(seconds), AREA(answers), AREA(values));
 }
 
 static void explaining(void)
@@ -131,6 +145,7 @@ static struct {
     {"a block", blocking, 4096, 0},
     {"writing", writing, 4096, 0},
     {"asking", asking, 4096, 0},
+    {"asking many", asking_many, 4096, 0},
     {"explaining", explaining, 4096, 0},
     {"delay", delaying, 4096, 0},
     {"delay of TECU", multiplying, 4096, 0},

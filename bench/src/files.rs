@@ -1,6 +1,8 @@
 //! Global files as the analysis centres make them: 25 maps of 71 rows and 73 columns; the same in other forms; and
 //! large texts.
 
+use compare::set::{Buffers, MapSet};
+use second::{Axis, Header, Texts};
 use std::fmt::Write;
 
 /// The maps and the grid of a file: rows southward and layers upward, from the first by the step.
@@ -164,6 +166,46 @@ const END_OF_HEADER: &str =
 fn bias(number: usize) -> f64 {
     f64::from(29 * noise(0, 0, number) - 15_000) / 1000.0
 }
+
+/// A set of so many maps, an hour from one to the next, round the Earth; its rows are few, so that 300 maps are near at hand too.
+pub fn with_maps(maps: usize) -> MapSet {
+    let axis = |first, last, step| Axis { first, last, step };
+    let (rows, columns) = (15, 73);
+    let header = Header {
+        version: 11,
+        file_type: b'I',
+        code: 4,
+        first_epoch: MONDAY,
+        last_epoch: MONDAY + 3600 * (maps as u64 - 1),
+        interval: 3600,
+        maps: maps as i64,
+        cutoff: 100,
+        radius: 63_710,
+        dimension: 2,
+        heights: axis(4500, 4500, 0),
+        latitudes: axis(875, -875, -125),
+        longitudes: axis(-1800, 1800, 50),
+        ..Header::default()
+    };
+    let nodes = (0..maps).flat_map(|map| {
+        (0..rows).flat_map(move |row| (0..columns).map(move |column| tec(map % 25, row, column)))
+    });
+    MapSet {
+        areas: Buffers {
+            tec: nodes.collect(),
+            rms: Vec::new(),
+            height: Vec::new(),
+            exponents: vec![-1; 3 * maps * rows],
+            epochs: (0..maps as u64).map(|map| MONDAY + 3600 * map).collect(),
+            marks: vec![0; maps],
+        },
+        texts: Texts::default(),
+        header,
+    }
+}
+
+/// 2024-01-01 00:00:00.
+const MONDAY: u64 = 3_913_056_000;
 
 fn record(text: &mut String, body: &str, label: &str) {
     writeln!(text, "{body:<60}{label}").expect("a string takes all");

@@ -11,7 +11,8 @@ use bench::join::join;
 use bench::plain::read;
 use compare::archive::{Archive, FUNCTIONS};
 use compare::biases::{self, Biases};
-use compare::boundary::{self, Boundary, Given, Lent, HEADER, TEXTS};
+use compare::boundary::{self, Asked, Boundary, Given, Lent, HEADER, TEXTS};
+use compare::many::{Asking, Chosen, Many};
 use compare::set::{Buffers, MapSet};
 use second::Question;
 use std::hint::black_box;
@@ -51,6 +52,7 @@ fn main() {
     let two = report_asking(&tec, 2);
     let ratio_of = two / one;
     println!("one question by method 2 over one by method 1: {ratio_of:.2}");
+    report_many(&tec);
     report_moving();
     report_writing("25 TEC maps", &tec);
     report_writing("25 TEC and 25 RMS maps", &both);
@@ -238,6 +240,64 @@ fn report_asking(text: &str, method: i64) -> f64 {
         "one question by method {method}: library {library:.0} ns, plain {plain:.0} ns, ratio {ratio:.2}"
     );
     library
+}
+
+/// Many questions in one call, for each method, beside as many single calls: on the global file, and on sets of 5 and of 300
+/// maps.
+fn report_many(text: &str) {
+    let (_, global) = map_set(text);
+    let [five, three_hundred] = [5, 300].map(files::with_maps);
+    for method in 0..4 {
+        let [[single, of_25], [_, of_5], [_, of_300]] =
+            [&global, &five, &three_hundred].map(|set| many(set, method));
+        let (ratio, grows) = (of_25 / single, of_300 / of_5);
+        println!(
+            "{QUESTIONS} questions in one call by method {method}: {of_25:.0} ns each, alone {single:.0} ns, ratio {ratio:.2}; \
+             of 300 maps {of_300:.0} ns, of 5 {of_5:.0} ns, ratio {grows:.2}"
+        );
+    }
+}
+
+/// Nanoseconds for a question alone, and for one of many in a call.
+fn many(set: &MapSet, method: i64) -> [f64; 2] {
+    let given = boundary::given(set);
+    let span = set.header.last_epoch - set.header.first_epoch;
+    let questions: Vec<Question> = questions(set.header.first_epoch, method)
+        .into_iter()
+        .map(|question| Question {
+            second: set.header.first_epoch + question.second % (span + 1),
+            ..question
+        })
+        .collect();
+    let asked: Vec<Asked> = questions.iter().map(boundary::asked).collect();
+    let asking = Asking {
+        lats: asked.iter().map(|asked| asked.lat).collect(),
+        lons: asked.iter().map(|asked| asked.lon).collect(),
+        seconds: asked.iter().map(|asked| asked.second).collect(),
+    };
+    let chosen = Chosen {
+        kind: 0,
+        method: method as u64,
+        layer: 0,
+    };
+    let mut best = [Duration::MAX; 2];
+    let (mut answers, mut values) = ([77; QUESTIONS], [0; QUESTIONS]);
+    for _ in 0..ASKING_ROUNDS {
+        let alone = timed(&mut best[0], || sum(&questions, |q| ask_library(&given, q)));
+        let answer = timed(&mut best[1], || {
+            Archive.ask_all(
+                black_box(&given),
+                &chosen,
+                black_box(&asking),
+                &mut answers,
+                &mut values,
+            )
+        });
+        assert_eq!((answer, answers), (0, [0; QUESTIONS]));
+        let all: i64 = values.iter().copied().map(i64::from).sum();
+        assert_eq!(all, alone, "not as each question alone");
+    }
+    best.map(|time| micros(time) * 1000.0 / QUESTIONS as f64)
 }
 
 fn sum(questions: &[Question], value: impl Fn(&Question) -> i32) -> i64 {

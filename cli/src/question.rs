@@ -36,8 +36,10 @@ impl Question {
         })
     }
 
-    pub fn ask(&self, maps: &MapSet, place: Place, time: Epoch) -> Result<Answer, Refusal> {
-        maps.ask(self.kind, self.method, self.layer, place, time)
+    /// The answer to each; a refusal of all of them is that of each.
+    pub fn ask_all(&self, maps: &MapSet, asked: &[(Place, Epoch)]) -> Vec<Result<Answer, Refusal>> {
+        let all = maps.ask_all(self.kind, self.method, self.layer, asked.iter().copied());
+        all.unwrap_or_else(|refusal| vec![Err(refusal); asked.len()])
     }
 
     /// What was asked, for machines.

@@ -38,11 +38,23 @@ fn place_and_time(at: &str, time: &str) -> Result<(Place, Epoch), Stop> {
     Ok((place, time))
 }
 
+/// What is printed of each of some questions, in their order.
+type Answers<'a> = dyn Fn(&[(Place, Epoch)]) -> Vec<(Status, String)> + 'a;
+
 /// How questions are answered.
 pub struct Answering<'a> {
-    /// What is printed of a question.
-    pub answer: &'a dyn Fn(Place, Epoch) -> (Status, String),
+    pub answer: &'a Answers<'a>,
     pub json: bool,
+}
+
+/// How many lines are answered at once, where so many are there already.
+const BLOCK: usize = 1000;
+
+/// A line of standard input.
+enum Line {
+    Question(Place, Epoch),
+    /// No question: what is printed of it.
+    Words(Status, String),
 }
 
 impl Answering<'_> {
@@ -55,7 +67,9 @@ impl Answering<'_> {
     }
 
     fn one(&self, place: Place, time: Epoch, out: &mut Output) -> Result<Status, Stop> {
-        let (status, words) = (self.answer)(place, time);
+        let Some((status, words)) = (self.answer)(&[(place, time)]).pop() else {
+            return Ok(Status::Done);
+        };
         if status == Status::Refused && !self.json {
             return Err(Stop::Refused(format!("ionex: {words}")));
         }
@@ -63,37 +77,65 @@ impl Answering<'_> {
         Ok(status)
     }
 
-    /// Questions from standard input. What is answered goes out before more is waited for.
+    /// Questions from standard input, block by block. What can be answered is, and goes out, before more is waited for.
     fn many(&self, out: &mut Output) -> Result<Status, Stop> {
         if io::stdin().is_terminal() {
             tell("ionex: questions, one to a line: LAT LON TIME");
         }
         let mut source = BufReader::with_capacity(1 << 16, io::stdin());
         let mut progress = Progress::new("answered", 64);
+        let mut block = Vec::new();
         while let Some(line) = next_line(&mut source)? {
-            let (status, words) = self.answer_line(&line);
-            out.reached = out.reached.max(status);
-            out.line(&words)?;
-            if source.buffer().is_empty() {
+            block.push(self.line(&line));
+            // Where no whole line is there, the next one may be long in coming.
+            let last = !source.buffer().contains(&b'\n');
+            if last || block.len() == BLOCK {
+                self.answer_block(&mut block, &mut progress, out)?;
+            }
+            if last {
                 out.flush()?;
             }
-            progress.step();
         }
         Ok(out.reached)
     }
 
-    fn answer_line(&self, line: &str) -> (Status, String) {
+    fn answer_block(
+        &self,
+        block: &mut Vec<Line>,
+        progress: &mut Progress,
+        out: &mut Output,
+    ) -> Result<(), Stop> {
+        let question = |line: &Line| match line {
+            Line::Question(place, time) => Some((*place, *time)),
+            Line::Words(..) => None,
+        };
+        let asked: Vec<(Place, Epoch)> = block.iter().filter_map(question).collect();
+        let mut answers = (self.answer)(&asked).into_iter();
+        for line in block.drain(..) {
+            let told = match line {
+                Line::Question(..) => answers.next(),
+                Line::Words(status, words) => Some((status, words)),
+            };
+            let (status, words) = told.unwrap_or((Status::Done, String::new()));
+            out.reached = out.reached.max(status);
+            out.line(&words)?;
+            progress.step();
+        }
+        Ok(())
+    }
+
+    fn line(&self, line: &str) -> Line {
         if line.trim().is_empty() {
             let nothing = if self.json { "null" } else { "" };
-            return (Status::Done, nothing.to_string());
+            return Line::Words(Status::Done, nothing.to_string());
         }
         match parse_line(line) {
-            Ok((place, time)) => (self.answer)(place, time),
+            Ok((place, time)) => Line::Question(place, time),
             Err(fault) if self.json => {
                 let object = Object::new().text("line", line).text("error", &fault);
-                (Status::Failed, object.to_string())
+                Line::Words(Status::Failed, object.to_string())
             }
-            Err(fault) => (Status::Failed, format!("not understood: {fault}")),
+            Err(fault) => Line::Words(Status::Failed, format!("not understood: {fault}")),
         }
     }
 }

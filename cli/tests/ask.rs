@@ -162,6 +162,73 @@ fn one_by_one() {
     assert_eq!(child.wait().expect("an end").code(), Some(0));
 }
 
+/// A question that is whole is answered though the next one has begun.
+#[test]
+fn half_a_line_is_not_waited_for() {
+    let mut child = command()
+        .args(["ask", CANONICAL])
+        .stdin(Stdio::piped())
+        .stdout(Stdio::piped())
+        .spawn()
+        .expect("the program runs");
+    let mut to = child.stdin.take().expect("standard input");
+    let mut from = BufReader::new(child.stdout.take().expect("standard output"));
+    for (part, answer) in [
+        ("10 0 2000-01-01\n5 5", "0.100 TECU\n"),
+        (" 2000-01-01\n10", "0.300 TECU\n"),
+        (" 20 2000-01-01\n", "0.300 TECU\n"),
+    ] {
+        to.write_all(part.as_bytes()).expect("a part");
+        let mut line = String::new();
+        from.read_line(&mut line).expect("an answer");
+        assert_eq!(line, answer);
+    }
+    drop(to);
+    assert_eq!(child.wait().expect("an end").code(), Some(0));
+}
+
+/// Thousands of lines in one go, more than are answered at once, with lines among them that are no questions: each has its
+/// answer in its place.
+#[test]
+fn blocks_of_lines() {
+    let kinds: [(&str, &str); 5] = [
+        ("10 0 2000-01-01", "0.100 TECU"),
+        ("", ""),
+        ("0 20 2000-01-01 02:00:00", "1.600 TECU"),
+        (
+            "-1 0 2000-01-01",
+            "refused 21: the place or the layer lies outside the grid: latitude -1.00 is not within 10.0 to 0.0",
+        ),
+        (
+            "x y z",
+            "not understood: \"x\": expected degrees with at most two decimals, as 47.25 or -8.5",
+        ),
+    ];
+    for count in [999, 1000, 1001, 2000, 7777] {
+        // 7 and 5 have no divisor in common, so that every sort stands at a block's end once.
+        let sorts: Vec<usize> = (0..count).map(|k| (k * k + 7 * k) % 5).collect();
+        let [questions, expected] = [0, 1].map(|side| {
+            let line = |sort: &usize| {
+                let (question, answer) = kinds[*sort];
+                format!("{}\n", [question, answer][side])
+            };
+            sorts.iter().map(line).collect::<String>()
+        });
+        let ran = ionex_given(questions.as_bytes(), &["ask", CANONICAL]);
+        assert_eq!((ran.status, ran.text()), (2, expected.as_str()), "{count}");
+    }
+    // Maps that cannot be turned are told of each question.
+    let ran = ionex_given(
+        "10 0 2000-01-01\n".repeat(1500).as_bytes(),
+        &["ask", CANONICAL, "--method", "sun"],
+    );
+    assert_eq!((ran.status, ran.text().lines().count()), (1, 1500));
+    assert!(ran
+        .text()
+        .lines()
+        .all(|line| line.starts_with("refused 24: ")));
+}
+
 /// The file from standard input, and one question.
 #[test]
 fn a_file_from_standard_input() {

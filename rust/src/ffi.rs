@@ -33,6 +33,16 @@ extern "C" {
         value: *mut i32, value_len: usize,
     ) -> u64;
 
+    fn ionex_ask_all(
+        header: *const i64, header_len: usize, texts: *const u8, texts_len: usize,
+        tec: *const i32, tec_len: usize, rms: *const i32, rms_len: usize, height: *const i32, height_len: usize,
+        exponents: *const i32, exponents_len: usize, epochs: *const u64, epochs_len: usize,
+        marks: *const u8, marks_len: usize,
+        kind: u64, method: u64, layer: u64,
+        lats: *const i32, lats_len: usize, lons: *const i32, lons_len: usize, seconds: *const u64, seconds_len: usize,
+        answers: *mut u8, answers_len: usize, values: *mut i32, values_len: usize,
+    ) -> u64;
+
     fn ionex_explain(
         header: *const i64, header_len: usize, texts: *const u8, texts_len: usize,
         tec: *const i32, tec_len: usize, rms: *const i32, rms_len: usize, height: *const i32, height_len: usize,
@@ -79,6 +89,17 @@ pub struct Asked {
     pub lat: i32,
     pub lon: i32,
     pub second: u64,
+}
+
+/// Many questions as they are given to a call.
+#[derive(Clone, Copy)]
+pub struct Many<'a> {
+    pub kind: u64,
+    pub method: u64,
+    pub layer: u64,
+    pub lats: &'a [i32],
+    pub lons: &'a [i32],
+    pub seconds: &'a [u64],
 }
 
 // Sound: each pointer is a slice's own, so it is valid, aligned and not null for length 0 too, and the length beside it is
@@ -133,6 +154,23 @@ pub fn ask(given: Given, asked: Asked, value: &mut [i32]) -> u64 {
             exponents.as_ptr(), exponents.len(), epochs.as_ptr(), epochs.len(), marks.as_ptr(), marks.len(),
             kind, method, layer, lat, lon, second,
             value.as_mut_ptr(), value.len(),
+        )
+    }
+}
+
+/// `ionex_ask_all`.
+#[rustfmt::skip]
+pub fn ask_all(given: Given, many: Many, answers: &mut [u8], values: &mut [i32]) -> u64 {
+    let Given { header, texts, tec, rms, height, exponents, epochs, marks } = given;
+    let Many { kind, method, layer, lats, lons, seconds } = many;
+    unsafe {
+        ionex_ask_all(
+            header.as_ptr(), header.len(), texts.as_ptr(), texts.len(),
+            tec.as_ptr(), tec.len(), rms.as_ptr(), rms.len(), height.as_ptr(), height.len(),
+            exponents.as_ptr(), exponents.len(), epochs.as_ptr(), epochs.len(), marks.as_ptr(), marks.len(),
+            kind, method, layer,
+            lats.as_ptr(), lats.len(), lons.as_ptr(), lons.len(), seconds.as_ptr(), seconds.len(),
+            answers.as_mut_ptr(), answers.len(), values.as_mut_ptr(), values.len(),
         )
     }
 }

@@ -20,6 +20,7 @@ pub mod index;
 pub mod join;
 pub mod labels;
 pub mod lines;
+pub mod many;
 pub mod maps;
 pub mod program;
 pub mod read;

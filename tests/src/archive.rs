@@ -18,10 +18,11 @@ pub fn fenced() -> Archive {
 }
 
 /// Each function of the boundary, and whether it comes from the archive.
-pub const FUNCTIONS: [(&str, bool); 14] = [
+pub const FUNCTIONS: [(&str, bool); 15] = [
     ("ionex_read", cfg!(feature = "read")),
     ("ionex_needs", cfg!(feature = "needs")),
     ("ionex_ask", cfg!(feature = "ask")),
+    ("ionex_ask_all", cfg!(feature = "ask_all")),
     ("ionex_explain", cfg!(feature = "explain")),
     ("ionex_tecu_delay", cfg!(feature = "tecu_delay")),
     ("ionex_delay", cfg!(feature = "delay")),

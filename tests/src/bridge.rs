@@ -5,6 +5,7 @@ use crate::biases::{self, Biases};
 use crate::boundary::{Asked, Boundary, Given, Lent, Plain};
 use crate::explains::Explains;
 use crate::indexes::{Indexes, Kept};
+use crate::many::{Asking, Chosen, Many};
 use crate::program;
 use crate::weeks::Weeks;
 use second::index::Node;
@@ -28,6 +29,7 @@ const INDEXED_NODE: u64 = 10;
 const INDEXED_BLOCK: u64 = 11;
 const BIASES: u64 = 12;
 const EXPLAIN: u64 = 13;
+const ASK_ALL: u64 = 14;
 const NUMBERS: usize = 7;
 const AREAS: usize = 25;
 
@@ -119,6 +121,29 @@ impl Boundary for Archive {
         }
         let mut call = Call::new(MOVED, &[epoch, by as u64]);
         call.lend(moved);
+        call.answer()
+    }
+}
+
+impl Many for Archive {
+    fn ask_all(
+        &self,
+        given: &Given,
+        chosen: &Chosen,
+        asking: &Asking,
+        answers: &mut [u8],
+        values: &mut [i32],
+    ) -> u64 {
+        if !cfg!(feature = "ask_all") {
+            return Plain.ask_all(given, chosen, asking, answers, values);
+        }
+        let mut call = Call::new(ASK_ALL, &[chosen.kind, chosen.method, chosen.layer]);
+        call.give_set(given);
+        call.give(&asking.lats);
+        call.give(&asking.lons);
+        call.give(&asking.seconds);
+        call.lend(answers);
+        call.lend(values);
         call.answer()
     }
 }

@@ -5,6 +5,7 @@ use crate::biases::{self, Biases};
 use crate::boundary::{Asked, Boundary, Given, Lent};
 use crate::explains::Explains;
 use crate::indexes::{Indexes, Kept};
+use crate::many::{Asking, Chosen, Many};
 use crate::weeks::Weeks;
 use second::index::Node;
 
@@ -14,7 +15,7 @@ pub struct Archive;
 /// What is given and lent, as the crate's calls take it.
 #[cfg(feature = "ionex")]
 pub mod parts {
-    use super::{biases, Asked, Given, Kept, Lent, Node};
+    use super::{biases, Asked, Asking, Chosen, Given, Kept, Lent, Node};
     use ionex::ffi;
 
     pub fn set(given: &Given) -> ffi::Given<'_> {
@@ -61,6 +62,22 @@ pub mod parts {
             lat,
             lon,
             second,
+        }
+    }
+
+    pub fn many<'a>(chosen: &Chosen, asking: &'a Asking) -> ffi::Many<'a> {
+        let Chosen {
+            kind,
+            method,
+            layer,
+        } = *chosen;
+        ffi::Many {
+            kind,
+            method,
+            layer,
+            lats: &asking.lats,
+            lons: &asking.lons,
+            seconds: &asking.seconds,
         }
     }
 
@@ -192,6 +209,28 @@ impl Boundary for Archive {
             "moved",
             ionex::ffi::moved(epoch, by, moved),
             crate::boundary::Plain.moved(epoch, by, moved)
+        )
+    }
+}
+
+impl Many for Archive {
+    fn ask_all(
+        &self,
+        given: &Given,
+        chosen: &Chosen,
+        asking: &Asking,
+        answers: &mut [u8],
+        values: &mut [i32],
+    ) -> u64 {
+        linked!(
+            "ask_all",
+            ionex::ffi::ask_all(
+                parts::set(given),
+                parts::many(chosen, asking),
+                answers,
+                values
+            ),
+            crate::boundary::Plain.ask_all(given, chosen, asking, answers, values)
         )
     }
 }

@@ -157,7 +157,7 @@ fn questions(rng: &mut Rng) -> Vec<(MapSet, Question)> {
 }
 
 /// A set, more often than not one that goes round the Earth.
-fn round(rng: &mut Rng) -> MapSet {
+pub fn round(rng: &mut Rng) -> MapSet {
     let set = gen::map_set(rng);
     match set.header.longitudes.goes_round() || rng.once_in(3) {
         true => set,
@@ -166,7 +166,7 @@ fn round(rng: &mut Rng) -> MapSet {
 }
 
 /// A question, mostly a good one, and mostly about a kind that has a map.
-fn question(rng: &mut Rng, set: &MapSet) -> Question {
+pub fn question(rng: &mut Rng, set: &MapSet) -> Question {
     let question = damage::question(rng, set);
     if rng.once_in(3) {
         return question;

@@ -6,6 +6,7 @@ use crate::boundary::{Asked, Boundary, Given, Lent};
 use crate::c::parts;
 use crate::explains::Explains;
 use crate::indexes::{Indexes, Kept};
+use crate::many::{Asking, Chosen, Many};
 use crate::pages::{Number, Room, Side};
 use crate::weeks::Weeks;
 use ionex::ffi;
@@ -305,6 +306,40 @@ impl Boundary for Fenced {
             "moved",
             self.call(|desk| desk.area(moved, |moved| ffi::moved(epoch, by, moved))),
             crate::boundary::Plain.moved(epoch, by, moved)
+        )
+    }
+}
+
+impl Many for Fenced {
+    fn ask_all(
+        &self,
+        given: &Given,
+        chosen: &Chosen,
+        asking: &Asking,
+        answers: &mut [u8],
+        values: &mut [i32],
+    ) -> u64 {
+        linked!(
+            "ask_all",
+            self.call(|desk| {
+                let laid = desk.set(given);
+                let parts = parts::many(chosen, asking);
+                let many = ffi::Many {
+                    lats: desk.lay(parts.lats),
+                    lons: desk.lay(parts.lons),
+                    seconds: desk.lay(parts.seconds),
+                    ..parts
+                };
+                let told = desk.lay(answers);
+                let answer = desk.area(values, |values| ffi::ask_all(laid, many, told, values));
+                answers.copy_from_slice(told);
+                kept_set(&laid, given);
+                kept(many.lats, &asking.lats);
+                kept(many.lons, &asking.lons);
+                kept(many.seconds, &asking.seconds);
+                answer
+            }),
+            crate::boundary::Plain.ask_all(given, chosen, asking, answers, values)
         )
     }
 }

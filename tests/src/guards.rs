@@ -10,6 +10,7 @@ use crate::explains::{Explains, EXPLAINED, LACKING};
 use crate::fenced::{Fenced, Touch};
 use crate::gen;
 use crate::indexes::{self, Indexes, Kept};
+use crate::many::{Asking, Chosen, Many};
 use crate::pages::Side;
 use crate::program;
 use crate::rng::Rng;
@@ -24,9 +25,9 @@ use std::os::unix::process::ExitStatusExt;
 use std::process::{Command, ExitStatus, Stdio};
 
 /// All functions of the library.
-pub trait All: Boundary + Explains + Weeks + Indexes + Biases {}
+pub trait All: Boundary + Many + Explains + Weeks + Indexes + Biases {}
 
-impl<L: Boundary + Explains + Weeks + Indexes + Biases> All for L {}
+impl<L: Boundary + Many + Explains + Weeks + Indexes + Biases> All for L {}
 
 /// The first has all kinds of maps, CR LF and an aux block, the second code biases.
 const FILES: [&str; 2] = ["accepted-2d-freedoms", "accepted-version-1"];
@@ -98,6 +99,35 @@ impl Sample {
     }
 }
 
+/// How many questions are asked in one call.
+const MANY: usize = 4;
+
+impl Sample {
+    /// Questions at the first and at the last epoch, inside and outside.
+    fn many(&self) -> (Chosen, Asking) {
+        let Asked {
+            kind,
+            method,
+            layer,
+            lat,
+            lon,
+            second,
+        } = self.asked;
+        let first = self.given.areas.epochs[0];
+        let chosen = Chosen {
+            kind,
+            method,
+            layer,
+        };
+        let asking = Asking {
+            lats: vec![lat, lat, i32::MAX, lat],
+            lons: vec![lon, lon, lon, i32::MIN],
+            seconds: vec![second, first, second, first - 1],
+        };
+        (chosen, asking)
+    }
+}
+
 fn lent(needs: [usize; 6]) -> Lent {
     Lent {
         areas: Buffers::filled(needs, 2),
@@ -123,7 +153,7 @@ fn bias_room(text: &[u8]) -> biases::Lent {
 type Export = fn(&dyn All, &Sample) -> u64;
 
 /// A good call of each export.
-const EXPORTS: [(&str, Export); 14] = [
+const EXPORTS: [(&str, Export); 15] = [
     ("ionex_read", |library, sample| {
         library.read(&sample.text, &mut sample.lent.clone())
     }),
@@ -132,6 +162,11 @@ const EXPORTS: [(&str, Export); 14] = [
     }),
     ("ionex_ask", |library, sample| {
         library.ask(&sample.given, &sample.asked, &mut [0])
+    }),
+    ("ionex_ask_all", |library, sample| {
+        let (chosen, asking) = sample.many();
+        let (given, answers, values) = (&sample.given, &mut [0; MANY], &mut [0; MANY]);
+        library.ask_all(given, &chosen, &asking, answers, values)
     }),
     ("ionex_explain", |library, sample| {
         let (given, asked) = (&sample.given, &sample.asked);
@@ -330,6 +365,17 @@ impl Guards {
                 let mut value = [7];
                 (library.ask(given, &asked, &mut value), value)
             });
+            let (chosen, asking) = sample.many();
+            let chosen = Chosen {
+                kind,
+                method,
+                ..chosen
+            };
+            self.same("ask_all", |library| {
+                let (mut answers, mut values) = ([7; MANY], [7; MANY]);
+                let answer = library.ask_all(given, &chosen, &asking, &mut answers, &mut values);
+                (answer, answers, values)
+            });
             self.same("explain", |library| {
                 let (mut nodes, mut lacking) = ([7; EXPLAINED], [7; LACKING]);
                 let answer = library.explain(given, &asked, &mut nodes, &mut lacking);
@@ -418,6 +464,22 @@ impl Guards {
                 let (mut week, mut rows) = (vec![0; length], vec![7; sample.rows]);
                 let answer = library.week_add(&mut week, &sample.given, &mut rows, &mut [7; 2]);
                 (answer, week, rows)
+            });
+        }
+        for (slice, length) in (0..5).flat_map(|slice| (0..MANY).map(move |n| (slice, n))) {
+            self.same("slices of questions", |library| {
+                let (chosen, mut asking) = sample.many();
+                let (mut answers, mut values) = (vec![7; MANY], vec![7; MANY]);
+                match slice {
+                    0 => asking.lats.truncate(length),
+                    1 => asking.lons.truncate(length),
+                    2 => asking.seconds.truncate(length),
+                    3 => answers.truncate(length),
+                    _ => values.truncate(length),
+                }
+                let given = &sample.given;
+                let answer = library.ask_all(given, &chosen, &asking, &mut answers, &mut values);
+                (answer, answers, values)
             });
         }
         for length in 0..=EXPLAINED + 1 {

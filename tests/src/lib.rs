@@ -28,6 +28,7 @@ pub mod indexes;
 pub mod jobs;
 pub mod joins;
 pub mod library;
+pub mod many;
 pub mod oracle;
 #[cfg(all(target_arch = "x86_64", feature = "ionex"))]
 pub mod pages;

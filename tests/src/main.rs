@@ -4,6 +4,7 @@
 //! compare faults COUNT SEED       every planted fault must be found
 //! compare delays SEED             delays of a week's log and of any carriers, by both, bit for bit
 //! compare explains COUNT SEED     where answers came from, by both, and what is listed judged
+//! compare many COUNT SEED         many questions in one call, by both, and each as if it were alone
 //! compare weeks COUNT SEED        weeks in figures, by both, and the reports judged
 //! compare indexes COUNT SEED      indexes, nodes and blocks, by both, and the indexes judged
 //! compare biases COUNT SEED       code biases, by both, and those of good texts judged
@@ -21,7 +22,7 @@
 use compare::archive::{self, Archive, FUNCTIONS};
 use compare::check::{self, Tally};
 use compare::library::{self, Second};
-use compare::{biases, calls, delays, explains, faults, indexes, program, remarks, weeks};
+use compare::{biases, calls, delays, explains, faults, indexes, many, program, remarks, weeks};
 use std::path::Path;
 use std::process::ExitCode;
 
@@ -74,7 +75,7 @@ fn main() -> ExitCode {
 
 fn usage() -> ExitCode {
     eprintln!(
-        "usage: compare self-check|libraries|boundary|explains|weeks|indexes|biases|faults|places COUNT SEED"
+        "usage: compare self-check|libraries|boundary|explains|many|weeks|indexes|biases|faults|places COUNT SEED"
     );
     eprintln!("       compare delays SEED");
     eprintln!("       compare program FILE");
@@ -91,6 +92,7 @@ fn seeded(mode: &str, count: u64, seed: u64) -> Option<Tally> {
         "libraries" if linked() => check::compare(&Second, library.as_ref(), count, seed),
         "boundary" if linked() => calls::compare(&archive::fenced(), count, seed),
         "explains" => explains::compare(&archive::fenced(), count, seed),
+        "many" => many::compare(&archive::fenced(), count, seed),
         "weeks" => weeks::compare(&archive::fenced(), count, seed),
         "indexes" => indexes::compare(&archive::fenced(), count, seed),
         "biases" => biases::compare(&archive::fenced(), count, seed),
@@ -141,6 +143,11 @@ fn planted_faults(count: u64, seed: u64) -> Tally {
         let found = explains::faults::find(fault, count, seed);
         let told = found.map(|(seed, difference)| format!("seed {seed}: {difference}"));
         tell(&mut tally, &format!("{fault:?} of an explanation"), told);
+    }
+    for fault in many::faults::Fault::all() {
+        let found = many::faults::find(fault, count, seed);
+        let told = found.map(|(seed, difference)| format!("seed {seed}: {difference}"));
+        tell(&mut tally, &format!("{fault:?} of many questions"), told);
     }
     for fault in weeks::Fault::all() {
         let found = weeks::find(fault, count, seed);

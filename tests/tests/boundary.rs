@@ -5,6 +5,7 @@ use compare::boundary::{
     Asked, Boundary, Given, Lent, FLAGS, HEADER, OLD_HEADER, OLD_TEXTS, TEXTS,
 };
 use compare::explains::{Explains, EXPLAINED, LACKING};
+use compare::many::{Asking, Chosen, Many};
 use compare::set::Buffers;
 use std::fs;
 use std::path::Path;
@@ -210,6 +211,44 @@ fn own_areas_too_short_for_delays() {
     assert_eq!(record, [-7.5; 5]);
     assert_eq!(Archive.tecu_delay(1000, 1.0e9, &mut record), 0);
     assert_eq!(record, [1.0e9, 1.0, 0.403, -7.5, -7.5]);
+}
+
+/// As many questions as the shortest slice has, each answered as if it were alone; the refusals of the whole come first, and
+/// there is no 103.
+#[test]
+fn many_questions() {
+    let set = set();
+    let one = question(&set);
+    let mut chosen = Chosen {
+        kind: one.kind,
+        method: one.method,
+        layer: one.layer,
+    };
+    let asking = Asking {
+        lats: vec![one.lat, one.lat, 9_001, one.lat],
+        lons: vec![one.lon; 5],
+        seconds: vec![one.second, one.second - 1, one.second, one.second],
+    };
+    let mut value = [0];
+    assert_eq!(Archive.ask(&set, &one, &mut value), 0);
+    let (mut answers, mut values) = ([77; 3], [-7; 6]);
+    let all = |given: &Given, chosen: &Chosen, answers: &mut [u8], values: &mut [i32]| {
+        Archive.ask_all(given, chosen, &asking, answers, values)
+    };
+    assert_eq!(all(&set, &chosen, &mut answers, &mut values), 0);
+    assert_eq!(answers, [0, 20, 21]);
+    assert_eq!(values, [value[0], -7, -7, -7, -7, -7]);
+    assert_eq!(all(&set, &chosen, &mut [], &mut values), 0);
+    let mut given = set.clone();
+    given.header[0] = 0;
+    assert_eq!(all(&given, &chosen, &mut [], &mut []), 31);
+    given.texts.truncate(TEXTS - 1);
+    assert_eq!(all(&given, &chosen, &mut answers, &mut values), 102);
+    given.header.truncate(HEADER - 1);
+    assert_eq!(all(&given, &chosen, &mut answers, &mut values), 101);
+    chosen.kind = 1 << 32;
+    assert_eq!(all(&set, &chosen, &mut answers, &mut values), 23);
+    assert_eq!((answers, values[0]), ([0, 20, 21], value[0]));
 }
 
 #[test]

@@ -8,7 +8,7 @@ use crate::question::Question;
 use crate::questions::{self, Answering};
 use crate::status::{Status, Stop};
 use crate::{files, refused};
-use ionex::{Epoch, MapSet, Place};
+use ionex::{Answer, Epoch, MapSet, Place, Refusal};
 
 pub const COMMAND: Command = Command {
     name: "ask",
@@ -50,21 +50,27 @@ fn run(args: &Args, out: &mut Output) -> Result<Status, Stop> {
     let maps = refused::read(&files::name(file), &files::read(file)?)?;
     let json = args.has("--json");
     let answering = Answering {
-        answer: &|place, time| answer(&maps, &question, json, place, time),
+        answer: &|asked| {
+            let found = question.ask_all(&maps, asked);
+            let each = asked.iter().zip(found);
+            each.map(|(&(place, time), found)| told(&maps, &question, json, place, time, found))
+                .collect()
+        },
         json,
     };
     answering.all(asked, out)
 }
 
 /// What is printed of one question.
-fn answer(
+fn told(
     maps: &MapSet,
     question: &Question,
     json: bool,
     place: Place,
     time: Epoch,
+    found: Result<Answer, Refusal>,
 ) -> (Status, String) {
-    match question.ask(maps, place, time) {
+    match found {
         Ok(value) if json => {
             let object = question.json(place, time);
             let object = object.raw("value", thousandths(value.thousandths()));

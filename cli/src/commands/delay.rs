@@ -67,7 +67,11 @@ fn run(args: &Args, out: &mut Output) -> Result<Status, Stop> {
     };
     let json = args.has("--json");
     let answering = Answering {
-        answer: &|place, time| asker.answer(place, time, json),
+        answer: &|asked| {
+            let each = asked.iter();
+            each.map(|&(place, time)| asker.answer(place, time, json))
+                .collect()
+        },
         json,
     };
     answering.all(asked, out)

@@ -8,7 +8,7 @@ use crate::plot::{draw, png, svg, Field, Picture};
 use crate::question::Question;
 use crate::status::{usage, Status, Stop};
 use crate::{files, refused, time};
-use ionex::{Epoch, Kind, MapSet, Place};
+use ionex::{Answer, Epoch, Kind, MapSet, Place, Refusal};
 use std::path::Path;
 
 pub const COMMAND: Command = Command {
@@ -189,24 +189,24 @@ fn of_map(maps: &MapSet, question: &Question, map: usize) -> Vec<Option<i32>> {
 /// Each node asked at the time. One without a value is drawn so; every other refusal is that of the whole map.
 fn at_time(maps: &MapSet, question: &Question, time: Epoch) -> Result<Vec<Option<i32>>, Stop> {
     let header = maps.header();
-    let mut values = Vec::with_capacity(maps.rows() * maps.columns());
-    for row in 0..maps.rows() {
-        for column in 0..maps.columns() {
-            let [lat, lon] = [header.latitudes.at(row), header.longitudes.at(column)]
-                .map(|node| 10 * node.unwrap_or(0) as i32);
-            let place = Place::new(lat, lon);
-            values.push(match question.ask(maps, place, time) {
-                Ok(value) => Some(value.thousandths()),
-                Err(refusal) if refusal.number() == 22 => None,
-                Err(refusal) => {
-                    let reason = question.reason(maps, place, time, &refusal);
-                    return Err(Stop::Refused(format!(
-                        "ionex: refused {}: {reason}",
-                        refusal.number()
-                    )));
-                }
-            });
+    let node = |row, column| {
+        let [lat, lon] = [header.latitudes.at(row), header.longitudes.at(column)]
+            .map(|node| 10 * node.unwrap_or(0) as i32);
+        (Place::new(lat, lon), time)
+    };
+    let asked: Vec<(Place, Epoch)> = (0..maps.rows())
+        .flat_map(|row| (0..maps.columns()).map(move |column| (row, column)))
+        .map(|(row, column)| node(row, column))
+        .collect();
+    let found = question.ask_all(maps, &asked);
+    let value = |((place, _), found): (&(Place, Epoch), Result<Answer, Refusal>)| match found {
+        Ok(value) => Ok(Some(value.thousandths())),
+        Err(refusal) if refusal.number() == 22 => Ok(None),
+        Err(refusal) => {
+            let reason = question.reason(maps, *place, time, &refusal);
+            let (_, words) = refused::question(None, refusal.number(), &reason);
+            Err(Stop::Refused(format!("ionex: {words}")))
         }
-    }
-    Ok(values)
+    };
+    asked.iter().zip(found).map(value).collect()
 }

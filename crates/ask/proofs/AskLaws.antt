@@ -21,7 +21,7 @@ use Rattle.ask_spans.specs.Spans.{Regular, Spanned}
 use Rattle.ask_spans.proofs.TimeLaws.{regular, last-epoch, rises-to, shares-within, shares-small}
 use Rattle.ask_nodes.specs.Value.{kind-of}
 use Rattle.ask_sums.specs.Mean.{Valued, spread, weight, mean}
-use Rattle.ask.specs.Ask.{Question, Told, refused, in-told, Guard, stop, go, Known, epochs, Served, InTime, Inside, area, shape, asked, Rounded, Answers}
+use Rattle.ask.specs.Ask.{Question, Told, refused, in-told, Guard, stop, go, Known, epochs, Served, InTime, Inside, area, shape, asked, Rounded, Placed, Answers}
 use Rattle.ask_sums.specs.Sums.{Summable}
 use Rattle.ask.proofs.MeanLaws.{mean-is}
 use Rattle.ask.proofs.ReachLaws.{latitude-step, longitude-step, total, some-weight, summable}
@@ -159,12 +159,10 @@ module _ (q : Question) (sound : Sound (q .header) (q .texts) (q .areas)) where
     can-sum known layer =
         summable q sound unit (unit-small (q .method) .0) (q .lat) _ (other .0) c d (x .first-in) (other .1) (known .0) layer h (bounded .0) (bounded .1) (rw few-epochs at (small .2)) (rw few-epochs at (small .3))
 
-    pub answered : Known q → InTime q → Inside q → (a : Told) → a ≡ in-told (kind-of (q .kind)) (mean (asked q (spread h c d))) → Answers q a
-    answered known time inside a e =
+    pub placed-answer : InTime q → Inside q → (a : Told) → a ≡ in-told (kind-of (q .kind)) (mean (asked q (spread h c d))) → Placed q a
+    placed-answer time inside a e =
         let g : Guard (Valued (asked q (spread h c d))) 22 (Rounded (kind-of (q .kind)) (asked q (spread h c d))) a = rw e (mean-is (kind-of (q .kind)) (asked q (spread h c d)) has-weight) in
-        go known
-        (go sound
-        (go served
-        (go time
-        (go inside
-        (spread h c d, (record { shares = h; uses = u; first = c; second = d; cells = x; nodes = refl }, g))))))
+        go time (go inside (spread h c d, (record { shares = h; uses = u; first = c; second = d; cells = x; nodes = refl }, g)))
+
+    pub answered : Known q → InTime q → Inside q → (a : Told) → a ≡ in-told (kind-of (q .kind)) (mean (asked q (spread h c d))) → Answers q a
+    answered known time inside a e = go known (go sound (go served (placed-answer time inside a e)))

@@ -3,6 +3,7 @@ pub mod AtEpoch
 pub mod Between
 pub mod MeanLaws
 pub mod Once
+pub mod Opened
 pub mod ReachLaws
 pub mod Reckoned
 pub mod Reckonings

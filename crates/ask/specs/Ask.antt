@@ -122,15 +122,33 @@ Rounded k ts a = (v : ℤ) × (Mean ts v × (a ≡ in-unit k v))
 abbrev pub Blended : Question → Told → Type 0
 Blended q a = (ns : List Weighed) × (Weighs q ns × Guard (Valued (asked q ns)) 22 (Rounded (kind-of (q .kind)) (asked q ns)) a)
 
--- the refusals in their order, then the value
+-- the refusals of a place and second in their order, then the value
+abbrev pub Placed : Question → Told → Type 0
+Placed q =
+    Guard (InTime q) 20
+    (Guard (Inside q) 21
+    (Blended q))
+
+-- before them those of the set, the kind and the method
 abbrev pub Answers : Question → Told → Type 0
 Answers q =
     Guard (Known q) 23
     (Guard (Sound (q .header) (q .texts) (q .areas)) 31
     (Guard (Served q) 24
-    (Guard (InTime q) 20
-    (Guard (Inside q) 21
-    (Blended q)))))
+    (Placed q)))
+
+-- ---- what no layer, place or second changes
+-- 23, 31 or 24 is due
+pub data Barred (q : Question) : ℕ → Type 0 where
+  unknown : ¬ Known q → Barred q 23
+  unsound : Known q → ¬ Sound (q .header) (q .texts) (q .areas) → Barred q 31
+  unserved : Known q → Sound (q .header) (q .texts) (q .areas) → ¬ Served q → Barred q 24
+
+-- none of the three is
+pub record Open (q : Question) : Type 0 where
+  pub known : Known q
+  pub sound : Sound (q .header) (q .texts) (q .areas)
+  pub served : Served q
 
 -- ---- what the code's answer tells
 -- 01's number of each reason, and the answer's value
@@ -141,6 +159,12 @@ number W.Unserved = 24
 number W.OutOfTime = 20
 number W.OutOfPlace = 21
 number W.NoValue = 22
+
+-- 0 for a value, or 01's number
+abbrev pub told-number : Told → ℕ
+told-number (tecu v) = 0
+told-number (km v) = 0
+told-number (refused n) = n
 
 abbrev pub told : Asked → Told
 told (A.Tecu v) = tecu (v .0)

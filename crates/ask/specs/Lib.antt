@@ -2,3 +2,4 @@
 pub mod Sun
 pub mod Turned
 pub mod Ask
+pub mod Looked

@@ -12,19 +12,78 @@ pub struct Shares {
     pub late: u64,
 }
 
-// The last map whose epoch is not after the second.
-fn map_before(epochs: &[u64], second: u64) -> usize
+// The mean gap of the epochs, by which the search guesses; nothing hangs on it, so nothing is said of it.
+pub fn mean_gap(first: u64, last: u64, maps: u32) -> u64 {
+    if maps < 2 {
+        return 0;
+    }
+    if last < first {
+        return 0;
+    }
+    (last - first) / ((maps - 1) as u64)
+}
+
+// The map that the second falls to where all gaps are this one.
+fn guess(epochs: &[u64], second: u64, gap: u64) -> usize
+    requires { ⌜ (1 ≤ length (now epochs)) × (epoch (now epochs) 0 ≤ second) ⌝ }
+    ensures { λ r. ⌜ r < length (now (epochs .entry)) ⌝ }
+{
+    if gap == 0 {
+        return 0;
+    }
+    let i = (second - epochs[0]) / gap;
+    let last = epochs.len() - 1;
+    if (last as u64) < i {
+        return last;
+    }
+    i as usize
+}
+
+// Whether a map is the last whose epoch is not after the second.
+fn is_before(epochs: &[u64], second: u64, i: usize) -> bool
+    requires { ⌜ i < length (now epochs) ⌝ }
+    ensures { λ r. ⌜ Says r (Before (now (epochs .entry)) second i) ⌝ }
+{
+    if second < epochs[i] {
+        return false;
+    }
+    if epochs.len() - 1 <= i {
+        return true;
+    }
+    if epochs[i + 1] <= second {
+        return false;
+    }
+    true
+}
+
+// The last map whose epoch is not after the second, by halves.
+fn halved(epochs: &[u64], second: u64) -> usize
     requires { ⌜ (1 ≤ length (now epochs)) × (epoch (now epochs) 0 ≤ second) ⌝ }
     ensures { λ r. ⌜ Before (now (epochs .entry)) second r ⌝ }
 {
-    let mut i: usize = 0;
-    while i < epochs.len() - 1 {
-        if second < epochs[i + 1] {
-            return i;
+    let mut low: usize = 0;
+    let mut high = epochs.len();
+    while 1 < high - low {
+        let middle = low + (high - low) / 2;
+        if second < epochs[middle] {
+            high = middle;
+        } else {
+            low = middle;
         }
-        i += 1;
     }
-    i
+    low
+}
+
+// The last map whose epoch is not after the second: the map guessed by the gap, which is any number; where that is another, by halves.
+fn map_before(epochs: &[u64], second: u64, gap: u64) -> usize
+    requires { ⌜ (1 ≤ length (now epochs)) × (epoch (now epochs) 0 ≤ second) ⌝ }
+    ensures { λ r. ⌜ Before (now (epochs .entry)) second r ⌝ }
+{
+    let i = guess(epochs, second, gap);
+    if is_before(epochs, second, i) {
+        return i;
+    }
+    halved(epochs, second)
 }
 
 // Whether no two neighbouring epochs are more than limit seconds apart.
@@ -42,11 +101,12 @@ pub fn is_close(epochs: &[u64], limit: u64) -> bool
     true
 }
 
-pub fn shares_of(epochs: &[u64], second: u64, method: u64) -> Shares
+// The shares of a second's maps, which are searched by the gap.
+pub fn shares_of(epochs: &[u64], second: u64, method: u64, gap: u64) -> Shares
     requires { ⌜ Regular (now epochs) × Spanned (now epochs) second × (method < 2) ⌝ }
     ensures { λ r. ⌜ Uses (now (epochs .entry)) second method r ⌝ }
 {
-    let i = map_before(epochs, second);
+    let i = map_before(epochs, second, gap);
     if epochs.len() - 1 <= i {
         return Shares {
             map: i as u64,

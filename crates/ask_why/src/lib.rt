@@ -228,7 +228,8 @@ pub fn explain(
     }
     let maps = header.times.maps as usize;
     let s = ask::shape_of(header, kind, layer);
-    let shares = ask_spans::shares_of(&epochs[..maps], second, sun::maps_by(method));
+    let gap = ask_spans::mean_gap(header.times.first, header.times.last, header.times.maps);
+    let shares = ask_spans::shares_of(&epochs[..maps], second, sun::maps_by(method), gap);
     match sun::cells_at(
         header.grid,
         method,

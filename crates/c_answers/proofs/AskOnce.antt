@@ -5,9 +5,9 @@ use Prim.Native.Nat.{ℕ}
 use native.Mathlib.Omega.{arith}
 use lib.IntN.{ℤ}
 use Rattle.kit.specs.Lists.{front}
-use Rattle.ask.specs.Ask.{Question}
+use Rattle.ask.specs.Ask.{Question, told-number}
 use Rattle.ask.proofs.Once.{answers-once}
-use Rattle.c_answers.specs.AskExported.{told-number, told-value, AskCrosses, short, answered}
+use Rattle.c_answers.specs.AskExported.{told-value, AskCrosses, short, answered}
 
 module _ (h : List ℤ) (x : List ℕ) (q : Question) (v : List ℤ) where
   pub ionex-ask-once : {n m : ℕ} {u w : List ℤ} → AskCrosses h x q v n u → AskCrosses h x q v m w → (n ≡ m) × (u ≡ w)

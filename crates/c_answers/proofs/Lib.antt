@@ -3,6 +3,7 @@ pub mod ReadLaws
 pub mod WriteLaws
 pub mod JoinLaws
 pub mod AskOnce
+pub mod AskAllOnce
 pub mod DelayOnce
 pub mod JoinOnce
 pub mod MoveOnce

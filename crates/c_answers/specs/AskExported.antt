@@ -6,15 +6,9 @@ use lib.IntN.{ℤ}
 use lib.ListN.{length}
 use Rattle.mapset.specs.Areas.{Areas}
 use Rattle.kit.specs.Lists.{front}
-use Rattle.ask.specs.Ask.{Question, question, Told, tecu, km, refused, Answers}
+use Rattle.ask.specs.Ask.{Question, question, Told, tecu, km, refused, told-number, Answers}
 use Rattle.c_given.specs.Given.{header-of, texts-of}
 use Rattle.c_answers.specs.Own.{too-short}
-
--- 0 for a value, or 01's number
-abbrev pub told-number : Told → ℕ
-told-number (tecu v) = 0
-told-number (km v) = 0
-told-number (refused n) = n
 
 -- thousandths of a TECU or of a kilometre, by the kind that was asked for
 abbrev pub told-value : Told → List ℤ

@@ -7,7 +7,8 @@ ghost use lib.ListN.{length};
 ghost use Rattle.kit.specs.Lists.{front};
 ghost use Rattle.read_outcome.specs.Outcome.{told-number as read-number, told-place, told as told-read, told-reason, texts-in};
 ghost use Rattle.write_text.specs.Write.{done, told as told-written};
-ghost use Rattle.ask.specs.Ask.{told as told-asked, number, tecu};
+ghost use Rattle.ask.specs.Ask.{told as told-asked, told-number as ask-number, tecu};
+ghost use Rattle.ask_all.specs.AskAll.{told as told-all};
 ghost use Rattle.delay.specs.Delay.{told as told-delay};
 ghost use Rattle.ask_delay.specs.AskDelay.{told as told-asked-delay};
 ghost use Rattle.calendar.specs.Calendar.{toldWhen};
@@ -17,12 +18,12 @@ ghost use Rattle.join_areas.specs.Joined.{told-why};
 ghost use Rattle.c_answers.specs.ReadExported.{told-header, told-texts, Small};
 ghost use Rattle.c_answers.specs.NeedsExported.{listed, number as needs-number, told-needs, place as needs-place};
 ghost use Rattle.c_answers.specs.WriteExported.{told-number as write-number, told-count};
-ghost use Rattle.c_answers.specs.AskExported.{told-number as ask-number, told-value};
+ghost use Rattle.c_answers.specs.AskExported.{told-value};
 ghost use Rattle.c_answers.specs.DelayExported.{told-number as delay-number, told-record};
 ghost use Rattle.c_answers.specs.MoveExported.{told-number as move-number, told-moved};
 ghost use Rattle.c_answers.specs.JoinExported.{why-number, why-place, answer-number, answer-header, answer-texts, answer-place, Small as SmallJoined};
 use ask::Asked;
-use ask::Why;
+use ask_all::AllAsked;
 use ask_delay::AskedDelay;
 use calendar::When;
 use delay::Delay;
@@ -164,20 +165,6 @@ pub fn put_written(answer: Written, count: &mut [u64]) -> u64
 
 // ---- Asking
 
-// 01's number of a refusal.
-pub fn number_of(why: Why) -> u64
-    ensures { λ r. ⌜ r ≡ number why ⌝ }
-{
-    match why {
-        Why::Unknown => 23,
-        Why::Unsound => 31,
-        Why::Unserved => 24,
-        Why::OutOfTime => 20,
-        Why::OutOfPlace => 21,
-        Why::NoValue => 22,
-    }
-}
-
 fn put_value(out: &mut [i32], v: i32)
     requires { ⌜ 1 ≤ length (now out) ⌝ }
     ensures { λ _. ⌜ now (out .exit) ≡ front (told-value (tecu v)) (now (out .entry)) ⌝ }
@@ -199,7 +186,17 @@ pub fn put_answer(answer: Asked, out: &mut [i32]) -> u64
             put_value(out, v.0);
             0
         }
-        Asked::Refused(why) => number_of(why),
+        Asked::Refused(why) => ask::number_of(why),
+    }
+}
+
+// Many questions cross: 0, or the number that refuses them all.
+pub fn all_number(answer: AllAsked) -> u64
+    ensures { λ r. ⌜ r ≡ told-all answer ⌝ }
+{
+    match answer {
+        AllAsked::Answered => 0,
+        AllAsked::Refused(why) => ask::number_of(why),
     }
 }
 
@@ -235,7 +232,7 @@ pub fn put_asked_delay(answer: AskedDelay, out: &mut [f64]) -> u64
 {
     match answer {
         AskedDelay::Answered(d) => put_delay(d, out),
-        AskedDelay::Refused(why) => number_of(why),
+        AskedDelay::Refused(why) => ask::number_of(why),
     }
 }
 

@@ -5,10 +5,9 @@ use Prim.Native.Nat.{ℕ}
 use native.Mathlib.Omega.{arith}
 use lib.IntN.{ℤ}
 use Rattle.kit.specs.Lists.{front}
-use Rattle.ask.specs.Ask.{Question}
+use Rattle.ask.specs.Ask.{Question, told-number}
 use Rattle.ask_why.specs.Explain.{told}
 use Rattle.ask_why.proofs.Once.{explain-once}
-use Rattle.c_answers.specs.AskExported.{told-number}
 use Rattle.c_why.specs.ExplainExported.{told-nodes, told-lacking, ExplainCrosses, short, answered}
 
 module _ (h : List ℤ) (x : List ℕ) (q : Question) (v : List ℤ) (l : List ℕ) where

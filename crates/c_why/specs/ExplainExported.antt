@@ -7,7 +7,7 @@ use lib.ListN.{length}
 use Rattle.kit.specs.Answer.{All}
 use Rattle.kit.specs.Lists.{front}
 use Rattle.ask_nodes.specs.Nodes.{or-zero, bare}
-use Rattle.ask.specs.Ask.{Question}
+use Rattle.ask.specs.Ask.{Question, told-number}
 use Rattle.ask_why.specs.Explain.{told, Explains}
 use Rattle.ask_why.specs.declared.Needed.{Needed}
 use Rattle.ask_why.specs.declared.Cause.{Cause}
@@ -17,7 +17,6 @@ use Rattle.ask_why.specs.declared.Explained.{Explained}
 use Rattle.ask_why.specs.declared.Explained.the-variants as E
 use Rattle.ask_why.specs.declared.Explanation.{Explanation}
 use Rattle.c_answers.specs.Own.{too-short, unless}
-use Rattle.c_answers.specs.AskExported.{told-number}
 
 -- a node: map, layer, row, column, value in thousandths of its unit, weight; a filler is six zeros
 abbrev pub node-numbers : Needed → List ℤ

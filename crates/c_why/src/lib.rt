@@ -7,7 +7,7 @@ ghost use lib.Seq.{sets};
 ghost use Rattle.kit.specs.Lists.{front};
 ghost use Rattle.ask_nodes.specs.Nodes.{or-zero, bare};
 ghost use Rattle.ask_why.specs.Explain.{told};
-ghost use Rattle.c_answers.specs.AskExported.{told-number};
+ghost use Rattle.ask.specs.Ask.{told-number};
 ghost use Rattle.c_why.specs.ExplainExported.{node-numbers, all-numbers, numbers, told-nodes, lacking-numbers, told-lacking, explain-short, SmallNode, SmallNodes, Small};
 ghost use Rattle.c_why.specs.ExplainExported as exported;
 use ask_why::Cause;
@@ -133,6 +133,6 @@ pub fn put_explained(e: Explanation, nodes: &mut [i64], lacking: &mut [u64]) -> 
             put_lacking(lacking, l);
             22
         }
-        Explained::Refused(why) => c_answers::number_of(why),
+        Explained::Refused(why) => ask::number_of(why),
     }
 }

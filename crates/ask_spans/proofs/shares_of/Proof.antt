@@ -64,8 +64,8 @@ returns-2 c =
     let l = c .before .before .before in
     between (l .before .map-before .result) (c .if2 .taken) (more l) (l .before .map-before .ensures .past) (soon l)
 
-add-t15 : tie.Need-add-t15
-add-t15 c = search needs
+add-t16 : tie.Need-add-t16
+add-t16 c = search needs
 
 returns-3 : tie.Need-returns-3
 returns-3 c =
@@ -94,6 +94,6 @@ shares-of-spec =
     shared-slice-read-early
     sub-early
     returns-2
-    add-t15
+    add-t16
     returns-3
     returns-4)

@@ -59,29 +59,32 @@ cast-maps c = search needs
 shape-of-requires : tie.Need-shape-of-requires
 shape-of-requires c κs = search needs
 
+mean-gap-requires : tie.Need-mean-gap-requires
+mean-gap-requires c κs = search needs
+
 slice-aggregate-shares-of : tie.Need-slice-aggregate-shares-of
-slice-aggregate-shares-of c = sym (few-epochs (q (c .before .before .before .before .before .before .before .before .before)) (open-at (c .before .before .before) .sound))
+slice-aggregate-shares-of c = sym (few-epochs (q (c .before .before .before .before .before .before .before .before .before .before)) (open-at (c .before .before .before .before) .sound))
 
 maps-by-requires : tie.Need-maps-by-requires
 maps-by-requires c κs = search needs
 
 shares-of-requires : tie.Need-shares-of-requires
 shares-of-requires c κs =
-    let s = c .before .before .before .before .before .before .before .before .before .before in
-    let o = open-at (c .before .before .before .before) in
+    let s = c .before .before .before .before .before .before .before .before .before .before .before in
+    let o = open-at (c .before .before .before .before .before) in
     rw (c .maps-by .ensures) (steady (q s) (o .sound), spanned (q s) (o .sound) (o .time), in-time-small (s .args .method))
 
-uses : (c : tie.After-shares-of) → let s = c .before .before .before .before .before .before .before .before .before .before .before in Uses (epochs (q s)) (s .args .second) (in-time (s .args .method)) (c .shares-of .result)
+uses : (c : tie.After-shares-of) → let s = c .before .before .before .before .before .before .before .before .before .before .before .before in Uses (epochs (q s)) (s .args .second) (in-time (s .args .method)) (c .shares-of .result)
 uses c = rw (c .before .maps-by .ensures) at (c .shares-of .ensures)
 
 slice-aggregate-cells-at : tie.Need-slice-aggregate-cells-at
-slice-aggregate-cells-at c = sym (few-epochs (q (c .before .before .before .before .before .before .before .before .before .before .before .before)) (open-at (c .before .before .before .before .before .before) .sound))
+slice-aggregate-cells-at c = sym (few-epochs (q (c .before .before .before .before .before .before .before .before .before .before .before .before .before)) (open-at (c .before .before .before .before .before .before .before) .sound))
 
 cells-at-requires : tie.Need-cells-at-requires
-cells-at-requires c κs = let o = open-at (c .before .before .before .before .before .before) in can-ask (q (c .before .before .before .before .before .before .before .before .before .before .before .before)) (o .sound) (o .time) (c .before .shares-of .result) (uses (c .before))
+cells-at-requires c κs = let o = open-at (c .before .before .before .before .before .before .before) in can-ask (q (c .before .before .before .before .before .before .before .before .before .before .before .before .before)) (o .sound) (o .time) (c .before .shares-of .result) (uses (c .before))
 
-pair-is : (c : tie.After-cells-at) → let s = c .before .before .before .before .before .before .before .before .before .before .before .before .before in PairFound (s .args .method) (s .args .header .grid) (s .args .lat) (s .args .lon) (s .args .second) (epochs (q s)) (c .before .before .shares-of .result) (c .cells-at .result)
-pair-is c = let s = c .before .before .before .before .before .before .before .before .before .before .before .before .before in rw (toZ-ofZ (s .fits .lat), toZ-ofZ (s .fits .lon)) at (c .cells-at .ensures)
+pair-is : (c : tie.After-cells-at) → let s = c .before .before .before .before .before .before .before .before .before .before .before .before .before .before in PairFound (s .args .method) (s .args .header .grid) (s .args .lat) (s .args .lon) (s .args .second) (epochs (q s)) (c .before .before .shares-of .result) (c .cells-at .result)
+pair-is c = let s = c .before .before .before .before .before .before .before .before .before .before .before .before .before .before in rw (toZ-ofZ (s .fits .lat), toZ-ofZ (s .fits .lon)) at (c .cells-at .ensures)
 
 enum-told : tie.Need-enum-told
 enum-told c = search needs
@@ -95,17 +98,17 @@ enum-known-first c = search needs
 -- a place that was answered for has its cells
 returns-2 : tie.Need-returns-2
 returns-2 c =
-    let o = open-at (c .before .before .before .before .before .before .before .before .before .before) in
+    let o = open-at (c .before .before .before .before .before .before .before .before .before .before .before) in
     let n = rw (c .before .enum-told .given .1) at (pair-is (c .before .before .before)) in
-    let x = placed (q (c .before .before .before .before .before .before .before .before .before .before .before .before .before .before .before .before)) (o .sound) (o .served) (o .inside) (n .0) in
+    let x = placed (q (c .before .before .before .before .before .before .before .before .before .before .before .before .before .before .before .before .before)) (o .sound) (o .served) (o .inside) (n .0) in
     absurd (n .1 (x .0) (x .1))
 
 module _ (c : tie.After-known-told) where
   abbrev start : tie.Start
-  start = c .before .before .before .before .before .before .before .before .before .before .before .before .before .before .before .before
+  start = c .before .before .before .before .before .before .before .before .before .before .before .before .before .before .before .before .before
 
   abbrev else-at : tie.Else1
-  else-at = c .before .before .before .before .before .before .before .before .before .before
+  else-at = c .before .before .before .before .before .before .before .before .before .before .before
 
   abbrev shares-at : tie.After-shares-of
   shares-at = c .before .before .before .before .before
@@ -122,13 +125,13 @@ module _ (c : tie.After-known-told) where
 explain-kind-requires : tie.Need-explain-kind-requires
 explain-kind-requires c κs =
     let o = open-at (else-at c) in
-    rw (c .before .before .before .before .before .before .before .before .shape-of .ensures) (can-list (q (start c)) (o .sound) (shares-at c .shares-of .result) (uses (shares-at c)) (first c) (other c) (both c) (o .known) (o .served) (o .inside .layer))
+    rw (c .before .before .before .before .before .before .before .before .before .shape-of .ensures) (can-list (q (start c)) (o .sound) (shares-at c .shares-of .result) (uses (shares-at c)) (first c) (other c) (both c) (o .known) (o .served) (o .inside .layer))
 
 returns-3 : tie.Need-returns-3
 returns-3 c =
     let d = c .before in
     let a = else-at d .before .before in
-    let e = rw (d .before .before .before .before .before .before .before .before .shape-of .ensures) at (c .explain-kind .ensures) in
+    let e = rw (d .before .before .before .before .before .before .before .before .before .shape-of .ensures) at (c .explain-kind .ensures) in
     rw e (explains (q (start d)) (open-at (else-at d) .sound) (shares-at d .shares-of .result) (uses (shares-at d)) (first d) (other d) (both d) (a .ask .result) (answers a) (has (else-at d)))
 
 pub explain-spec : {M : Type 1} → statement M
@@ -142,6 +145,7 @@ explain-spec =
     returns
     cast-maps
     shape-of-requires
+    mean-gap-requires
     slice-aggregate-shares-of
     maps-by-requires
     shares-of-requires

@@ -1,8 +1,8 @@
 -- each number in words, so that another one is seen to differ
 use mathlib.Core.Path.{refl}
 use borrow.Author.Needs.{needs}
-use Rattle.c_answers.proofs.number_of.Statement.{statement}
-use Rattle.c_answers.proofs.number_of.Tie as tie
+use Rattle.ask.proofs.number_of.Statement.{statement}
+use Rattle.ask.proofs.number_of.Tie as tie
 
 enum-told : tie.Need-enum-told
 enum-told c = search needs

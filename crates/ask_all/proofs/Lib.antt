@@ -1,0 +1,3 @@
+pub mod EachLaws
+pub mod Once
+pub mod Theorems

@@ -1,0 +1,3 @@
+-- Many questions in one call.
+pub mod AskAll
+pub mod Filling
