@@ -1,7 +1,7 @@
 /*
  * ionex.h: reads, writes, interpolates and joins IONEX 1.0 and 1.1 ionosphere maps, and reads a text's biases.
  *
- * Link with target/staticlib/libionex.a (x86-64), which `rt staticlib ionex` makes. There is nothing to set up and
+ * Link with target/staticlib/libionex.a (x86-64), which `./build library` makes. There is nothing to set up and
  * nothing to free: the library keeps nothing between calls and touches only the areas it is lent.
  *
  * WHAT THE CALLER MUST GIVE. The functions are proved for callers that keep these four rules, and C cannot check them:

@@ -1,4 +1,4 @@
-//! Finds the library's archive: in the folder that IONEX_LIB names, else where `rt staticlib ionex` leaves it.
+//! Finds the library's archive: in the folder that IONEX_LIB names, else where `./build library` leaves it.
 
 use std::env;
 use std::path::{Path, PathBuf};
@@ -19,7 +19,7 @@ fn main() {
     println!("cargo::rerun-if-changed={}", archive.display());
     if !archive.is_file() {
         println!(
-            "cargo::error=there is no {}: make it by `rt staticlib ionex` at the repository's root, or name its folder in \
+            "cargo::error=there is no {}: make it by `./build library` at the repository's root, or name its folder in \
              IONEX_LIB (an absolute path)",
             archive.display()
         );

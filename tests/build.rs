@@ -1,6 +1,6 @@
 //! Links the library's archive into the bridge, where one of its functions is linked (see Cargo.toml) and the machine is no
 //! x86-64 (there the crate `ionex` links it). The archive is in the folder that IONEX_LIB names, else where
-//! `rt staticlib ionex` leaves it.
+//! `./build library` leaves it.
 
 use std::env;
 use std::path::{Path, PathBuf};

@@ -48,8 +48,7 @@ pub fn ask(given: &Given, question: &Question) -> Result<i32, u8> {
 
 /// Whether the maps can turn with the Sun.
 fn turns(longitudes: &Axis, epochs: &[u64]) -> bool {
-    let beyond = longitudes.first + 3600 - longitudes.last;
-    (beyond == 0 || beyond == longitudes.step)
+    longitudes.goes_round()
         && longitudes.step <= 50
         && epochs.windows(2).all(|pair| pair[1] - pair[0] <= 7200)
 }
@@ -92,7 +91,7 @@ fn between(offset: i64, step: i64) -> Between {
 /// The two columns around a longitude; after the last comes the first where one step more is a whole turn.
 fn around(axis: &Axis, lon: i64, tenth: i64) -> Option<Between> {
     let offset = (lon - tenth * axis.first).rem_euclid(tenth * 3600);
-    if axis.last + axis.step != axis.first + 3600 {
+    if !axis.has_strip() {
         return along(axis, offset, tenth);
     }
     let mut column = between(offset, tenth * axis.step);

@@ -1,8 +1,8 @@
 //! Global files as the analysis centres make them: 25 maps of 71 rows and 73 columns; the same in other forms; and
 //! large texts.
 
-use compare::set::{Buffers, MapSet};
-use second::{Axis, Header, Texts};
+use compare::set::MapSet;
+use second::{Axis, Buffers, Header, Texts};
 use std::fmt::Write;
 
 /// The maps and the grid of a file: rows southward and layers upward, from the first by the step.

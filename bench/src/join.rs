@@ -1,7 +1,7 @@
 //! Two map sets joined, plainly, with the library's checks: both sets judged, then the result copied.
 
 use crate::ask::{blocks, fits};
-use second::header::exponent_fits;
+use second::header::{exponent_fits, maps_fit};
 use second::maps::{self, value_fits, Kind, FIRST_EXPONENT, KINDS, NO_VALUE};
 use second::{Areas, Given, Header, Refusal, Texts};
 
@@ -17,7 +17,7 @@ pub fn join(a: &Given, b: &Given, areas: &mut Areas) -> Result<(Header, Texts), 
     if a.header.interval != b.header.interval {
         header.interval = 0;
     }
-    check(header.maps <= 300 && header.size_fits(), 42)?;
+    check(maps_fit(header.maps) && header.size_fits(), 42)?;
     hand_over(a, b, areas)?;
     Ok((header, *b.texts))
 }

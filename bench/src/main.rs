@@ -13,8 +13,8 @@ use compare::archive::{Archive, FUNCTIONS};
 use compare::biases::{self, Biases};
 use compare::boundary::{self, Asked, Boundary, Given, Lent, HEADER, TEXTS};
 use compare::many::{Asking, Chosen, Many};
-use compare::set::{Buffers, MapSet};
-use second::Question;
+use compare::set::{rubbish, MapSet};
+use second::{Buffers, Question};
 use std::hint::black_box;
 use std::time::{Duration, Instant};
 
@@ -64,7 +64,7 @@ fn main() {
 
 fn lent() -> Lent {
     Lent {
-        areas: Buffers::filled(files::NEEDS, 1),
+        areas: rubbish(files::NEEDS, 1),
         header: vec![0; HEADER],
         texts: vec![0; TEXTS],
         place: vec![0; 2],
@@ -122,10 +122,10 @@ fn time_reading(text: &str, rounds: usize) -> Times {
     let text = text.as_bytes();
     let needs = needs(text);
     let mut ours = Lent {
-        areas: Buffers::filled(needs, 1),
+        areas: rubbish(needs, 1),
         ..lent()
     };
-    let mut plain = Buffers::filled(needs, 1);
+    let mut plain = rubbish(needs, 1);
     let mut best = [Duration::MAX; 2];
     for _ in 0..rounds {
         clear(&mut ours.areas);
@@ -195,7 +195,7 @@ fn report_growth(global: &Times) {
 
 /// The map set of a file, for the library and for the plain asker.
 fn map_set(text: &str) -> (Given, MapSet) {
-    let mut areas = Buffers::filled(files::NEEDS, 1);
+    let mut areas = rubbish(files::NEEDS, 1);
     let (header, texts) = read(text.as_bytes(), &mut areas.lent()).expect("an accepted file");
     let set = MapSet {
         header,
@@ -346,10 +346,10 @@ fn report_joining(first: &str, second: &str) {
     let (b, later) = map_set(second);
     let room = files::NEEDS.map(|need| 2 * need);
     let mut ours = Lent {
-        areas: Buffers::filled(room, 1),
+        areas: rubbish(room, 1),
         ..lent()
     };
-    let mut plain = Buffers::filled(room, 1);
+    let mut plain = rubbish(room, 1);
     let mut best = [Duration::MAX; 2];
     for _ in 0..ROUNDS {
         clear(&mut ours.areas);

@@ -6,8 +6,8 @@ use bench::join::join;
 use bench::plain::read;
 use compare::jobs::{jobs, Job};
 use compare::program;
-use compare::set::{Buffers, MapSet};
-use second::{Answer, Question, Reading};
+use compare::set::{rubbish, MapSet};
+use second::{Answer, Buffers, Question, Reading};
 use std::fs;
 
 const SEEDS: u64 = 3000;
@@ -46,7 +46,7 @@ fn examples() {
     for name in program::names() {
         let text = fs::read(program::folder().join(format!("{name}.inx"))).expect("an example");
         for length in [0, 200_000] {
-            same_reading(&text, &Buffers::filled([length; 6], 1));
+            same_reading(&text, &rubbish([length; 6], 1));
         }
     }
 }
@@ -99,7 +99,7 @@ fn timed() -> Vec<String> {
 #[test]
 fn the_files_timed_are_accepted() {
     for text in timed() {
-        let lent = Buffers::filled(bench::files::NEEDS, 1);
+        let lent = rubbish(bench::files::NEEDS, 1);
         same_reading(text.as_bytes(), &lent);
         let found = read(text.as_bytes(), &mut lent.clone().lent());
         let (header, _) = found.expect("accepted");
@@ -117,7 +117,7 @@ fn the_files_timed_are_accepted() {
 fn every_byte_of_a_small_file() {
     let text = bench::files::small();
     for text in [text.replace('\n', "\r\n"), text] {
-        let lent = Buffers::filled([40; 6], 1);
+        let lent = rubbish([40; 6], 1);
         same_reading(text.as_bytes(), &lent);
         for at in 0..text.len() {
             for byte in *b" -0:/9.\r\n~\x7f\x1f\x80" {

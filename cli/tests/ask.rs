@@ -138,9 +138,8 @@ fn many_in_order() {
     assert_eq!(ran.text().lines().nth(1), Some("null"));
 }
 
-/// An answer comes before the next question is asked.
-#[test]
-fn one_by_one() {
+/// What is written to the program, and the line that it answers with before more is written.
+fn in_turn(parts: &[(&str, &str)]) {
     let mut child = command()
         .args(["ask", CANONICAL])
         .stdin(Stdio::piped())
@@ -149,42 +148,33 @@ fn one_by_one() {
         .expect("the program runs");
     let mut to = child.stdin.take().expect("standard input");
     let mut from = BufReader::new(child.stdout.take().expect("standard output"));
-    for (question, answer) in [
-        ("10 0 2000-01-01\n", "0.100 TECU\n"),
-        ("5 5 2000-01-01\n", "0.300 TECU\n"),
-    ] {
-        to.write_all(question.as_bytes()).expect("a question");
+    for (part, answer) in parts {
+        to.write_all(part.as_bytes()).expect("a part");
         let mut line = String::new();
         from.read_line(&mut line).expect("an answer");
-        assert_eq!(line, answer);
+        assert_eq!(line, *answer);
     }
     drop(to);
     assert_eq!(child.wait().expect("an end").code(), Some(0));
 }
 
+/// An answer comes before the next question is asked.
+#[test]
+fn one_by_one() {
+    in_turn(&[
+        ("10 0 2000-01-01\n", "0.100 TECU\n"),
+        ("5 5 2000-01-01\n", "0.300 TECU\n"),
+    ]);
+}
+
 /// A question that is whole is answered though the next one has begun.
 #[test]
 fn half_a_line_is_not_waited_for() {
-    let mut child = command()
-        .args(["ask", CANONICAL])
-        .stdin(Stdio::piped())
-        .stdout(Stdio::piped())
-        .spawn()
-        .expect("the program runs");
-    let mut to = child.stdin.take().expect("standard input");
-    let mut from = BufReader::new(child.stdout.take().expect("standard output"));
-    for (part, answer) in [
+    in_turn(&[
         ("10 0 2000-01-01\n5 5", "0.100 TECU\n"),
         (" 2000-01-01\n10", "0.300 TECU\n"),
         (" 20 2000-01-01\n", "0.300 TECU\n"),
-    ] {
-        to.write_all(part.as_bytes()).expect("a part");
-        let mut line = String::new();
-        from.read_line(&mut line).expect("an answer");
-        assert_eq!(line, answer);
-    }
-    drop(to);
-    assert_eq!(child.wait().expect("an end").code(), Some(0));
+    ]);
 }
 
 /// Thousands of lines in one go, more than are answered at once, with lines among them that are no questions: each has its

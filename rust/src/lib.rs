@@ -15,7 +15,7 @@
 //! # Ok::<(), Box<dyn std::error::Error>>(())
 //! ```
 //!
-//! The archive `libionex.a` is linked: `rt staticlib ionex` makes it, or IONEX_LIB names its folder when this crate is
+//! The archive `libionex.a` is linked: `./build library` makes it, or IONEX_LIB names its folder when this crate is
 //! built. It is x86-64 code. Nothing is kept between calls, so threads may share a [`MapSet`].
 
 #![deny(unsafe_code)]

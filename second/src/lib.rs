@@ -34,7 +34,7 @@ pub use delay::{ask_delay, delay, Delay};
 pub use explain::{explain, Explanation, Lacking, Unexplained};
 pub use header::{Axis, Count, Header, System, Texts};
 pub use join::{join, Given};
-pub use maps::{Areas, View};
+pub use maps::{Areas, Buffers, View};
 pub use read::{needs, read, Reading};
 pub use refusal::Refusal;
 pub use write::write;

@@ -157,6 +157,45 @@ impl<'a> View<'a> {
     }
 }
 
+/// Six areas of one's own.
+#[derive(Clone, Debug, Default, PartialEq, Eq)]
+pub struct Buffers {
+    pub tec: Vec<i32>,
+    pub rms: Vec<i32>,
+    pub height: Vec<i32>,
+    pub exponents: Vec<i32>,
+    pub epochs: Vec<u64>,
+    pub marks: Vec<u8>,
+}
+
+impl Buffers {
+    pub fn lent(&mut self) -> Areas<'_> {
+        Areas {
+            tec: &mut self.tec,
+            rms: &mut self.rms,
+            height: &mut self.height,
+            exponents: &mut self.exponents,
+            epochs: &mut self.epochs,
+            marks: &mut self.marks,
+        }
+    }
+
+    pub fn view(&self) -> View<'_> {
+        View {
+            tec: &self.tec,
+            rms: &self.rms,
+            height: &self.height,
+            exponents: &self.exponents,
+            epochs: &self.epochs,
+            marks: &self.marks,
+        }
+    }
+
+    pub fn lengths(&self) -> [usize; 6] {
+        self.view().lengths()
+    }
+}
+
 /// Whether the TEC map of a place (from 0) may have this epoch. "The first epoch
 /// is the header's first, the n-th its last. Each is later than the one before by
 /// 1 to 21,600 s, and by exactly INTERVAL unless that is 0."

@@ -2,17 +2,7 @@
 
 mod common;
 use common::*;
-use second::{ask, Answer, Axis, Header, Question, Texts};
-
-type Set = (Header, Texts, Own);
-
-/// The base grid: rows 10.0 and 0.0, columns 0.0, 10.0 and 20.0, two maps 7200 s
-/// apart, RMS map 2 only, no height maps.
-fn set() -> Set {
-    accepted(&base(), [12, 12, 0, 12, 2, 2])
-}
-
-const FIRST: u64 = 36_524 * 86_400;
+use second::{ask, Answer, Axis, Question};
 
 fn at(latitude: i64, longitude: i64, after: u64) -> Question {
     Question {
@@ -25,9 +15,9 @@ fn at(latitude: i64, longitude: i64, after: u64) -> Question {
     }
 }
 
-fn answer(set: &mut Set, question: &Question) -> Result<Answer, u8> {
+fn answer(set: &Set, question: &Question) -> Result<Answer, u8> {
     let (header, texts, own) = set;
-    ask(header, texts, &own.lent().view(), question).map_err(|r| r.number())
+    ask(header, texts, &own.view(), question).map_err(|r| r.number())
 }
 
 fn tecu(value: i64) -> Result<Answer, u8> {
@@ -39,9 +29,9 @@ fn figure_four_corners() {
     // "corners 100, 200 over 300, 400 (exponent -1): p = q = 1/2 gives 25,000"
     let mut set = set();
     set.2.tec[..6].copy_from_slice(&[300, 400, 9999, 100, 200, 9999]);
-    assert_eq!(answer(&mut set, &at(500, 500, 0)), tecu(25_000));
+    assert_eq!(answer(&set, &at(500, 500, 0)), tecu(25_000));
     set.2.tec[..6].copy_from_slice(&[100, 200, 9999, 300, 400, 9999]);
-    assert_eq!(answer(&mut set, &at(500, 500, 0)), tecu(25_000));
+    assert_eq!(answer(&set, &at(500, 500, 0)), tecu(25_000));
 }
 
 #[test]
@@ -52,9 +42,9 @@ fn figure_halves() {
     for (one, half) in [(1, 1), (-1, -1)] {
         set.2.tec[..6].copy_from_slice(&[0, one, 0, 0, 0, 0]);
         set.2.tec[6..].copy_from_slice(&[one; 6]);
-        assert_eq!(answer(&mut set, &at(1000, 500, 0)), tecu(half));
-        assert_eq!(answer(&mut set, &at(1000, 2000, 3600)), tecu(half));
-        assert_eq!(answer(&mut set, &at(1000, 2000, 3599)), tecu(0));
+        assert_eq!(answer(&set, &at(1000, 500, 0)), tecu(half));
+        assert_eq!(answer(&set, &at(1000, 2000, 3600)), tecu(half));
+        assert_eq!(answer(&set, &at(1000, 2000, 3599)), tecu(0));
     }
 }
 
@@ -66,8 +56,8 @@ fn rounded_once() {
     set.2.exponents[..4].fill(-3);
     set.2.tec.fill(0);
     set.2.tec[1] = 1;
-    assert_eq!(answer(&mut set, &at(1000, 500, 2400)), tecu(0));
-    assert_eq!(answer(&mut set, &at(1000, 500, 0)), tecu(1));
+    assert_eq!(answer(&set, &at(1000, 500, 2400)), tecu(0));
+    assert_eq!(answer(&set, &at(1000, 500, 0)), tecu(1));
 }
 
 #[test]
@@ -76,10 +66,10 @@ fn each_block_has_its_exponent() {
     set.2.tec[0] = 7;
     for (exponent, value) in [(-3, 7), (-2, 70), (-1, 700), (0, 7000)] {
         set.2.exponents[0] = exponent;
-        assert_eq!(answer(&mut set, &at(1000, 0, 0)), tecu(value));
+        assert_eq!(answer(&set, &at(1000, 0, 0)), tecu(value));
     }
     // Halfway between 7 under 0 (7000) and 4 under -1 (400).
-    assert_eq!(answer(&mut set, &at(500, 0, 0)), tecu(3700));
+    assert_eq!(answer(&set, &at(500, 0, 0)), tecu(3700));
 }
 
 #[test]
@@ -87,21 +77,21 @@ fn nodes_without_a_value() {
     let mut set = set();
     set.2.tec[1] = 9999;
     // The absent node has weight zero at its neighbour, in space and in time.
-    assert_eq!(answer(&mut set, &at(1000, 0, 0)), tecu(100));
-    assert_eq!(answer(&mut set, &at(1000, 1, 0)), Err(22));
-    assert_eq!(answer(&mut set, &at(1000, 1000, 7200)), tecu(1200));
-    assert_eq!(answer(&mut set, &at(1000, 1000, 7199)), Err(22));
-    assert_eq!(answer(&mut set, &at(0, 1000, 0)), tecu(500));
-    assert_eq!(answer(&mut set, &at(1, 1000, 0)), Err(22));
+    assert_eq!(answer(&set, &at(1000, 0, 0)), tecu(100));
+    assert_eq!(answer(&set, &at(1000, 1, 0)), Err(22));
+    assert_eq!(answer(&set, &at(1000, 1000, 7200)), tecu(1200));
+    assert_eq!(answer(&set, &at(1000, 1000, 7199)), Err(22));
+    assert_eq!(answer(&set, &at(0, 1000, 0)), tecu(500));
+    assert_eq!(answer(&set, &at(1, 1000, 0)), Err(22));
     for (wrong, exponent) in [(100_000, -1), (-10_000, -1), (5, 1), (5, -4)] {
         set.2.tec[1] = wrong;
         set.2.exponents[0] = exponent;
-        assert_eq!(answer(&mut set, &at(1000, 1000, 0)), Err(22));
-        assert_eq!(answer(&mut set, &at(0, 1000, 0)), tecu(500));
+        assert_eq!(answer(&set, &at(1000, 1000, 0)), Err(22));
+        assert_eq!(answer(&set, &at(0, 1000, 0)), tecu(500));
     }
     set.2.tec[1] = 99_999;
     set.2.exponents[0] = 0;
-    assert_eq!(answer(&mut set, &at(1000, 1000, 0)), tecu(99_999_000));
+    assert_eq!(answer(&set, &at(1000, 1000, 0)), tecu(99_999_000));
 }
 
 #[test]
@@ -109,74 +99,64 @@ fn kinds_and_units() {
     let mut set = set();
     let mut question = at(1000, 0, 7200);
     question.kind = 1;
-    assert_eq!(answer(&mut set, &question), tecu(2100));
+    assert_eq!(answer(&set, &question), tecu(2100));
     // RMS map 1 is absent.
     question.second -= 1;
-    assert_eq!(answer(&mut set, &question), Err(22));
+    assert_eq!(answer(&set, &question), Err(22));
     question.method = 0;
-    assert_eq!(answer(&mut set, &question), tecu(2100));
+    assert_eq!(answer(&set, &question), tecu(2100));
     question.kind = 2;
-    assert_eq!(answer(&mut set, &question), Err(22));
+    assert_eq!(answer(&set, &question), Err(22));
     set.2.marks = vec![2, 3];
     set.2.height = vec![-5; 12];
-    let answered = answer(&mut set, &question);
+    let answered = answer(&set, &question);
     assert_eq!(answered, Ok(Answer::ThousandthsOfKilometre(-500)));
 }
 
 #[test]
 fn in_time() {
-    let mut set = set();
+    let set = set();
     let mut question = at(1000, 0, 3600);
     // Halfway between 1 and 11 under -1: 6, so 600; the earlier map alone: 100.
-    assert_eq!(answer(&mut set, &question), tecu(600));
+    assert_eq!(answer(&set, &question), tecu(600));
     question.method = 0;
-    assert_eq!(answer(&mut set, &question), tecu(100));
+    assert_eq!(answer(&set, &question), tecu(100));
     question.second += 1;
-    assert_eq!(answer(&mut set, &question), tecu(1100));
+    assert_eq!(answer(&set, &question), tecu(1100));
     question.second = FIRST + 7200;
-    assert_eq!(answer(&mut set, &question), tecu(1100));
+    assert_eq!(answer(&set, &question), tecu(1100));
     question.method = 1;
-    assert_eq!(answer(&mut set, &question), tecu(1100));
+    assert_eq!(answer(&set, &question), tecu(1100));
     question.second += 1;
-    assert_eq!(answer(&mut set, &question), Err(20));
+    assert_eq!(answer(&set, &question), Err(20));
     question.second = FIRST - 1;
-    assert_eq!(answer(&mut set, &question), Err(20));
+    assert_eq!(answer(&set, &question), Err(20));
 }
 
 #[test]
 fn in_space() {
-    let mut set = set();
-    assert_eq!(answer(&mut set, &at(1001, 0, 0)), Err(21));
-    assert_eq!(answer(&mut set, &at(-1, 0, 0)), Err(21));
-    assert_eq!(answer(&mut set, &at(i64::MIN, i64::MIN, 0)), Err(21));
-    assert_eq!(answer(&mut set, &at(i64::MAX, 0, 0)), Err(21));
-    assert_eq!(answer(&mut set, &at(0, 2000, 0)), tecu(600));
-    assert_eq!(answer(&mut set, &at(0, 2001, 0)), Err(21));
-    assert_eq!(answer(&mut set, &at(0, -1, 0)), Err(21));
-    assert_eq!(answer(&mut set, &at(0, 36_000, 0)), tecu(400));
-    assert_eq!(answer(&mut set, &at(0, -36_000 * 5 + 1000, 0)), tecu(500));
+    let set = set();
+    assert_eq!(answer(&set, &at(1001, 0, 0)), Err(21));
+    assert_eq!(answer(&set, &at(-1, 0, 0)), Err(21));
+    assert_eq!(answer(&set, &at(i64::MIN, i64::MIN, 0)), Err(21));
+    assert_eq!(answer(&set, &at(i64::MAX, 0, 0)), Err(21));
+    assert_eq!(answer(&set, &at(0, 2000, 0)), tecu(600));
+    assert_eq!(answer(&set, &at(0, 2001, 0)), Err(21));
+    assert_eq!(answer(&set, &at(0, -1, 0)), Err(21));
+    assert_eq!(answer(&set, &at(0, 36_000, 0)), tecu(400));
+    assert_eq!(answer(&set, &at(0, -36_000 * 5 + 1000, 0)), tecu(500));
     let mut question = at(0, 0, 0);
     question.layer = 1;
-    assert_eq!(answer(&mut set, &question), Err(21));
+    assert_eq!(answer(&set, &question), Err(21));
     question.layer = -1;
-    assert_eq!(answer(&mut set, &question), Err(21));
+    assert_eq!(answer(&set, &question), Err(21));
     question.layer = i64::MIN;
-    assert_eq!(answer(&mut set, &question), Err(21));
+    assert_eq!(answer(&set, &question), Err(21));
 }
 
-/// The base set on a grid of other columns, in tenths: the values of a row go up by 10 from 100 at its first column.
+/// Columns in tenths.
 fn around(first: i64, last: i64, step: i64) -> Set {
-    let (mut header, texts, _) = set();
-    header.longitudes = Axis { first, last, step };
-    let columns = header.longitudes.count() as usize;
-    let mut own = Own::new([4 * columns, 0, 0, 12, 2, 2]);
-    for (at, value) in own.tec.iter_mut().enumerate() {
-        *value = 100 + 10 * (at % columns) as i32;
-    }
-    own.exponents.fill(-3);
-    own.epochs = vec![FIRST, FIRST + 7200];
-    own.marks.fill(0);
-    (header, texts, own)
+    common::around(Axis { first, last, step }, 0)
 }
 
 #[test]
@@ -198,22 +178,22 @@ fn in_the_strip() {
         let mut question = at(1000, longitude, 0);
         for method in [0, 1] {
             question.method = method;
-            assert_eq!(answer(&mut set, &question), tecu(value), "{longitude}");
+            assert_eq!(answer(&set, &question), tecu(value), "{longitude}");
         }
     }
     // The first column of each row has no value: only the last column itself is left of the strip.
     for row in 0..4 {
         set.2.tec[144 * row] = 9999;
     }
-    assert_eq!(answer(&mut set, &at(1000, 35_750, 0)), tecu(1530));
-    assert_eq!(answer(&mut set, &at(1000, 35_751, 0)), Err(22));
-    assert_eq!(answer(&mut set, &at(1000, 35_749, 0)), tecu(1530));
+    assert_eq!(answer(&set, &at(1000, 35_750, 0)), tecu(1530));
+    assert_eq!(answer(&set, &at(1000, 35_751, 0)), Err(22));
+    assert_eq!(answer(&set, &at(1000, 35_749, 0)), tecu(1530));
     // Two other grids with a strip, whose last column, 71, has 810.
     for (first, last) in [(0, 3550), (-1800, 1750)] {
-        let mut set = around(first, last, 50);
+        let set = around(first, last, 50);
         let longitude = last * 10 + 250;
-        assert_eq!(answer(&mut set, &at(500, longitude, 0)), tecu(455));
-        assert_eq!(answer(&mut set, &at(-1, longitude, 0)), Err(21));
+        assert_eq!(answer(&set, &at(500, longitude, 0)), tecu(455));
+        assert_eq!(answer(&set, &at(-1, longitude, 0)), Err(21));
     }
 }
 
@@ -221,19 +201,19 @@ fn in_the_strip() {
 fn no_strip() {
     // One column less than a strip needs; LON2 = LON1 + 360.0 keeps its two end columns.
     for (last, step) in [(3550, 25), (3500, 50)] {
-        let mut set = around(0, last, step);
+        let set = around(0, last, step);
         let end = 10 * last;
         let columns = last / step;
-        assert_eq!(answer(&mut set, &at(0, end, 0)), tecu(100 + 10 * columns));
-        assert_eq!(answer(&mut set, &at(0, end + 1, 0)), Err(21));
-        assert_eq!(answer(&mut set, &at(0, -1, 0)), Err(21));
+        assert_eq!(answer(&set, &at(0, end, 0)), tecu(100 + 10 * columns));
+        assert_eq!(answer(&set, &at(0, end + 1, 0)), Err(21));
+        assert_eq!(answer(&set, &at(0, -1, 0)), Err(21));
     }
     let mut set = around(0, 3600, 50);
-    assert_eq!(answer(&mut set, &at(0, 35_750, 0)), tecu(815));
-    assert_eq!(answer(&mut set, &at(0, 36_000, 0)), tecu(100));
+    assert_eq!(answer(&set, &at(0, 35_750, 0)), tecu(815));
+    assert_eq!(answer(&set, &at(0, 36_000, 0)), tecu(100));
     set.2.tec[73] = 9999;
-    assert_eq!(answer(&mut set, &at(0, 35_750, 0)), tecu(815));
-    assert_eq!(answer(&mut set, &at(0, 36_000, 0)), Err(22));
+    assert_eq!(answer(&set, &at(0, 35_750, 0)), tecu(815));
+    assert_eq!(answer(&set, &at(0, 36_000, 0)), Err(22));
 }
 
 /// The grid 0.0 to 355.0 by 5.0, the second map 1000 above the first: columns 100, 110, .. 810 and 1100, 1110, .. 1810.
@@ -254,7 +234,7 @@ fn by(method: i64, longitude: i64, after: u64) -> Question {
 
 #[test]
 fn maps_that_turn() {
-    let mut set = turning();
+    let set = turning();
     for (method, longitude, after, value) in [
         // Halfway: 15 degrees forward and back. At 40.0 and 10.0: 180 and 1120.
         (2, 2_500, 3_600, 650),
@@ -279,11 +259,11 @@ fn maps_that_turn() {
         (3, 1_000, 59, 120),
     ] {
         let question = by(method, longitude, after);
-        assert_eq!(answer(&mut set, &question), tecu(value), "{question:?}");
+        assert_eq!(answer(&set, &question), tecu(value), "{question:?}");
         // Whole turns change nothing.
         for turns in [-7, 1, 50_000] {
             let question = by(method, longitude + 36_000 * turns, after);
-            assert_eq!(answer(&mut set, &question), tecu(value));
+            assert_eq!(answer(&set, &question), tecu(value));
         }
     }
     // The same on a grid that closes on itself, but for the place in the strip: its last column has 1820.
@@ -291,8 +271,8 @@ fn maps_that_turn() {
     for value in &mut set.2.tec[146..] {
         *value += 1000;
     }
-    assert_eq!(answer(&mut set, &by(2, 1_000, 3_600)), tecu(980));
-    assert_eq!(answer(&mut set, &by(2, 1_250, 3_600)), tecu(985));
+    assert_eq!(answer(&set, &by(2, 1_000, 3_600)), tecu(980));
+    assert_eq!(answer(&set, &by(2, 1_250, 3_600)), tecu(985));
 }
 
 #[test]
@@ -301,8 +281,8 @@ fn turned_and_rounded_once() {
     let mut set = turning();
     set.2.tec.fill(0);
     set.2.tec[3] = 1;
-    assert_eq!(answer(&mut set, &by(2, 250, 3_600)), tecu(0));
-    assert_eq!(answer(&mut set, &by(3, 250, 3_600)), tecu(1));
+    assert_eq!(answer(&set, &by(2, 250, 3_600)), tecu(0));
+    assert_eq!(answer(&set, &by(3, 250, 3_600)), tecu(1));
 }
 
 /// "At a map's own epoch, where 24 is not given, methods 2 and 1 must give the same answer or the same refusal."
@@ -314,7 +294,7 @@ fn at_a_maps_own_epoch() {
     for after in [0, 7_200, 7_201] {
         for longitude in (-50..36_050).step_by(50) {
             for latitude in [1000, 500, 0, -1] {
-                let ask = |set: &mut Set, method| {
+                let ask = |set: &Set, method| {
                     let question = Question {
                         latitude,
                         ..by(method, longitude, after)
@@ -338,27 +318,27 @@ fn nodes_needed_of_moved_maps() {
     for column in (0..72).filter(|&column| column != 71) {
         set.2.tec[144 + column] = 9999;
     }
-    assert_eq!(answer(&mut set, &by(2, 1_000, 3_600)), tecu(980));
-    assert_eq!(answer(&mut set, &by(2, 1_000, 3_599)), Err(22));
-    assert_eq!(answer(&mut set, &by(2, 1_001, 3_600)), Err(22));
-    assert_eq!(answer(&mut set, &by(1, 1_000, 3_600)), Err(22));
+    assert_eq!(answer(&set, &by(2, 1_000, 3_600)), tecu(980));
+    assert_eq!(answer(&set, &by(2, 1_000, 3_599)), Err(22));
+    assert_eq!(answer(&set, &by(2, 1_001, 3_600)), Err(22));
+    assert_eq!(answer(&set, &by(1, 1_000, 3_600)), Err(22));
     // Latitude and layer can be outside, a longitude not.
     let outside = Question {
         latitude: 1001,
         ..by(2, 1_000, 3_600)
     };
-    assert_eq!(answer(&mut set, &outside), Err(21));
+    assert_eq!(answer(&set, &outside), Err(21));
     let outside = Question {
         layer: 1,
         ..by(3, 1_000, 3_600)
     };
-    assert_eq!(answer(&mut set, &outside), Err(21));
+    assert_eq!(answer(&set, &outside), Err(21));
 }
 
 /// "24 when the grid does not go round, DLON is above 5.0, or two neighbouring epochs are more than 7,200 s apart"
 #[test]
 fn maps_that_cannot_turn() {
-    let asked = |mut set: Set| [2, 3].map(|method| answer(&mut set, &by(method, 0, 0)));
+    let asked = |set: Set| [2, 3].map(|method| answer(&set, &by(method, 0, 0)));
     for (first, last, step) in [
         (0, 3550, 50),
         (-1800, 1800, 50),
@@ -385,8 +365,8 @@ fn maps_that_cannot_turn() {
     set.0.last_epoch += 1;
     set.2.epochs[1] += 1;
     assert_eq!(asked(set.clone()), [Err(24); 2]);
-    assert_eq!(answer(&mut set, &by(1, 0, 0)), tecu(100));
-    assert_eq!(answer(&mut set, &by(0, 0, 0)), tecu(100));
+    assert_eq!(answer(&set, &by(1, 0, 0)), tecu(100));
+    assert_eq!(answer(&set, &by(0, 0, 0)), tecu(100));
 }
 
 #[test]
@@ -396,11 +376,11 @@ fn one_row_one_column() {
     set.0.longitudes.first = 100;
     set.0.longitudes.last = 100;
     set.2.marks.fill(0);
-    assert_eq!(answer(&mut set, &at(1000, 1000, 7200)), tecu(200));
-    assert_eq!(answer(&mut set, &at(1000, 1001, 7200)), Err(21));
-    assert_eq!(answer(&mut set, &at(1000, 999, 7200)), Err(21));
-    assert_eq!(answer(&mut set, &at(999, 1000, 7200)), Err(21));
-    assert_eq!(answer(&mut set, &at(1000, 1000 - 36_000, 0)), tecu(100));
+    assert_eq!(answer(&set, &at(1000, 1000, 7200)), tecu(200));
+    assert_eq!(answer(&set, &at(1000, 1001, 7200)), Err(21));
+    assert_eq!(answer(&set, &at(1000, 999, 7200)), Err(21));
+    assert_eq!(answer(&set, &at(999, 1000, 7200)), Err(21));
+    assert_eq!(answer(&set, &at(1000, 1000 - 36_000, 0)), tecu(100));
 }
 
 #[test]
@@ -413,9 +393,9 @@ fn one_map() {
         let mut question = at(1000, 500, 0);
         question.method = method;
         // Halfway between 1 and 2 under -1.
-        assert_eq!(answer(&mut set, &question), tecu(150));
+        assert_eq!(answer(&set, &question), tecu(150));
         question.second += 1;
-        assert_eq!(answer(&mut set, &question), Err(20));
+        assert_eq!(answer(&set, &question), Err(20));
     }
 }
 
@@ -425,29 +405,29 @@ fn order_of_refusals() {
     let mut question = at(5000, 0, 9999);
     question.kind = 3;
     set.0.maps = 0;
-    assert_eq!(answer(&mut set, &question), Err(23));
+    assert_eq!(answer(&set, &question), Err(23));
     question.kind = 1;
     question.method = 4;
-    assert_eq!(answer(&mut set, &question), Err(23));
+    assert_eq!(answer(&set, &question), Err(23));
     question.method = -1;
-    assert_eq!(answer(&mut set, &question), Err(23));
+    assert_eq!(answer(&set, &question), Err(23));
     question.method = i64::MAX;
-    assert_eq!(answer(&mut set, &question), Err(23));
+    assert_eq!(answer(&set, &question), Err(23));
     for method in 0..4 {
         question.method = method;
-        assert_eq!(answer(&mut set, &question), Err(31));
+        assert_eq!(answer(&set, &question), Err(31));
     }
     set.0.maps = 2;
     // The base grid does not go round: 24 before 20, for methods 2 and 3 only.
-    assert_eq!(answer(&mut set, &question), Err(24));
+    assert_eq!(answer(&set, &question), Err(24));
     question.method = 2;
-    assert_eq!(answer(&mut set, &question), Err(24));
+    assert_eq!(answer(&set, &question), Err(24));
     question.method = 1;
-    assert_eq!(answer(&mut set, &question), Err(20));
+    assert_eq!(answer(&set, &question), Err(20));
     question.second = FIRST;
-    assert_eq!(answer(&mut set, &question), Err(21));
+    assert_eq!(answer(&set, &question), Err(21));
     question.latitude = 1000;
-    assert_eq!(answer(&mut set, &question), Err(22));
+    assert_eq!(answer(&set, &question), Err(22));
 }
 
 #[test]
@@ -456,7 +436,7 @@ fn what_asking_judges() {
     let with = |change: &dyn Fn(&mut Set)| {
         let mut set = set();
         change(&mut set);
-        answer(&mut set, &question)
+        answer(&set, &question)
     };
     assert_eq!(with(&|s| s.2.marks[1] = 4), Err(31));
     assert_eq!(with(&|s| s.2.marks[0] = 2), Err(31));

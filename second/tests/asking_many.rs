@@ -5,8 +5,6 @@ use common::*;
 use second::many::{ask_all, Many};
 use second::{ask, Answer, Question};
 
-const FIRST: u64 = 36_524 * 86_400;
-
 /// Latitude, longitude and seconds after the first map.
 const QUESTIONS: [(i32, i32, u64); 8] = [
     (1000, 0, 0),
@@ -42,8 +40,7 @@ fn many<'a>(kind: i64, method: i64, of: &'a (Vec<i32>, Vec<i32>, Vec<u64>)) -> M
 
 #[test]
 fn each_as_if_alone() {
-    let (header, texts, mut own) = accepted(&base(), [12, 12, 0, 12, 2, 2]);
-    let lent = own.lent();
+    let (header, texts, own) = set();
     let of = slices();
     for (kind, method) in [(0, 0), (0, 1), (1, 0), (1, 1), (2, 1)] {
         let (mut answers, mut values) = ([77; 8], [-7; 8]);
@@ -51,7 +48,7 @@ fn each_as_if_alone() {
         let done = ask_all(
             &header,
             &texts,
-            &lent.view(),
+            &own.view(),
             &many,
             &mut answers,
             &mut values,
@@ -66,7 +63,7 @@ fn each_as_if_alone() {
                 longitude: longitude.into(),
                 second: FIRST + after,
             };
-            let expected = match ask(&header, &texts, &lent.view(), &question) {
+            let expected = match ask(&header, &texts, &own.view(), &question) {
                 Ok(Answer::ThousandthsOfTecu(value) | Answer::ThousandthsOfKilometre(value)) => {
                     (0, value as i32)
                 }
@@ -81,7 +78,7 @@ fn each_as_if_alone() {
     let _ = ask_all(
         &header,
         &texts,
-        &lent.view(),
+        &own.view(),
         &between,
         &mut answers,
         &mut values,
@@ -92,8 +89,7 @@ fn each_as_if_alone() {
 
 #[test]
 fn as_many_as_the_shortest() {
-    let (header, texts, mut own) = accepted(&base(), [12, 12, 0, 12, 2, 2]);
-    let lent = own.lent();
+    let (header, texts, own) = set();
     for shortest in 0..5 {
         let mut of = slices();
         let (mut answers, mut values) = (vec![77; 8], vec![-7; 8]);
@@ -108,7 +104,7 @@ fn as_many_as_the_shortest() {
         let done = ask_all(
             &header,
             &texts,
-            &lent.view(),
+            &own.view(),
             &many,
             &mut answers,
             &mut values,
@@ -125,8 +121,7 @@ fn as_many_as_the_shortest() {
 
 #[test]
 fn refused_as_a_whole() {
-    let (mut header, texts, mut own) = accepted(&base(), [12, 12, 0, 12, 2, 2]);
-    let lent = own.lent();
+    let (mut header, texts, own) = set();
     let (of, none) = (slices(), (vec![], vec![], vec![]));
     let refused = |header: &_, kind, method| {
         [&of, &none].map(|of| {
@@ -135,7 +130,7 @@ fn refused_as_a_whole() {
             let done = ask_all(
                 header,
                 &texts,
-                &lent.view(),
+                &own.view(),
                 &many,
                 &mut answers,
                 &mut values,

@@ -2,11 +2,7 @@
 
 mod common;
 use common::*;
-use second::{join as join_sets, write, Given, Header, Refusal, Texts};
-
-type Set = (Header, Texts, Own);
-
-const FIRST: u64 = 36_524 * 86_400;
+use second::{join as join_sets, write, Given, Header, Refusal};
 
 /// The base set: two maps of 2 rows and 3 columns 7200 s apart, RMS map 2 only.
 fn earlier() -> Set {
@@ -24,7 +20,7 @@ fn later() -> Set {
     texts.date = [b'b'; 20];
     header.descriptions = 2;
     texts.descriptions[1] = [b'd'; 60];
-    let mut own = Own::new([18, 18, 18, 18, 3, 3]);
+    let mut own = untouched([18, 18, 18, 18, 3, 3]);
     for (at, value) in own.tec.iter_mut().enumerate() {
         *value = 100 + at as i32;
     }
@@ -43,36 +39,21 @@ fn later() -> Set {
     (header, texts, own)
 }
 
-fn given<'a>(set: &'a mut Set) -> Given<'a> {
+fn given(set: &Set) -> Given<'_> {
     let (header, texts, own) = set;
-    let Own {
-        tec,
-        rms,
-        height,
-        exponents,
-        epochs,
-        marks,
-    } = own;
     Given {
         header,
         texts,
-        areas: second::View {
-            tec,
-            rms,
-            height,
-            exponents,
-            epochs,
-            marks,
-        },
+        areas: own.view(),
     }
 }
 
-fn joined(a: &mut Set, b: &mut Set, lengths: [usize; 6]) -> Result<Set, Refusal> {
-    let mut own = Own::new(lengths);
+fn joined(a: &Set, b: &Set, lengths: [usize; 6]) -> Result<Set, Refusal> {
+    let mut own = untouched(lengths);
     match join_sets(&given(a), &given(b), &mut own.lent()) {
         Ok((header, texts)) => Ok((header, texts, own)),
         Err(refusal) => {
-            assert_eq!(own, Own::new(lengths), "a refusal changed an area");
+            assert_eq!(own, untouched(lengths), "a refusal changed an area");
             Err(refusal)
         }
     }
@@ -81,14 +62,14 @@ fn joined(a: &mut Set, b: &mut Set, lengths: [usize; 6]) -> Result<Set, Refusal>
 const ROOM: [usize; 6] = [200; 6];
 
 /// The number of the refusal, 0 where there is none.
-fn number(a: &mut Set, b: &mut Set) -> u8 {
+fn number(a: &Set, b: &Set) -> u8 {
     joined(a, b, ROOM).map_or_else(|refusal| refusal.number(), |_| 0)
 }
 
 #[test]
 fn the_shared_map_is_the_later_sets() {
-    let (mut a, mut b) = (earlier(), later());
-    let (header, texts, own) = joined(&mut a, &mut b, [24, 24, 24, 24, 4, 4]).unwrap();
+    let (a, b) = (earlier(), later());
+    let (header, texts, own) = joined(&a, &b, [24, 24, 24, 24, 4, 4]).unwrap();
     let expected = Header {
         first_epoch: FIRST,
         maps: 4,
@@ -112,8 +93,8 @@ fn the_shared_map_is_the_later_sets() {
     let height = [-1, -1, -1, -1, -1, -1, 0, -3];
     assert_eq!(own.exponents, [tec, rms, height].concat());
     // It is a map set.
-    let mut set = (header, texts, own);
-    let set = given(&mut set);
+    let set = (header, texts, own);
+    let set = given(&set);
     let mut out = vec![0; 10_000];
     assert!(write(set.header, set.texts, &set.areas, &mut out).is_ok());
 }
@@ -125,13 +106,13 @@ fn kinds_of_the_result() {
     b.2.marks = vec![0, 0, 2];
     b.2.rms.fill(9999);
     b.2.exponents[6..12].fill(-1);
-    let (_, _, own) = joined(&mut a, &mut b, [24, 3, 24, 24, 4, 4]).unwrap();
+    let (_, _, own) = joined(&a, &b, [24, 3, 24, 24, 4, 4]).unwrap();
     assert_eq!(own.rms, [UNTOUCHED; 3]);
     assert_eq!(own.marks, [0, 0, 0, 2]);
     // A kind that the later set lacks is absent for its maps.
     a.2.marks = vec![1, 1];
     a.2.rms = (50..62).collect();
-    let (_, _, own) = joined(&mut a, &mut b, [24, 24, 24, 24, 4, 4]).unwrap();
+    let (_, _, own) = joined(&a, &b, [24, 24, 24, 24, 4, 4]).unwrap();
     assert_eq!(own.marks, [1, 0, 0, 2]);
     assert_eq!(own.rms[..6], [50, 51, 52, 53, 54, 55]);
     assert_eq!(own.rms[6..], [9999; 18]);
@@ -148,7 +129,7 @@ fn descriptions_of_the_result() {
         }
         b.0.descriptions = theirs;
         b.1.descriptions[theirs as usize..].fill([b' '; 60]);
-        let (header, texts, _) = joined(&mut a, &mut b, ROOM).unwrap();
+        let (header, texts, _) = joined(&a, &b, ROOM).unwrap();
         assert_eq!(header.descriptions, theirs);
         assert_eq!(texts, b.1);
     }
@@ -160,7 +141,7 @@ fn intervals() {
         let (mut first, mut second) = (earlier(), later());
         first.0.interval = a;
         second.0.interval = b;
-        joined(&mut first, &mut second, ROOM).map(|set| set.0.interval)
+        joined(&first, &second, ROOM).map(|set| set.0.interval)
     };
     assert_eq!(interval(7200, 7200), Ok(7200));
     assert_eq!(interval(7200, 0), Ok(0));
@@ -175,25 +156,25 @@ fn intervals() {
         set.2.marks = vec![0];
         set
     };
-    let mut second = earlier();
+    let second = earlier();
     for (interval, expected) in [(7200, 7200), (900, 0), (0, 0)] {
-        let set = joined(&mut one(interval), &mut second, ROOM).unwrap();
+        let set = joined(&one(interval), &second, ROOM).unwrap();
         assert_eq!((set.0.interval, set.0.maps), (expected, 2));
         assert_eq!(set.2.tec[..12], second.2.tec);
     }
     // One map after the other: the later one alone.
     let mut last = one(5);
     last.2.tec[0] = 77;
-    let set = joined(&mut one(5), &mut last, ROOM).unwrap();
+    let set = joined(&one(5), &last, ROOM).unwrap();
     assert_eq!((set.0.maps, set.0.interval, set.2.tec[0]), (1, 5, 77));
 }
 
 #[test]
 fn refusals_in_order() {
-    let mut a = earlier();
-    assert_eq!(number(&mut a, &mut later()), 0);
+    let a = earlier();
+    assert_eq!(number(&a, &later()), 0);
     // Not the other way round.
-    assert_eq!(number(&mut later(), &mut a), 41);
+    assert_eq!(number(&later(), &a), 41);
     let changes: [&dyn Fn(&mut Header); 4] = [
         &|h| h.radius += 1,
         &|h| (h.heights.first, h.heights.last) = (4001, 4001),
@@ -203,12 +184,12 @@ fn refusals_in_order() {
     for change in changes {
         let mut b = later();
         change(&mut b.0);
-        assert_eq!(number(&mut a, &mut b), 40);
+        assert_eq!(number(&a, &b), 40);
         // 40 before 41.
-        assert_eq!(number(&mut b, &mut a), 40);
+        assert_eq!(number(&b, &a), 40);
         b.2.marks[0] = 4;
-        assert_eq!(number(&mut a, &mut b), 31);
-        assert_eq!(number(&mut b, &mut a), 31);
+        assert_eq!(number(&a, &b), 31);
+        assert_eq!(number(&b, &a), 31);
     }
     // The epochs do not meet.
     let mut b = later();
@@ -217,18 +198,18 @@ fn refusals_in_order() {
     }
     b.0.first_epoch += 1;
     b.0.last_epoch += 1;
-    assert_eq!(number(&mut a, &mut b), 41);
+    assert_eq!(number(&a, &b), 41);
     // Values are judged as writing judges them.
     let mut b = later();
     b.2.tec[0] = 100_000;
-    assert_eq!(number(&mut a, &mut b), 31);
+    assert_eq!(number(&a, &b), 31);
     let mut b = later();
     b.2.rms[6] = 5;
-    assert_eq!(number(&mut a, &mut b), 31);
+    assert_eq!(number(&a, &b), 31);
     // Descriptions too, also those of the earlier set.
     let mut first = earlier();
     first.1.descriptions[0][0] = b'x';
-    assert_eq!(number(&mut first, &mut later()), 31);
+    assert_eq!(number(&first, &later()), 31);
 }
 
 /// A set of so many maps of one node, a second apart.
@@ -241,7 +222,7 @@ fn many(first: u64, maps: u64) -> Set {
     header.first_epoch = first;
     header.last_epoch = first + maps - 1;
     let n = maps as usize;
-    let mut own = Own::new([n, 0, 0, 3 * n, n, n]);
+    let mut own = untouched([n, 0, 0, 3 * n, n, n]);
     own.tec = (0..maps as i32).collect();
     own.exponents.fill(-1);
     own.epochs = (first..first + maps).collect();
@@ -258,13 +239,13 @@ fn at_most_300_maps() {
         (1, 300, 0),
         (300, 2, 42),
     ] {
-        let (mut first, mut second) = (many(FIRST, a), many(FIRST + a - 1, b));
-        let found = joined(&mut first, &mut second, [900; 6]);
+        let (first, second) = (many(FIRST, a), many(FIRST + a - 1, b));
+        let found = joined(&first, &second, [900; 6]);
         let number = found.map_or_else(|refusal| refusal.number(), |_| 0);
         assert_eq!(number, expected, "{a} {b}");
     }
     // 41 before 42.
-    assert_eq!(number(&mut many(FIRST, 300), &mut many(FIRST, 300)), 41);
+    assert_eq!(number(&many(FIRST, 300), &many(FIRST, 300)), 41);
 }
 
 #[test]
@@ -277,10 +258,10 @@ fn short_areas() {
             area: area as u8 + 1,
             need: needs[area] as u64,
         };
-        let found = joined(&mut earlier(), &mut later(), lengths);
+        let found = joined(&earlier(), &later(), lengths);
         assert_eq!(found.err(), Some(short));
     }
-    let more = joined(&mut earlier(), &mut later(), [30, 31, 32, 33, 5, 6]).unwrap();
+    let more = joined(&earlier(), &later(), [30, 31, 32, 33, 5, 6]).unwrap();
     assert_eq!(more.2.tec[24..], [UNTOUCHED; 6]);
     assert_eq!(more.2.exponents[24..], [UNTOUCHED; 9]);
     assert_eq!((more.2.epochs[4], more.2.marks[4]), (77, 77));
@@ -289,7 +270,7 @@ fn short_areas() {
 /// Both groupings of three sets.
 fn groupings(sets: [&Set; 3]) -> [Result<Set, u8>; 2] {
     let join = |a: &Set, b: &Set| {
-        let found = joined(&mut a.clone(), &mut b.clone(), [900; 6]);
+        let found = joined(&a.clone(), &b.clone(), [900; 6]);
         found.map_err(|refusal| refusal.number())
     };
     let [a, b, c] = sets;

@@ -66,17 +66,17 @@ fn too_short_areas_in_order() {
     for area in [0, 1, 3, 4, 5] {
         let mut lengths = enough;
         lengths[area] -= 1;
-        let mut own = Own::new(lengths);
+        let mut own = untouched(lengths);
         let refusal = Refusal::Area {
             area: area as u8 + 1,
             need: enough[area] as u64,
         };
         let answer = read(&join(&base()), &mut own.lent());
         assert_eq!(answer, Reading::Refused(refusal));
-        assert_eq!(own, Own::new(lengths));
+        assert_eq!(own, untouched(lengths));
     }
     // All too short: the first is told. A wrong text comes first.
-    let mut own = Own::new([0; 6]);
+    let mut own = untouched([0; 6]);
     let answer = read(&join(&base()), &mut own.lent());
     let refusal = Refusal::Area { area: 1, need: 12 };
     assert_eq!(answer, Reading::Refused(refusal));
@@ -97,7 +97,7 @@ fn needs_of_a_text() {
     assert_eq!(needs(&join(&without_rms)), Ok([12, 0, 0, 12, 2, 2]));
     // Refused as a reading is, whatever is lent.
     for text in [join(&without(36)), join(&with(5, "x")), Vec::new()] {
-        let Reading::Refused(refusal) = read(&text, &mut Own::new([0; 6]).lent()) else {
+        let Reading::Refused(refusal) = read(&text, &mut untouched([0; 6]).lent()) else {
             panic!("accepted");
         };
         assert_eq!(needs(&text), Err(refusal));

@@ -2,25 +2,12 @@
 
 mod common;
 
-use common::{accepted, base, with, Own};
+use common::{accepted, base, with, Set};
 use second::week::{add, Figures, Week};
-use second::{Header, Refusal, Texts, View};
-
-type Set = (Header, Texts, Own);
-
-fn view(own: &Own) -> View<'_> {
-    View {
-        tec: &own.tec,
-        rms: &own.rms,
-        height: &own.height,
-        exponents: &own.exponents,
-        epochs: &own.epochs,
-        marks: &own.marks,
-    }
-}
+use second::Refusal;
 
 fn put(week: &mut Week, set: &Set, rows: &mut [i64]) -> Result<(), Refusal> {
-    add(week, &set.0, &set.1, &view(&set.2), rows)
+    add(week, &set.0, &set.1, &set.2.view(), rows)
 }
 
 fn example() -> Set {

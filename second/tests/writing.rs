@@ -3,18 +3,12 @@
 
 mod common;
 use common::*;
-use second::{read, write, Count, Header, Reading, Refusal, System, Texts};
+use second::{read, write, Count, Reading, Refusal, System};
 
-type Set = (Header, Texts, Own);
-
-fn set() -> Set {
-    accepted(&base(), [12, 12, 0, 12, 2, 2])
-}
-
-fn written(set: &mut Set) -> Result<Vec<u8>, u8> {
+fn written(set: &Set) -> Result<Vec<u8>, u8> {
     let mut out = vec![b'#'; 10_000];
     let (header, texts, own) = set;
-    match write(header, texts, &own.lent().view(), &mut out) {
+    match write(header, texts, &own.view(), &mut out) {
         Ok(length) => {
             assert!(out[length..].iter().all(|&b| b == b'#'));
             out.truncate(length);
@@ -31,16 +25,16 @@ fn written(set: &mut Set) -> Result<Vec<u8>, u8> {
 fn refused(change: impl Fn(&mut Set)) {
     let mut set = set();
     change(&mut set);
-    assert_eq!(written(&mut set), Err(31));
+    assert_eq!(written(&set), Err(31));
 }
 
 /// The changed set is written, and its text read again gives the same set.
 fn stays(change: impl Fn(&mut Set)) {
     let mut set = set();
     change(&mut set);
-    let text = written(&mut set).unwrap();
-    let lengths = set.2.lent().view().lengths();
-    let mut own = Own::new(lengths);
+    let text = written(&set).unwrap();
+    let lengths = set.2.lengths();
+    let mut own = untouched(lengths);
     let Reading::Accepted { header, texts } = read(&text, &mut own.lent()) else {
         panic!("not accepted");
     };
@@ -55,20 +49,20 @@ fn stays(change: impl Fn(&mut Set)) {
 fn the_base_text_is_canonical() {
     // It was written by hand in the canonical form.
     let text = join(&base());
-    assert_eq!(written(&mut set()), Ok(text.clone()));
-    let (header, texts, mut own) = set();
+    assert_eq!(written(&set()), Ok(text.clone()));
+    let (header, texts, own) = set();
     for short in [0, 1, text.len() - 1] {
         let mut out = vec![b'#'; short];
         let need = text.len() as u64;
         assert_eq!(
-            write(&header, &texts, &own.lent().view(), &mut out),
+            write(&header, &texts, &own.view(), &mut out),
             Err(Refusal::Output { need })
         );
         assert!(out.iter().all(|&b| b == b'#'));
     }
     let mut out = vec![b'#'; text.len()];
     assert_eq!(
-        write(&header, &texts, &own.lent().view(), &mut out),
+        write(&header, &texts, &own.view(), &mut out),
         Ok(text.len())
     );
 }
@@ -94,8 +88,8 @@ fn freedoms_vanish() {
     lines.insert(19, String::new());
     lines.insert(12, rec("", "COMMENT"));
     lines[1..15].reverse();
-    let mut found = accepted(&lines, [12; 6]);
-    assert_eq!(written(&mut found), Ok(join(&base())));
+    let found = accepted(&lines, [12; 6]);
+    assert_eq!(written(&found), Ok(join(&base())));
 }
 
 #[test]
@@ -122,7 +116,7 @@ fn exponents_and_starred_records() {
     lines.insert(9, rec("     S     1     2", "SYS / #STA / #SAT"));
     lines.insert(9, rec("     G    80    24", "SYS / #STA / #SAT"));
     lines.insert(9, rec("     0", "# OF STATIONS"));
-    assert_eq!(written(&mut found), Ok(join(&lines)));
+    assert_eq!(written(&found), Ok(join(&lines)));
 }
 
 #[test]
@@ -205,8 +199,8 @@ fn descriptions_stand_behind_the_program() {
     }
     assert_ne!(canonical, free);
     for lines in [&canonical, &free] {
-        let mut found = accepted(lines, [12, 12, 0, 12, 2, 2]);
-        assert_eq!(written(&mut found), Ok(join(&canonical)));
+        let found = accepted(lines, [12, 12, 0, 12, 2, 2]);
+        assert_eq!(written(&found), Ok(join(&canonical)));
     }
 }
 
@@ -341,9 +335,9 @@ fn three_dimensions() {
             lines.insert(end + k, line.clone());
         }
     }
-    let mut found = accepted(&lines, [24, 24, 0, 24, 2, 2]);
+    let found = accepted(&lines, [24, 24, 0, 24, 2, 2]);
     assert_eq!(found.2.tec[5..8], [6, -101, -102]);
-    assert_eq!(written(&mut found), Ok(join(&lines)));
+    assert_eq!(written(&found), Ok(join(&lines)));
     // H is looked at.
     let mut wrong = lines.clone();
     wrong[21] = wrong[21].replace("450.5", "450.4");
@@ -362,7 +356,7 @@ fn both_versions() {
         stays(|set| (set.0.version, set.0.code) = (version, code));
         let mut set = set();
         (set.0.version, set.0.code) = (version, code);
-        let written = written(&mut set).unwrap();
+        let written = written(&set).unwrap();
         assert_eq!(&written[..8], format!("     {text}").as_bytes());
     }
     for wrong in [(11, 9), (11, 10), (10, 11), (10, -1), (9, 0), (12, 0)] {

@@ -3,15 +3,14 @@
 
 use crate::boundary::{self, Boundary, Plain, HEADER, TEXTS};
 use crate::calls;
-use crate::check::{leave_file, Tally, OFTEN, SHOWN};
 use crate::damage;
 use crate::gen::{self, edged, record};
 use crate::rng::Rng;
 use crate::run;
-use crate::set::{Buffers, MapSet};
+use crate::set::{rubbish, MapSet};
+use crate::tally::{self, Comparison, Tally};
 use second::biases::{Room, SIZES};
 use second::Refusal;
-use std::collections::BTreeMap;
 
 pub mod faults;
 
@@ -493,16 +492,8 @@ fn room(rng: &mut Rng, found: &Found, short: bool) -> Lent {
         satellites: (0..lengths[0]).map(|_| rng.word() as i32).collect(),
         stations: (0..lengths[1]).map(|_| rng.word() as i32).collect(),
         names: (0..lengths[2]).map(|_| rng.word() as u8).collect(),
-        counts: own(rng),
-        place: own(rng),
-    }
-}
-
-/// Two numbers, at times fewer or more.
-fn own(rng: &mut Rng) -> Vec<u64> {
-    match rng.once_in(4) {
-        true => calls::words(rng, 2),
-        false => vec![rng.word(), rng.word()],
+        counts: calls::mostly_words(rng, 2),
+        place: calls::mostly_words(rng, 2),
     }
 }
 
@@ -513,52 +504,33 @@ fn compare_call(a: &dyn Biases, b: &dyn Biases, call: &Call) -> (u64, Option<Str
     let (mut left, mut right) = (call.lent.clone(), call.lent.clone());
     let first = a.biases(&call.text, &mut left);
     let second = b.biases(&call.text, &mut right);
-    let parts = [
-        (first != second).then(|| format!("answers {first} and {second}")),
-        (left.place != right.place).then(|| run::place("place", &left.place, &right.place)),
-        (left.counts != right.counts).then(|| run::place("counts", &left.counts, &right.counts)),
-        (left.satellites != right.satellites)
-            .then(|| run::place("satellites", &left.satellites, &right.satellites)),
-        (left.stations != right.stations)
-            .then(|| run::place("stations", &left.stations, &right.stations)),
-        (left.names != right.names).then(|| run::place("names", &left.names, &right.names)),
-    ];
-    (first, parts.into_iter().flatten().next())
+    let found = run::first([
+        run::answers(first, second),
+        run::part("place", &left.place, &right.place),
+        run::part("counts", &left.counts, &right.counts),
+        run::part("satellites", &left.satellites, &right.satellites),
+        run::part("stations", &left.stations, &right.stations),
+        run::part("names", &left.names, &right.names),
+    ]);
+    (first, found)
 }
 
 /// Every call of the seeds, by the second program and by another, and the other's answers to good texts judged.
 pub fn compare<L: Biases + Boundary>(other: &L, count: u64, seed: u64) -> Tally {
-    let mut tally = Tally::default();
     // 5, 6 and 7 of the blocks' own, where the maps are read.
-    let expected = [0, 5, 6, 7, 11, 103];
-    let mut counts = BTreeMap::from(expected.map(|answer| (answer, 0u64)));
-    for seed in seed..seed.saturating_add(count) {
-        let mut complaints = Vec::new();
+    let expected = tally::answered("biases", &[0, 5, 6, 7, 11, 103]);
+    Comparison::over(count, seed, expected, |comparison, seed| {
         for call in calls(seed) {
             let (answer, found) = compare_call(&Plain, other, &call);
             if second::needs(&call.text).is_ok() {
-                *counts.entry(answer).or_default() += 1;
+                comparison.count(format!("biases answered {answer}"), 1);
             }
-            tally.note(found.is_none());
-            if let Some(found) = found {
-                leave_file(&format!("{seed}-biases.inx"), &call.text);
-                complaints.push(found);
-            }
+            comparison.judge(seed, found, || {
+                tally::leave(&format!("{seed}-biases.inx"), &call.text)
+            });
         }
-        let complaint = judge(other, seed);
-        tally.note(complaint.is_none());
-        complaints.extend(complaint);
-        if !complaints.is_empty() && tally.failed <= SHOWN {
-            println!("seed {seed}: {}", complaints[0]);
-        }
-    }
-    for answer in expected {
-        let number = counts[&answer];
-        let remark = if number >= OFTEN { "" } else { "  too seldom" };
-        println!("{number:>9}  biases answered {answer}{remark}");
-        tally.note(number >= OFTEN);
-    }
-    tally
+        comparison.judge(seed, judge(other, seed), || ());
+    })
 }
 
 /// The biases that a text was made from, and its maps, which the blocks do not change.
@@ -587,7 +559,7 @@ fn judge<L: Biases + Boundary>(library: &L, seed: u64) -> Option<String> {
         return Some(format!("not the biases of the text: {answer}"));
     }
     let mut lent = boundary::Lent {
-        areas: Buffers::filled(set.needs(), 1),
+        areas: rubbish(set.needs(), 1),
         header: vec![0; HEADER],
         texts: vec![0; TEXTS],
         place: vec![0; 2],

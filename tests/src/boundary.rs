@@ -1,7 +1,9 @@
 //! The C boundary (include/ionex.h) in safe Rust: what a call is given, and what it gives back in lent areas.
 
-use crate::set::{Buffers, MapSet};
-use second::{Answer, Axis, Count, Delay, Header, Question, Reading, Refusal, System, Texts};
+use crate::set::MapSet;
+use second::{
+    Answer, Axis, Buffers, Count, Delay, Header, Question, Reading, Refusal, System, Texts,
+};
 
 /// How many numbers a header has, and how many bytes its texts.
 pub const HEADER: usize = 45;

@@ -5,13 +5,12 @@ use crate::boundary::{
     self, Asked, Boundary, Given, Lent, Plain, FLAGS, HEADER, NEEDS, OLD_HEADER, OLD_TEXTS, RECORD,
     TEXTS,
 };
-use crate::check::{leave_file, Tally, OFTEN, SHOWN};
 use crate::jobs::{self, Job};
 use crate::rng::Rng;
 use crate::run;
-use crate::set::{Buffers, MapSet};
-use second::Question;
-use std::collections::BTreeMap;
+use crate::set::MapSet;
+use crate::tally::{self, Comparison, Tally};
+use second::{Buffers, Question};
 
 /// What a call is given, and after it what it left.
 #[derive(Clone, Debug, PartialEq, Eq)]
@@ -139,6 +138,14 @@ pub fn words(rng: &mut Rng, need: usize) -> Vec<u64> {
     (0..length(rng, need)).map(|_| rng.word()).collect()
 }
 
+/// Words for an own area, mostly as many as it needs.
+pub fn mostly_words(rng: &mut Rng, need: usize) -> Vec<u64> {
+    match rng.once_in(4) {
+        true => words(rng, need),
+        false => (0..need).map(|_| rng.word()).collect(),
+    }
+}
+
 fn call(rng: &mut Rng, job: Job) -> Call {
     match job {
         Job::Read { text, lent, .. }
@@ -237,6 +244,14 @@ pub fn given(rng: &mut Rng, set: &MapSet) -> Given {
     given
 }
 
+/// What is given of a set, mostly as it is.
+pub fn mostly_given(rng: &mut Rng, set: &MapSet) -> Given {
+    match rng.once_in(4) {
+        true => given(rng, set),
+        false => boundary::given(set),
+    }
+}
+
 /// One number wider than its field, some so that their lower bits are the right number.
 fn widen(rng: &mut Rng, header: &mut [i64]) {
     let place = rng.below(HEADER);
@@ -286,15 +301,15 @@ fn widen_asked(rng: &mut Rng, asked: &mut Asked) {
 /// The first thing in which two answers, or what two calls left, differ.
 fn difference(a: (u64, &Call), b: (u64, &Call)) -> Option<String> {
     if a.0 != b.0 {
-        return Some(format!("answers {} and {}", a.0, b.0));
+        return run::answers(a.0, b.0);
     }
     let parts = match (a.1, b.1) {
         (Call::Read { lent: left, .. }, Call::Read { lent: right, .. })
         | (Call::Join { lent: left, .. }, Call::Join { lent: right, .. }) => vec![
             run::areas(&left.areas, &right.areas),
-            part("header", &left.header, &right.header),
-            part("texts", &left.texts, &right.texts),
-            part("place", &left.place, &right.place),
+            run::part("header", &left.header, &right.header),
+            run::part("texts", &left.texts, &right.texts),
+            run::part("place", &left.place, &right.place),
         ],
         (
             Call::Needs { needs, place, .. },
@@ -304,8 +319,8 @@ fn difference(a: (u64, &Call), b: (u64, &Call)) -> Option<String> {
                 ..
             },
         ) => vec![
-            part("needs", needs, other_needs),
-            part("place", place, other_place),
+            run::part("needs", needs, other_needs),
+            run::part("place", place, other_place),
         ],
         (
             Call::Write { out, count, .. },
@@ -315,27 +330,23 @@ fn difference(a: (u64, &Call), b: (u64, &Call)) -> Option<String> {
                 ..
             },
         ) => vec![
-            part("out", out, other_out),
-            part("count", count, other_count),
+            run::part("out", out, other_out),
+            run::part("count", count, other_count),
         ],
         (Call::Ask { value: left, .. }, Call::Ask { value: right, .. }) => {
-            vec![part("value", left, right)]
+            vec![run::part("value", left, right)]
         }
         (Call::TecuDelay { record: left, .. }, Call::TecuDelay { record: right, .. })
         | (Call::Delay { record: left, .. }, Call::Delay { record: right, .. }) => {
-            vec![part("record", left, right)]
+            vec![run::part("record", left, right)]
         }
         (Call::Move { moved: left, .. }, Call::Move { moved: right, .. }) => {
-            vec![part("moved", left, right)]
+            vec![run::part("moved", left, right)]
         }
         _ => vec![Some("two calls of different kinds".to_string())],
     };
-    let found = parts.into_iter().flatten().next()?;
+    let found = run::first(parts)?;
     Some(format!("after answer {}: {found}", a.0))
-}
-
-fn part<T: PartialEq + std::fmt::Debug>(name: &str, a: &[T], b: &[T]) -> Option<String> {
-    (a != b).then(|| run::place(name, a, b))
 }
 
 /// What two do with a call: the first's answer, and a difference if there is one.
@@ -349,59 +360,40 @@ fn compare_call(a: &dyn Boundary, b: &dyn Boundary, call: &Call) -> (u64, Option
 
 /// Every call of the seeds, made to the second program and to another.
 pub fn compare(other: &dyn Boundary, count: u64, seed: u64) -> Tally {
-    let mut tally = Tally::default();
-    let mut counts = BTreeMap::new();
-    for (name, number) in expected_often() {
-        counts.insert((name, number), 0u64);
-    }
-    for seed in seed..seed.saturating_add(count) {
+    Comparison::over(count, seed, expected_often(), |comparison, seed| {
         for (k, call) in calls(seed).iter().enumerate() {
             let (answer, found) = compare_call(&Plain, other, call);
-            *counts.entry((call.name(), answer)).or_default() += 1;
-            tally.note(found.is_none());
-            if let Some(found) = found {
-                if tally.failed <= SHOWN {
-                    println!("seed {seed} call {k} ({}): {found}", call.name());
-                    leave(seed, k, call);
-                }
-            }
+            comparison.count(format!("{} answered {answer}", call.name()), 1);
+            let found = found.map(|found| format!("call {k} ({}): {found}", call.name()));
+            comparison.judge(seed, found, || leave(seed, k, call));
         }
-    }
-    for (name, answer) in expected_often() {
-        let number = counts[&(name, answer)];
-        let often = number >= OFTEN;
-        let remark = if often { "" } else { "  too seldom" };
-        println!("{number:>9}  {name} answered {answer}{remark}");
-        tally.note(often);
-    }
-    tally
+    })
 }
 
 fn leave(seed: u64, k: usize, call: &Call) {
     match call {
         Call::Read { text, .. } | Call::Needs { text, .. } => {
-            leave_file(&format!("{seed}-call-{k}.inx"), text)
+            tally::leave(&format!("{seed}-call-{k}.inx"), text)
         }
-        _ => leave_file(
-            &format!("{seed}-call-{k}.txt"),
-            format!("{call:#?}\n").as_bytes(),
-        ),
+        _ => tally::leave_words(&format!("{seed}-call-{k}.txt"), call),
     }
 }
 
 /// The answers that must have occurred often.
-fn expected_often() -> Vec<(&'static str, u64)> {
-    let mut rows = Vec::new();
-    let mut add = |name, answers: &[u64]| rows.extend(answers.iter().map(|&answer| (name, answer)));
-    add("read", &[0, 6, 8, 11, 101, 102, 103]);
-    add("needs", &[0, 6, 8, 103]);
-    add("write", &[0, 30, 31, 101, 102, 103]);
-    add("ask", &[0, 20, 21, 22, 23, 24, 31, 101, 102, 103]);
-    add("tecu_delay", &[0, 25, 103]);
-    add("delay", &[0, 20, 21, 22, 23, 24, 25, 31, 101, 102, 103]);
-    add("join", &[0, 11, 31, 40, 41, 101, 102, 103]);
-    add("moved", &[0, 7, 103]);
-    rows
+fn expected_often() -> Vec<String> {
+    let asked = [0, 20, 21, 22, 23, 24, 31, 101, 102, 103];
+    [
+        tally::answered("read", &[0, 6, 8, 11, 101, 102, 103]),
+        tally::answered("needs", &[0, 6, 8, 103]),
+        tally::answered("write", &[0, 30, 31, 101, 102, 103]),
+        tally::answered("ask", &asked),
+        tally::answered("tecu_delay", &[0, 25, 103]),
+        tally::answered("delay", &asked),
+        tally::answered("delay", &[25]),
+        tally::answered("join", &[0, 11, 31, 40, 41, 101, 102, 103]),
+        tally::answered("moved", &[0, 7, 103]),
+    ]
+    .concat()
 }
 
 // ---- planted faults ----
@@ -463,12 +455,8 @@ listed! {
 
 /// The seed and the difference at which the comparison with a library finds a fault, within `count` seeds.
 pub fn find(library: &dyn Boundary, fault: Fault, count: u64, seed: u64) -> Option<(u64, String)> {
-    (seed..seed.saturating_add(count)).find_map(|seed| {
-        let found = calls(seed)
-            .iter()
-            .find_map(|call| compare_call(library, &Faulty(fault), call).1)?;
-        Some((seed, found))
-    })
+    let differs = |call: &Call| compare_call(library, &Faulty(fault), call).1;
+    tally::first(count, seed, |seed| calls(seed).iter().find_map(differs))
 }
 
 /// The second program with one thing wrong.

@@ -7,127 +7,87 @@ use crate::library::Library;
 use crate::oracle;
 use crate::remarks;
 use crate::run::{self, Outcome};
-use crate::set::{Buffers, MapSet};
-use second::{Answer, Question, Reading, Refusal};
+use crate::set::{overlaid, rubbish, MapSet};
+use crate::tally::{self, Comparison, Tally};
+use second::{Answer, Buffers, Question, Reading, Refusal};
 use std::collections::BTreeMap;
-use std::fs;
-use std::path::PathBuf;
 
-/// How often each answer must have occurred.
-pub const OFTEN: u64 = 100;
-
-/// How many failed jobs are shown and left as files; the others are only counted.
-pub const SHOWN: u64 = 20;
-
-/// How often each answer occurred.
-#[derive(Default)]
-pub struct Counts {
-    pub accepted: u64,
-    /// Remarks rewritten, in texts that are accepted and in others.
-    pub rewritten: [u64; 2],
-    pub measured: u64,
-    pub written: u64,
-    /// By method.
-    pub answered: [u64; 4],
-    /// Between the last column and the first.
-    pub in_strip: u64,
-    pub moved: u64,
-    /// Refusals of reading by number, and those after END OF HEADER.
-    pub reading: [u64; 12],
-    pub deep: [u64; 12],
-    pub measuring: u64,
-    pub writing: [u64; 32],
-    pub asking: [u64; 32],
-    /// Of a question, and of a TEC answer that is there already.
-    pub delayed: [u64; 2],
-    pub delaying: [u64; 32],
-    pub carriers: u64,
-    pub joined: u64,
-    pub joining: BTreeMap<usize, u64>,
-    /// Chains that are joined, and others.
-    pub chains: [u64; 2],
-    pub moving: u64,
+/// How often each answer must have occurred: the names that jobs are counted under.
+fn expected_often() -> Vec<String> {
+    let refused = |of: &'static str, numbers: &[u8]| {
+        let row = |number: &u8| format!("{of}refused {number}");
+        numbers.iter().map(row).collect::<Vec<_>>()
+    };
+    let named = |names: &[&str]| names.iter().map(|name| name.to_string()).collect();
+    [
+        named(&["accepted"]),
+        refused("", &[1, 2, 3, 4, 5, 6, 7, 8, 9, 10, 11]),
+        (5..=9).map(inside_the_maps).collect(),
+        named(&["remarks rewritten, accepted", "remarks rewritten, refused"]),
+        named(&["measured", "measuring refused", "written"]),
+        refused("writing ", &[30, 31]),
+        (0..4).map(answered_by).collect(),
+        named(&["answered in the strip"]),
+        refused("asking ", &[20, 21, 22, 23, 24, 31]),
+        named(&["delays of questions"]),
+        refused("delay ", &[20, 21, 22, 23, 24, 25, 31]),
+        named(&["delays of TEC", "delay of TEC refused 25", "joined"]),
+        refused("joining ", &[11, 31, 40, 41, 42]),
+        named(&[
+            "chains joined",
+            "chains refused",
+            "moved",
+            "moving refused 7",
+        ]),
+    ]
+    .concat()
 }
 
-impl Counts {
-    fn add(&mut self, job: &Job, outcome: &Outcome) {
-        let number = outcome.refusal().map(|r| usize::from(r.number()));
-        match (job, number) {
-            (Job::Read { .. }, None) => self.accepted += 1,
-            (Job::Read { text, .. }, Some(number)) => {
-                self.reading[number] += 1;
-                if let Some(Refusal::Place { line, .. }) = outcome.refusal() {
-                    if header_end(text).is_some_and(|end| line > end) {
-                        self.deep[number] += 1;
-                    }
+fn inside_the_maps(number: u8) -> String {
+    format!("refused {number} inside the maps")
+}
+
+fn answered_by(method: i64) -> String {
+    format!("answered by method {method}")
+}
+
+/// Under which of these a job is counted.
+fn counted(job: &Job, outcome: &Outcome) -> Vec<String> {
+    let number = outcome.refusal().map(|refusal| refusal.number());
+    let by_number = |done: &str, refused: &str| match number {
+        None => vec![done.to_string()],
+        Some(number) => vec![format!("{refused}refused {number}")],
+    };
+    let either = |done: &str, refused: &str| match number {
+        None => vec![done.to_string()],
+        Some(_) => vec![refused.to_string()],
+    };
+    match job {
+        Job::Read { text, .. } => {
+            let mut rows = by_number("accepted", "");
+            if let Some(Refusal::Place { line, number, .. }) = outcome.refusal() {
+                if header_end(text).is_some_and(|end| line > end) {
+                    rows.push(inside_the_maps(number));
                 }
             }
-            (Job::Twins { text, twin, .. }, number) => {
-                self.rewritten[usize::from(number.is_some())] += u64::from(text != twin)
+            rows
+        }
+        Job::Twins { text, twin, .. } if text == twin => Vec::new(),
+        Job::Twins { .. } => either("remarks rewritten, accepted", "remarks rewritten, refused"),
+        Job::Needs { .. } => either("measured", "measuring refused"),
+        Job::Write { .. } => by_number("written", "writing "),
+        Job::Ask { set, question, .. } => {
+            let mut rows = by_number(&answered_by(question.method), "asking ");
+            if number.is_none() && set.in_strip(question.longitude) {
+                rows.push("answered in the strip".to_string());
             }
-            (Job::Needs { .. }, None) => self.measured += 1,
-            (Job::Needs { .. }, Some(_)) => self.measuring += 1,
-            (Job::Write { .. }, None) => self.written += 1,
-            (Job::Write { .. }, Some(number)) => self.writing[number] += 1,
-            (Job::Ask { set, question, .. }, None) => {
-                self.answered[question.method as usize] += 1;
-                self.in_strip += u64::from(set.in_strip(question.longitude));
-            }
-            (Job::Ask { .. }, Some(number)) => self.asking[number] += 1,
-            (Job::Delay { .. }, None) => self.delayed[0] += 1,
-            (Job::Delay { .. }, Some(number)) => self.delaying[number] += 1,
-            (Job::TecuDelay { .. }, None) => self.delayed[1] += 1,
-            (Job::TecuDelay { .. }, Some(_)) => self.carriers += 1,
-            (Job::Join { .. }, None) => self.joined += 1,
-            (Job::Join { .. }, Some(number)) => *self.joining.entry(number).or_default() += 1,
-            (Job::Chain { .. }, number) => self.chains[usize::from(number.is_some())] += 1,
-            (Job::Move { .. }, None) => self.moved += 1,
-            (Job::Move { .. }, Some(_)) => self.moving += 1,
+            rows
         }
-    }
-
-    fn rows(&self) -> Vec<(String, u64)> {
-        let mut rows = vec![("accepted".to_string(), self.accepted)];
-        for number in 1..=11 {
-            rows.push((format!("refused {number}"), self.reading[number]));
-        }
-        for number in 5..=9 {
-            let name = format!("refused {number} inside the maps");
-            rows.push((name, self.deep[number]));
-        }
-        for (name, number) in ["accepted", "refused"].iter().zip(self.rewritten) {
-            rows.push((format!("remarks rewritten, {name}"), number));
-        }
-        rows.push(("measured".to_string(), self.measured));
-        rows.push(("measuring refused".to_string(), self.measuring));
-        rows.push(("written".to_string(), self.written));
-        for number in 30..=31 {
-            rows.push((format!("writing refused {number}"), self.writing[number]));
-        }
-        for (method, number) in self.answered.iter().enumerate() {
-            rows.push((format!("answered by method {method}"), *number));
-        }
-        rows.push(("answered in the strip".to_string(), self.in_strip));
-        for number in [20, 21, 22, 23, 24, 31] {
-            rows.push((format!("asking refused {number}"), self.asking[number]));
-        }
-        rows.push(("delays of questions".to_string(), self.delayed[0]));
-        for number in [20, 21, 22, 23, 24, 25, 31] {
-            rows.push((format!("delay refused {number}"), self.delaying[number]));
-        }
-        rows.push(("delays of TEC".to_string(), self.delayed[1]));
-        rows.push(("delay of TEC refused 25".to_string(), self.carriers));
-        rows.push(("joined".to_string(), self.joined));
-        for number in [11, 31, 40, 41, 42] {
-            let often = self.joining.get(&number).copied().unwrap_or(0);
-            rows.push((format!("joining refused {number}"), often));
-        }
-        for (name, number) in ["joined", "refused"].iter().zip(self.chains) {
-            rows.push((format!("chains {name}"), number));
-        }
-        rows.push(("moved".to_string(), self.moved));
-        rows.push(("moving refused 7".to_string(), self.moving));
-        rows
+        Job::Delay { .. } => by_number("delays of questions", "delay "),
+        Job::TecuDelay { .. } => by_number("delays of TEC", "delay of TEC "),
+        Job::Join { .. } => by_number("joined", "joining "),
+        Job::Chain { .. } => either("chains joined", "chains refused"),
+        Job::Move { .. } => by_number("moved", "moving "),
     }
 }
 
@@ -143,22 +103,6 @@ fn header_end(text: &[u8]) -> Option<u64> {
         }
     }
     None
-}
-
-#[derive(Default)]
-pub struct Tally {
-    pub passed: u64,
-    pub failed: u64,
-}
-
-impl Tally {
-    pub fn note(&mut self, good: bool) {
-        if good {
-            self.passed += 1;
-        } else {
-            self.failed += 1;
-        }
-    }
 }
 
 /// Every job of the seeds run by one library and judged. Prints the counts.
@@ -181,50 +125,29 @@ pub fn compare(a: &dyn Library, b: &dyn Library, count: u64, seed: u64) -> Tally
 }
 
 fn over_seeds(count: u64, seed: u64, try_job: impl Fn(&Job) -> (Outcome, Option<String>)) -> Tally {
-    let mut tally = Tally::default();
-    let mut counts = Counts::default();
-    for seed in seed..seed.saturating_add(count) {
+    Comparison::over(count, seed, expected_often(), |comparison, seed| {
         for (k, job) in jobs::jobs(seed).iter().enumerate() {
             let (outcome, complaint) = try_job(job);
-            counts.add(job, &outcome);
-            tally.note(complaint.is_none());
-            if let Some(complaint) = complaint {
-                if tally.failed <= SHOWN {
-                    println!("seed {seed} job {k} ({}): {complaint}", job.name());
-                    leave(seed, k, job);
-                }
+            for row in counted(job, &outcome) {
+                comparison.count(row, 1);
             }
+            let complaint = complaint.map(|words| format!("job {k} ({}): {words}", job.name()));
+            comparison.judge(seed, complaint, || leave(seed, k, job));
         }
-    }
-    for (name, number) in counts.rows() {
-        let often = number >= OFTEN;
-        let remark = if often { "" } else { "  too seldom" };
-        println!("{number:>9}  {name}{remark}");
-        tally.note(often);
-    }
-    tally
+    })
 }
 
 /// Leaves what a failed job was given.
 fn leave(seed: u64, k: usize, job: &Job) {
     match job {
         Job::Twins { text, twin, .. } => {
-            leave_file(&format!("{seed}-{k}.inx"), text);
-            leave_file(&format!("{seed}-{k}-twin.inx"), twin);
+            tally::leave(&format!("{seed}-{k}.inx"), text);
+            tally::leave(&format!("{seed}-{k}-twin.inx"), twin);
         }
         Job::Read { text, .. } | Job::Needs { text, .. } => {
-            leave_file(&format!("{seed}-{k}.inx"), text)
+            tally::leave(&format!("{seed}-{k}.inx"), text)
         }
-        _ => leave_file(&format!("{seed}-{k}.txt"), format!("{job:#?}\n").as_bytes()),
-    }
-}
-
-/// Leaves a file under tests/failed/.
-pub fn leave_file(name: &str, bytes: &[u8]) {
-    let folder = PathBuf::from(env!("CARGO_MANIFEST_DIR")).join("failed");
-    let written = fs::create_dir_all(&folder).and_then(|()| fs::write(folder.join(name), bytes));
-    if let Err(error) = written {
-        println!("could not leave {name}: {error}");
+        _ => tally::leave_words(&format!("{seed}-{k}.txt"), job),
     }
 }
 
@@ -327,7 +250,7 @@ fn judge_reading(
             must(*header == set.header, "not the header generated")
                 .or_else(|| must(*texts == set.texts, "not the texts generated"))
                 .or_else(|| {
-                    let expected = lent.overlaid(&set.areas);
+                    let expected = overlaid(lent, &set.areas);
                     must(*areas == expected, "not the areas generated")
                 })
                 .or_else(|| round_trip(library, set))
@@ -354,7 +277,7 @@ fn judge_reading(
                 areas: areas.clone(),
             };
             let cut = found.cut();
-            let expected = lent.overlaid(&cut.areas);
+            let expected = overlaid(lent, &cut.areas);
             must(*areas == expected, "more than the needs was changed")
                 .or_else(|| round_trip(library, &cut))
         }
@@ -368,7 +291,7 @@ fn judge_needs(
     truth: &Option<[usize; 6]>,
     answer: &Result<[usize; 6], Refusal>,
 ) -> Option<String> {
-    let read = |lengths: [usize; 6]| library.read(text, &mut Buffers::filled(lengths, 1));
+    let read = |lengths: [usize; 6]| library.read(text, &mut rubbish(lengths, 1));
     match answer {
         Err(refusal) => must(truth.is_none(), "a good text is refused").or_else(|| {
             let same = read([0; 6]) == Reading::Refused(*refusal);
@@ -466,7 +389,7 @@ pub fn round_trip(library: &dyn Library, set: &MapSet) -> Option<String> {
         Ok(length) => text.truncate(length),
         Err(refusal) => return Some(format!("a good set is not written: {refusal}")),
     }
-    let mut areas = Buffers::filled(set.areas.lengths(), 1);
+    let mut areas = rubbish(set.areas.lengths(), 1);
     let Reading::Accepted { header, texts } = library.read(&text, &mut areas) else {
         return Some("the canonical text is refused".to_string());
     };

@@ -1,10 +1,10 @@
 //! Delays: carriers to ask for, what a delay must be by another way than the second program's, and a week's log.
 
 use crate::boundary::{self, Boundary, Given, Lent, HEADER, TEXTS};
-use crate::check::{Tally, SHOWN};
 use crate::rng::Rng;
-use crate::set::{Buffers, MapSet};
-use second::{Answer, Axis, Delay, Header, Question, Refusal, Texts};
+use crate::set::{rubbish, MapSet};
+use crate::tally::Tally;
+use second::{Answer, Axis, Buffers, Delay, Header, Question, Refusal, Texts};
 
 /// In hertz.
 pub const L1: f64 = 1_575_420_000.0;
@@ -183,7 +183,7 @@ fn day(k: u64) -> MapSet {
 fn file(library: &dyn Boundary, set: &MapSet) -> Given {
     let text = second::write::canonical(&set.header, &set.texts, &set.areas.view());
     let mut lent = Lent {
-        areas: Buffers::filled(set.needs(), 1),
+        areas: rubbish(set.needs(), 1),
         header: vec![0; HEADER],
         texts: vec![0; TEXTS],
         place: vec![0; 2],
@@ -230,10 +230,9 @@ impl Log {
             Err(_) => 2,
         };
         self.counts[count] += 1;
-        self.tally.note(expected == found);
-        if expected != found && self.tally.failed <= SHOWN {
-            println!("seed {}: {found:?}, but {expected:?}", what());
-        }
+        let complaint = || format!("{} is {found:?}, but {expected:?}", what());
+        let differ = expected != found;
+        self.tally.judge("WRONG delay", differ.then(complaint));
     }
 }
 

@@ -3,7 +3,6 @@
 
 use crate::boundary::{self, Asked, Boundary, Given, Plain};
 use crate::calls;
-use crate::check::{leave_file, Tally, OFTEN, SHOWN};
 use crate::damage;
 use crate::gen;
 use crate::jobs;
@@ -11,8 +10,8 @@ use crate::oracle::{self, Needed};
 use crate::rng::Rng;
 use crate::run;
 use crate::set::MapSet;
+use crate::tally::{self, Comparison, Tally};
 use second::{Answer, Cause, Explanation, Lacking, Question};
-use std::collections::BTreeMap;
 
 pub mod faults;
 
@@ -108,24 +107,17 @@ fn calls(seed: u64) -> Vec<Call> {
                 damage::map_set(rng, &mut set);
             }
             Call {
-                given: match rng.once_in(4) {
-                    true => calls::given(rng, &set),
-                    false => boundary::given(&set),
-                },
+                given: calls::mostly_given(rng, &set),
                 asked: calls::asked(rng, &question),
-                nodes: words(rng, EXPLAINED).iter().map(|&w| w as i64).collect(),
-                lacking: words(rng, LACKING),
+                nodes: numbers(calls::mostly_words(rng, EXPLAINED)),
+                lacking: calls::mostly_words(rng, LACKING),
             }
         })
         .collect()
 }
 
-/// Words for an own area, mostly as many as it needs.
-fn words(rng: &mut Rng, need: usize) -> Vec<u64> {
-    match rng.once_in(4) {
-        true => calls::words(rng, need),
-        false => (0..need).map(|_| rng.word()).collect(),
-    }
+fn numbers(words: Vec<u64>) -> Vec<i64> {
+    words.into_iter().map(|word| word as i64).collect()
 }
 
 /// Sets that asking takes, and questions about them; in many a node that is needed has no value.
@@ -238,19 +230,17 @@ fn perform(library: &dyn Explains, call: &Call) -> Left {
 /// What the first leaves, and the first thing in which the second's differs.
 fn compare_call(a: &dyn Explains, b: &dyn Explains, call: &Call) -> (Left, Option<String>) {
     let (left, right) = (perform(a, call), perform(b, call));
-    let parts = [
-        (left.0 != right.0).then(|| format!("answers {} and {}", left.0, right.0)),
-        (left.1 != right.1).then(|| run::place("nodes", &left.1, &right.1)),
-        (left.2 != right.2).then(|| run::place("lacking", &left.2, &right.2)),
-    ];
-    let found = parts.into_iter().flatten().next();
+    let found = run::first([
+        run::answers(left.0, right.0),
+        run::part("nodes", &left.1, &right.1),
+        run::part("lacking", &left.2, &right.2),
+    ]);
     (left, found)
 }
 
 /// How often each answer, and each thing that is told, must have occurred.
 fn expected_often() -> Vec<String> {
-    let answers = [0, 20, 21, 22, 23, 24, 31, 101, 102, 103];
-    let mut rows: Vec<String> = answers.iter().map(|n| format!("answered {n}")).collect();
+    let mut rows = tally::answered("explain", &[0, 20, 21, 22, 23, 24, 31, 101, 102, 103]);
     rows.extend((0..4).map(|method| format!("explained by method {method}")));
     rows.extend([1, 2, 4, 8].map(|count| format!("{count} nodes")));
     rows.extend((1..5).map(|cause| format!("no value by cause {cause}")));
@@ -260,7 +250,7 @@ fn expected_often() -> Vec<String> {
 
 /// Under which of these a call is counted.
 fn counted(call: &Call, (answer, nodes, lacking): &Left) -> Vec<String> {
-    let mut rows = vec![format!("answered {answer}")];
+    let mut rows = tally::answered("explain", &[*answer]);
     match answer {
         0 => {
             rows.push(format!("explained by method {}", call.asked.method));
@@ -287,36 +277,18 @@ fn set_of(given: &Given) -> Option<MapSet> {
 
 /// Every question of the seeds, by the second program and by another, and what the other lists judged.
 pub fn compare<L: Explains + Boundary>(other: &L, count: u64, seed: u64) -> Tally {
-    let mut tally = Tally::default();
-    let mut counts: BTreeMap<String, u64> = BTreeMap::new();
-    for seed in seed..seed.saturating_add(count) {
+    Comparison::over(count, seed, expected_often(), |comparison, seed| {
         for call in calls(seed) {
             let (left, found) = compare_call(&Plain, other, &call);
             for row in counted(&call, &left) {
-                *counts.entry(row).or_default() += 1;
+                comparison.count(row, 1);
             }
-            tally.note(found.is_none());
-            if let Some(found) = found {
-                if tally.failed <= SHOWN {
-                    println!("seed {seed}: {found}");
-                    let words = format!("{call:#?}\n");
-                    leave_file(&format!("{seed}-explain.txt"), words.as_bytes());
-                }
-            }
+            comparison.judge(seed, found, || {
+                tally::leave_words(&format!("{seed}-explain.txt"), &call)
+            });
         }
-        let complaint = judge(other, seed);
-        tally.note(complaint.is_none());
-        if let (Some(complaint), ..=SHOWN) = (complaint, tally.failed) {
-            println!("seed {seed}: {complaint}");
-        }
-    }
-    for name in expected_often() {
-        let number = counts.get(&name).copied().unwrap_or(0);
-        let remark = if number >= OFTEN { "" } else { "  too seldom" };
-        println!("{number:>9}  {name}{remark}");
-        tally.note(number >= OFTEN);
-    }
-    tally
+        comparison.judge(seed, judge(other, seed), || ());
+    })
 }
 
 // ---- what is told, by another way ----
@@ -409,5 +381,5 @@ fn wrong_lacking(set: &MapSet, question: &Question, lacking: &[u64; LACKING]) ->
     let [map, layer, row, column] =
         [map + 1, question.layer as usize, *row, *column].map(|place| place as u64);
     let expected = [map, layer, row, column, *cause];
-    (*lacking != expected).then(|| run::place("not the first", lacking, &expected))
+    run::part("not the first", lacking, &expected)
 }

@@ -2,14 +2,15 @@
 //! thing. Each must be found by the comparison.
 
 use crate::delays::Bits;
-use crate::jobs;
+use crate::jobs::{self, Job};
 use crate::library::{Library, Second};
 use crate::oracle;
 use crate::remarks::Leak;
 use crate::run;
-use crate::set::{Buffers, MapSet};
+use crate::set::MapSet;
+use crate::tally;
 use second::maps::Grid;
-use second::{Answer, Axis, Header, Question, Reading, Refusal, Texts};
+use second::{Answer, Axis, Buffers, Header, Question, Reading, Refusal, Texts};
 
 listed! {
     pub enum Fault {
@@ -155,24 +156,16 @@ listed! {
     }
 }
 
-/// The seed and job at which the comparison with a library finds the fault, and the difference, within `count` seeds.
-pub fn find(
-    library: &dyn Library,
-    fault: Fault,
-    count: u64,
-    seed: u64,
-) -> Option<(u64, usize, String)> {
+/// The seed at which the comparison with a library finds the fault, the job and the difference, within `count` seeds.
+pub fn find(library: &dyn Library, fault: Fault, count: u64, seed: u64) -> Option<(u64, String)> {
     let faulty = Faulty(fault);
-    for seed in seed..seed.saturating_add(count) {
-        for (k, job) in jobs::jobs(seed).iter().enumerate() {
-            let right = run::run(library, job);
-            let wrong = run::run(&faulty, job);
-            if let Some(difference) = run::difference(&right, &wrong) {
-                return Some((seed, k, difference));
-            }
-        }
-    }
-    None
+    let differs = |(k, job): (usize, &Job)| {
+        let difference = run::difference(&run::run(library, job), &run::run(&faulty, job))?;
+        Some(format!("job {k}: {difference}"))
+    };
+    tally::first(count, seed, |seed| {
+        jobs::jobs(seed).iter().enumerate().find_map(differs)
+    })
 }
 
 pub struct Faulty(pub Fault);

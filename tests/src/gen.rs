@@ -3,9 +3,9 @@
 //! the second program.
 
 use crate::rng::Rng;
-use crate::set::{Buffers, MapSet};
+use crate::set::MapSet;
 use second::calendar;
-use second::{Axis, Count, Header, System, Texts};
+use second::{Axis, Buffers, Count, Header, System, Texts};
 
 // ---- map sets ----
 

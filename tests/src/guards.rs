@@ -5,7 +5,6 @@
 use crate::archive::FUNCTIONS;
 use crate::biases::{self, Biases};
 use crate::boundary::{self, Asked, Boundary, Given, Lent, Plain, HEADER, NEEDS, RECORD, TEXTS};
-use crate::check::{Tally, SHOWN};
 use crate::explains::{Explains, EXPLAINED, LACKING};
 use crate::fenced::{Fenced, Touch};
 use crate::gen;
@@ -14,7 +13,8 @@ use crate::many::{Asking, Chosen, Many};
 use crate::pages::Side;
 use crate::program;
 use crate::rng::Rng;
-use crate::set::{Buffers, MapSet};
+use crate::set::{rubbish, MapSet};
+use crate::tally::Tally;
 use crate::weeks::{Weeks, WEEK};
 use second::biases::SIZES;
 use second::index::Node;
@@ -55,7 +55,7 @@ impl Sample {
     pub fn of(name: &'static str) -> Sample {
         let text = fs::read(program::folder().join(format!("{name}.inx"))).expect("an example");
         let needs = second::needs(&text).expect("an accepted text");
-        let mut areas = Buffers::filled(needs, 1);
+        let mut areas = rubbish(needs, 1);
         let Reading::Accepted { header, texts } = second::read(&text, &mut areas.lent()) else {
             panic!("{name} is refused");
         };
@@ -130,7 +130,7 @@ impl Sample {
 
 fn lent(needs: [usize; 6]) -> Lent {
     Lent {
-        areas: Buffers::filled(needs, 2),
+        areas: rubbish(needs, 2),
         header: vec![7; HEADER],
         texts: vec![7; TEXTS],
         place: vec![7; 2],
@@ -307,10 +307,7 @@ impl Guards {
         let right = call(&Plain);
         for _ in 0..2 {
             let good = call(&self.fenced) == right;
-            self.tally.note(good);
-            if !good && self.tally.failed <= SHOWN {
-                println!("WRONG {what}");
-            }
+            self.note(good, what);
         }
     }
 
@@ -546,9 +543,8 @@ impl Guards {
                 (answer, found)
             });
             self.same("record", |library| {
-                let mut records = [vec![7.0; length], vec![7.0; length]];
-                let answer = library.tecu_delay(1000, 1.5e9, &mut records[0]);
-                (answer, records)
+                let mut record = vec![7.0; length];
+                (library.tecu_delay(1000, 1.5e9, &mut record), record)
             });
             self.same("record of a question", |library| {
                 let mut record = vec![7.0; length];
@@ -583,10 +579,8 @@ impl Guards {
     }
 
     fn note(&mut self, good: bool, complaint: &str) {
-        self.tally.note(good);
-        if !good && self.tally.failed <= SHOWN {
-            println!("WRONG {complaint}");
-        }
+        self.tally
+            .judge("WRONG at a forbidden page", (!good).then_some(complaint));
     }
 }
 

@@ -3,15 +3,14 @@
 
 use crate::boundary::{self, Boundary, Lent, Plain, HEADER, TEXTS};
 use crate::calls;
-use crate::check::{leave_file, Tally, OFTEN, SHOWN};
 use crate::damage;
 use crate::gen;
 use crate::rng::Rng;
 use crate::run;
-use crate::set::{Buffers, MapSet};
+use crate::set::{rubbish, MapSet};
+use crate::tally::{self, Comparison, Tally};
 use second::index::{self, Entries, Index, Node};
 use second::{Reading, Refusal};
-use std::collections::BTreeMap;
 
 pub mod faults;
 
@@ -415,7 +414,7 @@ fn compare_call(a: &dyn Indexes, b: &dyn Indexes, call: &Call) -> (u64, Option<S
         return (first, None);
     }
     let found = match (&left, &right) {
-        _ if first != second => format!("answers {first} and {second}"),
+        _ if first != second => run::answers(first, second),
         (
             Call::Make { lent, place, .. },
             Call::Make {
@@ -423,75 +422,49 @@ fn compare_call(a: &dyn Indexes, b: &dyn Indexes, call: &Call) -> (u64, Option<S
                 place: at,
                 ..
             },
-        ) => {
-            let parts = [
-                (lent.header != other.header)
-                    .then(|| run::place("header", &lent.header, &other.header)),
-                (lent.texts != other.texts).then(|| run::place("texts", &lent.texts, &other.texts)),
-                (lent.positions != other.positions)
-                    .then(|| run::place("positions", &lent.positions, &other.positions)),
-                (lent.exponents != other.exponents)
-                    .then(|| run::place("exponents", &lent.exponents, &other.exponents)),
-                (lent.marks != other.marks).then(|| run::place("marks", &lent.marks, &other.marks)),
-                (place != at).then(|| run::place("place", place, at)),
-            ];
-            parts.into_iter().flatten().next().unwrap_or_default()
-        }
+        ) => run::first([
+            run::part("header", &lent.header, &other.header),
+            run::part("texts", &lent.texts, &other.texts),
+            run::part("positions", &lent.positions, &other.positions),
+            run::part("exponents", &lent.exponents, &other.exponents),
+            run::part("marks", &lent.marks, &other.marks),
+            run::part("place", place, at),
+        ]),
         (Call::Node { found, .. }, Call::Node { found: other, .. }) => {
-            run::place("found", found, other)
+            run::part("found", found, other)
         }
         (Call::Block { bounds, .. }, Call::Block { bounds: other, .. }) => {
-            run::place("bounds", bounds, other)
+            run::part("bounds", bounds, other)
         }
-        _ => "two calls of different kinds".to_string(),
+        _ => None,
     };
+    let found = found.unwrap_or("what is given was changed".to_string());
     (first, Some(format!("{}: {found}", call.name())))
 }
 
 /// The answers that must have occurred often.
-fn expected_often() -> Vec<(&'static str, u64)> {
-    let mut rows = Vec::new();
-    let mut add = |name, answers: &[u64]| rows.extend(answers.iter().map(|&answer| (name, answer)));
-    add("index", &[0, 6, 8, 11, 101, 102, 103]);
-    add("indexed_node", &[0, 21, 22, 23, 31, 50, 101, 102, 103]);
-    add("indexed_block", &[0, 21, 22, 23, 31, 50, 101, 102, 103]);
-    rows
+fn expected_often() -> Vec<String> {
+    let asked = [0, 21, 22, 23, 31, 50, 101, 102, 103];
+    [
+        tally::answered("index", &[0, 6, 8, 11, 101, 102, 103]),
+        tally::answered("indexed_node", &asked),
+        tally::answered("indexed_block", &asked),
+    ]
+    .concat()
 }
 
 /// Every call of the seeds, by the second program and by another, and the other's indexes judged.
 pub fn compare<L: Indexes + Boundary>(other: &L, count: u64, seed: u64) -> Tally {
-    let mut tally = Tally::default();
-    let mut counts: BTreeMap<(&str, u64), u64> = BTreeMap::new();
-    for seed in seed..seed.saturating_add(count) {
+    Comparison::over(count, seed, expected_often(), |comparison, seed| {
         for call in calls(seed) {
             let (answer, found) = compare_call(&Plain, other, &call);
-            *counts.entry((call.name(), answer)).or_default() += 1;
-            tally.note(found.is_none());
-            if let Some(found) = found {
-                if tally.failed <= SHOWN {
-                    println!("seed {seed}: {found}");
-                    leave_file(
-                        &format!("{seed}-index.txt"),
-                        format!("{call:#?}\n").as_bytes(),
-                    );
-                }
-            }
+            comparison.count(format!("{} answered {answer}", call.name()), 1);
+            comparison.judge(seed, found, || {
+                tally::leave_words(&format!("{seed}-index.txt"), &call)
+            });
         }
-        let complaint = judge(other, seed);
-        tally.note(complaint.is_none());
-        if let Some(complaint) = complaint {
-            if tally.failed <= SHOWN {
-                println!("seed {seed}: {complaint}");
-            }
-        }
-    }
-    for (name, answer) in expected_often() {
-        let number = counts.get(&(name, answer)).copied().unwrap_or(0);
-        let remark = if number >= OFTEN { "" } else { "  too seldom" };
-        println!("{number:>9}  {name} answered {answer}{remark}");
-        tally.note(number >= OFTEN);
-    }
-    tally
+        comparison.judge(seed, judge(other, seed), || ());
+    })
 }
 
 // ---- an index as its text is read ----
@@ -514,7 +487,7 @@ fn judge<L: Indexes + Boundary>(library: &L, seed: u64) -> Option<String> {
         return Some("no index of a good text".to_string());
     }
     let mut lent = Lent {
-        areas: Buffers::filled(needs, 1),
+        areas: rubbish(needs, 1),
         header: vec![0; HEADER],
         texts: vec![0; TEXTS],
         place: vec![0; 2],

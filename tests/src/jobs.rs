@@ -6,8 +6,8 @@ use crate::gen;
 use crate::joins;
 use crate::remarks;
 use crate::rng::Rng;
-use crate::set::{Buffers, MapSet};
-use second::Question;
+use crate::set::{overlaid, rubbish, MapSet};
+use second::{Buffers, Question};
 
 /// What is known beforehand of a reading.
 #[derive(Clone, Debug)]
@@ -216,7 +216,7 @@ fn read_job(rng: &mut Rng, text: &[u8], set: &MapSet, short: bool) -> Job {
     };
     Job::Read {
         text: text.to_vec(),
-        lent: Buffers::filled(lengths, rng.word()),
+        lent: rubbish(lengths, rng.word()),
         truth,
     }
 }
@@ -239,7 +239,7 @@ fn damaged_read_job(rng: &mut Rng, text: &[u8], set: &MapSet) -> Job {
     };
     Job::Read {
         text,
-        lent: Buffers::filled(lengths, rng.word()),
+        lent: rubbish(lengths, rng.word()),
         truth: Truth::Open,
     }
 }
@@ -247,9 +247,9 @@ fn damaged_read_job(rng: &mut Rng, text: &[u8], set: &MapSet) -> Job {
 /// The set with more behind the needs, which is to be ignored.
 pub fn with_tails(rng: &mut Rng, set: &MapSet) -> MapSet {
     let lengths = roomy(rng, set.needs());
-    let back = Buffers::filled(lengths, rng.word());
+    let back = rubbish(lengths, rng.word());
     MapSet {
-        areas: back.overlaid(&set.areas),
+        areas: overlaid(&back, &set.areas),
         ..set.clone()
     }
 }
@@ -336,7 +336,7 @@ fn join_job(rng: &mut Rng) -> Job {
     Job::Join {
         earlier: Box::new(earlier),
         later: Box::new(later),
-        lent: Buffers::filled(lengths, rng.word()),
+        lent: rubbish(lengths, rng.word()),
     }
 }
 

@@ -9,8 +9,8 @@ use crate::jobs;
 use crate::library::Library;
 use crate::rng::Rng;
 use crate::run;
-use crate::set::{Buffers, MapSet};
-use second::{Header, Question, Reading, Refusal};
+use crate::set::{overlaid, rubbish, MapSet};
+use second::{Buffers, Header, Question, Reading, Refusal};
 
 // ---- sets to join ----
 
@@ -136,7 +136,7 @@ pub fn wrong(
             if *header != set.header || *texts != set.texts {
                 return Some(format!("{header:?}, but {:?}; or its texts", set.header));
             }
-            run::areas(areas, &lent.overlaid(&set.areas))
+            run::areas(areas, &overlaid(lent, &set.areas))
                 .or_else(|| check::round_trip(library, set))
                 .or_else(|| asked(library, sets, set))
         }
@@ -283,7 +283,7 @@ fn join(library: &dyn Library, a: &MapSet, b: &MapSet) -> Result<MapSet, Refusal
     let values = values[0] + values[1];
     let maps = x[5] + y[5];
     let lengths = [values, values, values, x[3] + y[3], x[4] + y[4], maps];
-    let mut areas = Buffers::filled(lengths, 1);
+    let mut areas = rubbish(lengths, 1);
     match library.join(a, b, &mut areas) {
         Reading::Accepted { header, texts } => {
             let joined = MapSet {

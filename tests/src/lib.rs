@@ -37,4 +37,5 @@ pub mod remarks;
 pub mod rng;
 pub mod run;
 pub mod set;
+pub mod tally;
 pub mod weeks;

@@ -3,8 +3,8 @@
 use crate::archive::{Archive, FUNCTIONS};
 use crate::boundary::{self, Boundary, Lent, HEADER, NEEDS, TEXTS};
 use crate::delays::{self, Bits};
-use crate::set::{Buffers, MapSet};
-use second::{Answer, Question, Reading, Refusal};
+use crate::set::MapSet;
+use second::{Answer, Buffers, Question, Reading, Refusal};
 
 /// One implementation. The proved library is one, through its C functions.
 pub trait Library {

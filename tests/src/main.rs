@@ -20,9 +20,11 @@
 #![forbid(unsafe_code)]
 
 use compare::archive::{self, Archive, FUNCTIONS};
-use compare::check::{self, Tally};
+use compare::check;
 use compare::library::{self, Second};
+use compare::tally::Tally;
 use compare::{biases, calls, delays, explains, faults, indexes, many, program, remarks, weeks};
+use std::fmt::Debug;
 use std::path::Path;
 use std::process::ExitCode;
 
@@ -118,61 +120,59 @@ fn say_what_is_linked() {
 fn planted_faults(count: u64, seed: u64) -> Tally {
     let mut tally = Tally::default();
     let library = library::judged();
-    for fault in faults::Fault::all() {
-        let found = faults::find(library.as_ref(), fault, count, seed);
-        let told = found.map(|(seed, job, difference)| {
-            let short: String = difference.chars().take(60).collect();
-            format!("seed {seed} job {job}: {short}")
-        });
-        tell(&mut tally, &format!("{fault:?}"), told);
-    }
-    for leak in remarks::Leak::all() {
-        let found = remarks::find(leak, count, seed);
-        let told = found.map(|(seed, difference)| {
-            let short: String = difference.chars().take(60).collect();
-            format!("seed {seed}: {short}")
-        });
-        tell(&mut tally, &format!("{leak:?} by its remarks"), told);
-    }
-    for fault in calls::Fault::all() {
-        let found = calls::find(&Archive, fault, count, seed);
-        let told = found.map(|(seed, difference)| format!("seed {seed}: {difference}"));
-        tell(&mut tally, &format!("{fault:?} at the boundary"), told);
-    }
-    for fault in explains::faults::Fault::all() {
-        let found = explains::faults::find(fault, count, seed);
-        let told = found.map(|(seed, difference)| format!("seed {seed}: {difference}"));
-        tell(&mut tally, &format!("{fault:?} of an explanation"), told);
-    }
-    for fault in many::faults::Fault::all() {
-        let found = many::faults::find(fault, count, seed);
-        let told = found.map(|(seed, difference)| format!("seed {seed}: {difference}"));
-        tell(&mut tally, &format!("{fault:?} of many questions"), told);
-    }
-    for fault in weeks::Fault::all() {
-        let found = weeks::find(fault, count, seed);
-        let told = found.map(|(seed, difference)| format!("seed {seed}: {difference}"));
-        tell(&mut tally, &format!("{fault:?} of a week"), told);
-    }
-    for fault in indexes::faults::Fault::all() {
-        let found = indexes::faults::find(fault, count, seed);
-        let told = found.map(|(seed, difference)| format!("seed {seed}: {difference}"));
-        tell(&mut tally, &format!("{fault:?} of an index"), told);
-    }
-    for fault in biases::faults::Fault::all() {
-        let found = biases::faults::find(fault, count, seed);
-        let told = found.map(|(seed, difference)| format!("seed {seed}: {difference}"));
-        tell(&mut tally, &format!("{fault:?} of biases"), told);
-    }
+    let all = faults::Fault::all();
+    plant(&mut tally, all, "", |fault| {
+        faults::find(library.as_ref(), fault, count, seed)
+    });
+    let all = remarks::Leak::all();
+    plant(&mut tally, all, " by its remarks", |leak| {
+        remarks::find(leak, count, seed)
+    });
+    let all = calls::Fault::all();
+    plant(&mut tally, all, " at the boundary", |fault| {
+        calls::find(&Archive, fault, count, seed)
+    });
+    let all = explains::faults::Fault::all();
+    plant(&mut tally, all, " of an explanation", |fault| {
+        explains::faults::find(fault, count, seed)
+    });
+    let all = many::faults::Fault::all();
+    plant(&mut tally, all, " of many questions", |fault| {
+        many::faults::find(fault, count, seed)
+    });
+    let all = weeks::Fault::all();
+    plant(&mut tally, all, " of a week", |fault| {
+        weeks::find(fault, count, seed)
+    });
+    let all = indexes::faults::Fault::all();
+    plant(&mut tally, all, " of an index", |fault| {
+        indexes::faults::find(fault, count, seed)
+    });
+    let all = biases::faults::Fault::all();
+    plant(&mut tally, all, " of biases", |fault| {
+        biases::faults::find(fault, count, seed)
+    });
     let all = tally.passed + tally.failed;
     println!("{all} faults planted, {} found", tally.passed);
     tally
 }
 
-fn tell(tally: &mut Tally, fault: &str, found: Option<String>) {
-    tally.note(found.is_some());
-    match found {
-        Some(told) => println!("found {fault} at {told}"),
-        None => println!("NOT FOUND {fault}"),
+/// The faults of one kind, each looked for over the seeds.
+fn plant<F: Copy + Debug>(
+    tally: &mut Tally,
+    faults: Vec<F>,
+    of: &str,
+    find: impl Fn(F) -> Option<(u64, String)>,
+) {
+    for fault in faults {
+        let found = find(fault);
+        tally.note(found.is_some());
+        match found {
+            Some((seed, difference)) => {
+                let short: String = difference.chars().take(60).collect();
+                println!("found {fault:?}{of} at seed {seed}: {short}");
+            }
+            None => println!("NOT FOUND {fault:?}{of}"),
+        }
     }
 }

@@ -3,15 +3,14 @@
 
 use crate::boundary::{self, Asked, Boundary, Given, Plain};
 use crate::calls;
-use crate::check::{leave_file, Tally, OFTEN, SHOWN};
 use crate::damage;
 use crate::explains;
 use crate::gen;
 use crate::rng::Rng;
 use crate::run;
 use crate::set::MapSet;
+use crate::tally::{self, Comparison, Tally};
 use second::many;
-use std::collections::BTreeMap;
 
 pub mod faults;
 
@@ -169,10 +168,7 @@ fn call(rng: &mut Rng, set: &MapSet) -> Call {
         ..
     } = first;
     Call {
-        given: match rng.once_in(4) {
-            true => calls::given(rng, &set),
-            false => boundary::given(&set),
-        },
+        given: calls::mostly_given(rng, &set),
         chosen: Chosen {
             kind,
             method,
@@ -211,12 +207,11 @@ fn perform(library: &dyn Many, call: &Call) -> Left {
 /// What the first leaves, and the first thing in which the second's differs.
 fn compare_call(a: &dyn Many, b: &dyn Many, call: &Call) -> (Left, Option<String>) {
     let (left, right) = (perform(a, call), perform(b, call));
-    let parts = [
-        (left.0 != right.0).then(|| format!("answers {} and {}", left.0, right.0)),
-        (left.1 != right.1).then(|| run::place("answers", &left.1, &right.1)),
-        (left.2 != right.2).then(|| run::place("values", &left.2, &right.2)),
-    ];
-    let found = parts.into_iter().flatten().next();
+    let found = run::first([
+        run::answers(left.0, right.0),
+        run::part("answers", &left.1, &right.1),
+        run::part("values", &left.2, &right.2),
+    ]);
     (left, found)
 }
 
@@ -262,30 +257,18 @@ fn counted(call: &Call, (answer, answers, _): &Left) -> Vec<(String, u64)> {
 
 /// Every call of the seeds, by the second program and by another, and the other's answers judged.
 pub fn compare<L: Many + Boundary>(other: &L, count: u64, seed: u64) -> Tally {
-    let mut tally = Tally::default();
-    let mut counts: BTreeMap<String, u64> = BTreeMap::new();
-    for seed in seed..seed.saturating_add(count) {
+    Comparison::over(count, seed, expected_often(), |comparison, seed| {
         for call in calls(seed) {
             let (left, found) = compare_call(&Plain, other, &call);
             for (row, often) in counted(&call, &left) {
-                *counts.entry(row).or_default() += often;
+                comparison.count(row, often);
             }
             let complaint = found.or_else(|| judge(other, &call));
-            tally.note(complaint.is_none());
-            if let (Some(complaint), ..=SHOWN) = (complaint, tally.failed) {
-                println!("seed {seed}: {complaint}");
-                let words = format!("{call:#?}\n");
-                leave_file(&format!("{seed}-many.txt"), words.as_bytes());
-            }
+            comparison.judge(seed, complaint, || {
+                tally::leave_words(&format!("{seed}-many.txt"), &call)
+            });
         }
-    }
-    for name in expected_often() {
-        let number = counts.get(&name).copied().unwrap_or(0);
-        let remark = if number >= OFTEN { "" } else { "  too seldom" };
-        println!("{number:>9}  {name}{remark}");
-        tally.note(number >= OFTEN);
-    }
-    tally
+    })
 }
 
 /// What is wrong with the answers of a call, by the library's own answers to each question alone.
@@ -303,7 +286,5 @@ fn judge<L: Many + Boundary>(library: &L, call: &Call) -> Option<String> {
         told[k] = u8::try_from(alone).expect("a question's answer");
     }
     let complaint = "not as each question alone";
-    (answers != told)
-        .then(|| run::place(complaint, &answers, &told))
-        .or_else(|| (values != valued).then(|| run::place(complaint, &values, &valued)))
+    run::part(complaint, &answers, &told).or_else(|| run::part(complaint, &values, &valued))
 }

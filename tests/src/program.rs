@@ -1,6 +1,6 @@
 //! An executable that prints what the program `canon` should print, run on the examples.
 
-use crate::check::Tally;
+use crate::tally::Tally;
 use std::fs;
 use std::io::{self, Write};
 use std::path::{Path, PathBuf};

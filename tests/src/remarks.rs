@@ -6,8 +6,8 @@ use crate::faults::{Fault, Faulty};
 use crate::jobs::{self, Job};
 use crate::rng::Rng;
 use crate::run::{self, Outcome};
-use crate::set::Buffers;
-use second::{Reading, Refusal};
+use crate::tally;
+use second::{Buffers, Reading, Refusal};
 
 /// The text with its remarks rewritten, every byte that differs printable in both.
 pub fn rewritten(rng: &mut Rng, text: &[u8]) -> Vec<u8> {
@@ -127,13 +127,10 @@ listed! {
 /// The seed at which rewritten remarks show a leak, and how, within `count` seeds.
 pub fn find(leak: Leak, count: u64, seed: u64) -> Option<(u64, String)> {
     let leaky = Faulty(Fault::Leak(leak));
-    (seed..seed.saturating_add(count)).find_map(|seed| {
+    tally::first(count, seed, |seed| {
         let jobs = jobs::jobs(seed);
-        let twins = jobs.iter().filter(|job| matches!(job, Job::Twins { .. }));
-        let found = twins
-            .map(|job| run::run(&leaky, job))
-            .find_map(|outcome| differs(&outcome))?;
-        Some((seed, found))
+        let mut twins = jobs.iter().filter(|job| matches!(job, Job::Twins { .. }));
+        twins.find_map(|job| differs(&run::run(&leaky, job)))
     })
 }
 

@@ -5,8 +5,8 @@ use crate::delays::Bits;
 use crate::jobs::Job;
 use crate::joins;
 use crate::library::Library;
-use crate::set::{Buffers, MapSet};
-use second::{Answer, Reading, Refusal};
+use crate::set::MapSet;
+use second::{Answer, Buffers, Reading, Refusal};
 use std::panic::{catch_unwind, AssertUnwindSafe};
 
 #[derive(Clone, Debug, PartialEq, Eq)]
@@ -128,8 +128,7 @@ pub fn difference(a: &Outcome, b: &Outcome) -> Option<String> {
                 answer: second,
                 out: right,
             },
-        ) => unequal("answer of writing", first, second)
-            .or_else(|| (left != right).then(|| place("output", left, right))),
+        ) => unequal("answer of writing", first, second).or_else(|| part("output", left, right)),
         (
             Outcome::Twins { text, twin, needs },
             Outcome::Twins {
@@ -166,8 +165,7 @@ fn reading(a: &Reading, b: &Reading) -> Option<String> {
             },
         ) => {
             let (bytes, other_bytes) = (bytes_of(texts), bytes_of(other_texts));
-            unequal("header", header, other_header)
-                .or_else(|| (texts != other_texts).then(|| place("texts", &bytes, &other_bytes)))
+            unequal("header", header, other_header).or_else(|| part("texts", &bytes, &other_bytes))
         }
         _ => unequal("answer of reading", a, b),
     }
@@ -175,15 +173,29 @@ fn reading(a: &Reading, b: &Reading) -> Option<String> {
 
 /// The first of the six areas in which two differ.
 pub fn areas(a: &Buffers, b: &Buffers) -> Option<String> {
-    let found = [
-        (a.tec != b.tec).then(|| place("tec", &a.tec, &b.tec)),
-        (a.rms != b.rms).then(|| place("rms", &a.rms, &b.rms)),
-        (a.height != b.height).then(|| place("height", &a.height, &b.height)),
-        (a.exponents != b.exponents).then(|| place("exponents", &a.exponents, &b.exponents)),
-        (a.epochs != b.epochs).then(|| place("epochs", &a.epochs, &b.epochs)),
-        (a.marks != b.marks).then(|| place("marks", &a.marks, &b.marks)),
-    ];
-    found.into_iter().flatten().next()
+    first([
+        part("tec", &a.tec, &b.tec),
+        part("rms", &a.rms, &b.rms),
+        part("height", &a.height, &b.height),
+        part("exponents", &a.exponents, &b.exponents),
+        part("epochs", &a.epochs, &b.epochs),
+        part("marks", &a.marks, &b.marks),
+    ])
+}
+
+/// That two answers differ.
+pub fn answers(a: u64, b: u64) -> Option<String> {
+    (a != b).then(|| format!("answers {a} and {b}"))
+}
+
+/// The first of some parts that differs.
+pub fn first(parts: impl IntoIterator<Item = Option<String>>) -> Option<String> {
+    parts.into_iter().flatten().next()
+}
+
+/// The first place where two areas differ, if they do.
+pub fn part<T: PartialEq + std::fmt::Debug>(what: &str, a: &[T], b: &[T]) -> Option<String> {
+    (a != b).then(|| place(what, a, b))
 }
 
 /// The first place where two areas differ.

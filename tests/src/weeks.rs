@@ -5,15 +5,14 @@
 use crate::archive::Archive;
 use crate::boundary::{self, Given, Plain, HEADER, TEXTS};
 use crate::calls;
-use crate::check::{leave_file, Tally, OFTEN, SHOWN};
 use crate::damage;
 use crate::gen::{self, edged};
 use crate::rng::Rng;
 use crate::run;
 use crate::set::MapSet;
+use crate::tally::{self, Comparison, Tally};
 use second::week::{self, Figures, Week, ROW};
 use second::Refusal;
-use std::collections::BTreeMap;
 
 /// How many numbers a week is: its sets, then a row for each kind.
 pub const WEEK: usize = 1 + 3 * ROW;
@@ -225,16 +224,12 @@ fn perform(library: &dyn Weeks, week: &[i64], adding: &Adding) -> Left {
 }
 
 fn difference(a: &Left, b: &Left) -> Option<String> {
-    if a == b {
-        return None;
-    }
-    let parts = [
-        (a.0 != b.0).then(|| format!("answers {} and {}", a.0, b.0)),
-        (a.1 != b.1).then(|| run::place("week", &a.1, &b.1)),
-        (a.2 != b.2).then(|| run::place("rows", &a.2, &b.2)),
-        (a.3 != b.3).then(|| run::place("place", &a.3, &b.3)),
-    ];
-    parts.into_iter().flatten().next()
+    run::first([
+        run::answers(a.0, b.0),
+        run::part("week", &a.1, &b.1),
+        run::part("rows", &a.2, &b.2),
+        run::part("place", &a.3, &b.3),
+    ])
 }
 
 /// The sets of a seed added by two, and of each set the answer and the difference.
@@ -253,32 +248,15 @@ fn over(a: &dyn Weeks, b: &dyn Weeks, seed: u64, mut each: impl FnMut(u64, Optio
 
 /// Every week of the seeds, by the second program and by another, and the other's reports judged.
 pub fn compare(other: &dyn Weeks, count: u64, seed: u64) -> Tally {
-    let mut tally = Tally::default();
-    let expected = [0, 11, 31, 60, 101, 102, 103];
-    let mut counts = BTreeMap::from(expected.map(|answer| (answer, 0u64)));
-    for seed in seed..seed.saturating_add(count) {
-        let mut complaints = Vec::new();
+    let expected = tally::answered("week_add", &[0, 11, 31, 60, 101, 102, 103]);
+    Comparison::over(count, seed, expected, |comparison, seed| {
+        let leave = || tally::leave_words(&format!("{seed}-week.txt"), &coming(seed).sets);
         over(&Plain, other, seed, |answer, found| {
-            *counts.entry(answer).or_default() += 1;
-            tally.note(found.is_none());
-            complaints.extend(found);
+            comparison.count(format!("week_add answered {answer}"), 1);
+            comparison.judge(seed, found, leave);
         });
-        let complaint = judge(other, seed);
-        tally.note(complaint.is_none());
-        complaints.extend(complaint);
-        if !complaints.is_empty() && tally.failed <= SHOWN {
-            println!("seed {seed}: {}", complaints[0]);
-            let sets = format!("{:#?}\n", coming(seed).sets);
-            leave_file(&format!("{seed}-week.txt"), sets.as_bytes());
-        }
-    }
-    for answer in expected {
-        let number = counts[&answer];
-        let remark = if number >= OFTEN { "" } else { "  too seldom" };
-        println!("{number:>9}  week_add answered {answer}{remark}");
-        tally.note(number >= OFTEN);
-    }
-    tally
+        comparison.judge(seed, judge(other, seed), leave);
+    })
 }
 
 // ---- a report, by another way ----
@@ -436,12 +414,12 @@ listed! {
 
 /// The seed and the difference at which the comparison with the library finds a fault, within `count` seeds.
 pub fn find(fault: Fault, count: u64, seed: u64) -> Option<(u64, String)> {
-    (seed..seed.saturating_add(count)).find_map(|seed| {
+    tally::first(count, seed, |seed| {
         let mut found = None;
         over(&Archive, &Faulty(fault), seed, |_, difference| {
             found = found.take().or(difference);
         });
-        found.map(|difference| (seed, difference))
+        found
     })
 }
 

@@ -6,7 +6,7 @@ use compare::boundary::{
 };
 use compare::explains::{Explains, EXPLAINED, LACKING};
 use compare::many::{Asking, Chosen, Many};
-use compare::set::Buffers;
+use compare::set::{overlaid, rubbish};
 use std::fs;
 use std::path::Path;
 
@@ -17,7 +17,7 @@ fn text() -> Vec<u8> {
 
 fn lent(lengths: [usize; 6]) -> Lent {
     Lent {
-        areas: Buffers::filled(lengths, 7),
+        areas: rubbish(lengths, 7),
         header: vec![-77; HEADER],
         texts: vec![b'?'; TEXTS],
         place: vec![7_777; 2],
@@ -377,7 +377,7 @@ fn lengths_of_the_six_areas() {
             let tail = lent.areas.clone();
             assert_eq!(Archive.read(&text, &mut lent), 0);
             assert!(
-                lent.areas == tail.overlaid(&set.areas),
+                lent.areas == overlaid(&tail, &set.areas),
                 "elements past the need"
             );
         }

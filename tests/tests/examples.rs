@@ -2,9 +2,9 @@
 
 use compare::library::{self, Library};
 use compare::program;
-use compare::set::Buffers;
+use compare::set::rubbish;
 use second::program::canon;
-use second::{Axis, Header, Reading};
+use second::{Axis, Buffers, Header, Reading};
 use std::fs;
 
 fn bytes(name: &str) -> Vec<u8> {
@@ -74,7 +74,7 @@ fn with_own_values(text: &[u8]) -> Vec<u8> {
 /// The example with own values fills its areas in their order.
 fn in_order(library: &dyn Library, name: &str, lengths: [usize; 6]) {
     let text = with_own_values(&bytes(name));
-    let mut areas = Buffers::filled(lengths, 1);
+    let mut areas = rubbish(lengths, 1);
     let answer = library.read(&text, &mut areas);
     assert!(matches!(answer, Reading::Accepted { .. }), "{answer:?}");
     for values in [&areas.tec, &areas.rms, &areas.height] {
@@ -86,7 +86,7 @@ fn in_order(library: &dyn Library, name: &str, lengths: [usize; 6]) {
 /// Reads an example of document 001 with areas of exactly the lengths needed.
 fn example(library: &dyn Library, name: &str, lengths: [usize; 6]) -> (Header, Buffers) {
     in_order(library, name, lengths);
-    let mut areas = Buffers::filled(lengths, 1);
+    let mut areas = rubbish(lengths, 1);
     match library.read(&bytes(name), &mut areas) {
         Reading::Accepted { header, texts } => {
             assert_eq!(&texts.program, b"ionpgm v1.0         ");

@@ -3,7 +3,7 @@
 
 use compare::delays::L1;
 use compare::library::{self, Library, Second};
-use compare::set::{Buffers, MapSet};
+use compare::set::{rubbish, MapSet};
 use second::{Answer, Axis, Question, Reading, Refusal};
 
 /// 2000-01-01 00:00:00.
@@ -79,7 +79,7 @@ fn exponent(k: i32) -> String {
 }
 
 fn read(library: &dyn Library, text: &str) -> Result<MapSet, Refusal> {
-    let mut areas = Buffers::filled([8, 8, 8, 12, 2, 2], 1);
+    let mut areas = rubbish([8, 8, 8, 12, 2, 2], 1);
     match library.read(text.as_bytes(), &mut areas) {
         Reading::Accepted { header, texts } => Ok(MapSet {
             header,
@@ -484,7 +484,7 @@ fn two_days_joined() {
     each(|library| {
         let (first, second) = (read(library, &first), read(library, &second));
         let (first, second) = (first.expect("accepted"), second.expect("accepted"));
-        let mut areas = Buffers::filled([12, 12, 0, 18, 3, 3], 1);
+        let mut areas = rubbish([12, 12, 0, 18, 3, 3], 1);
         let answer = library.join(&first, &second, &mut areas);
         let Reading::Accepted { header, texts } = answer else {
             panic!("{answer:?}");
@@ -509,7 +509,7 @@ fn two_days_joined() {
             tecu(1_500)
         );
         // Not the other way round, and not with another radius.
-        let mut areas = Buffers::filled([12, 12, 0, 18, 3, 3], 1);
+        let mut areas = rubbish([12, 12, 0, 18, 3, 3], 1);
         let refused = |number| Reading::Refused(Refusal::Bare { number });
         assert_eq!(library.join(&second, &first, &mut areas), refused(41));
         let mut other = second.clone();

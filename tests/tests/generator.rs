@@ -37,6 +37,9 @@ struct Counts {
     /// Answered with a node behind value 65,536, or a map behind the 256th.
     late_node: u64,
     late_map: u64,
+    /// Answered for a longitude a whole turn or more from every column, to the west and to the east.
+    turned_west: u64,
+    turned_east: u64,
 }
 
 fn count(counts: &mut Counts, job: &Job) {
@@ -88,6 +91,10 @@ fn count(counts: &mut Counts, job: &Job) {
                 let (map, value) = asked_for(set, question);
                 counts.late_node += u64::from(value > 65_535);
                 counts.late_map += u64::from(map > 255);
+                let axis = set.header.longitudes;
+                let [first, last] = [axis.first, axis.last].map(|tenths| 10 * tenths);
+                counts.turned_west += u64::from(question.longitude <= first - 36_000);
+                counts.turned_east += u64::from(question.longitude >= last + 36_000);
             }
         }
         _ => {}
@@ -164,6 +171,8 @@ fn each_case_occurs() {
         counts.many_maps,
         counts.late_node,
         counts.late_map,
+        counts.turned_west,
+        counts.turned_east,
     ];
     assert!(all.into_iter().all(|number| number >= 20), "{counts:#?}");
 }

@@ -1,8 +1,8 @@
 //! A map set of exactly 2,000,000 values: 100 maps, 50 rows, 400 columns.
 
 use compare::library;
-use compare::set::{Buffers, MapSet};
-use second::{Reading, Refusal};
+use compare::set::{rubbish, MapSet};
+use second::{Buffers, Reading, Refusal};
 
 fn rec(body: &str, label: &str) -> String {
     format!("{body:<60}{label}\n")
@@ -59,7 +59,7 @@ fn text() -> String {
 fn two_million_values() {
     let text = text();
     for library in library::all() {
-        let mut areas = Buffers::filled([2_000_001, 0, 0, 15_000, 100, 100], 1);
+        let mut areas = rubbish([2_000_001, 0, 0, 15_000, 100, 100], 1);
         let guard = areas.tec[2_000_000];
         let answer = library.read(text.as_bytes(), &mut areas);
         let Reading::Accepted { header, texts } = answer else {
@@ -101,7 +101,7 @@ fn part(set: &MapSet, from: usize, to: usize) -> MapSet {
 /// Two halves that share a map make the whole again; one map more is beyond the limit.
 #[test]
 fn joined_to_two_million_values() {
-    let mut areas = Buffers::filled([2_000_000, 0, 0, 15_000, 100, 100], 1);
+    let mut areas = rubbish([2_000_000, 0, 0, 15_000, 100, 100], 1);
     let Reading::Accepted { header, texts } = second::read(text().as_bytes(), &mut areas.lent())
     else {
         panic!("refused");
@@ -121,7 +121,7 @@ fn joined_to_two_million_values() {
     longer.header.maps += 1;
     longer.header.last_epoch += 60;
     for library in library::all() {
-        let mut areas = Buffers::filled(whole.areas.lengths(), 1);
+        let mut areas = rubbish(whole.areas.lengths(), 1);
         let answer = library.join(&first, &second, &mut areas);
         assert_eq!(answer, Reading::Accepted { header, texts });
         assert!(areas == whole.areas);
@@ -141,7 +141,7 @@ fn one_column_more() {
         column: 0,
     };
     for library in library::all() {
-        let mut areas = Buffers::filled([0; 6], 1);
+        let mut areas = rubbish([0; 6], 1);
         let answer = library.read(text.as_bytes(), &mut areas);
         assert_eq!(answer, Reading::Refused(expected));
     }

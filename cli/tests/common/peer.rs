@@ -3,25 +3,20 @@
 use second::index::{indexed_block, indexed_node, make_index, Entries, Index, Node};
 use second::week::{self, Week};
 use second::{
-    ask, explain, read, Answer, Areas, Axis, Header, Question, Reading, Refusal, Texts, View,
+    ask, explain, read, Answer, Axis, Buffers, Header, Question, Reading, Refusal, Texts, View,
 };
 
 /// A text that the second program accepts, with areas of its own.
 pub struct Peer {
     header: Header,
     texts: Texts,
-    tec: Vec<i32>,
-    rms: Vec<i32>,
-    height: Vec<i32>,
-    exponents: Vec<i32>,
-    epochs: Vec<u64>,
-    marks: Vec<u8>,
+    areas: Buffers,
 }
 
 impl Peer {
     pub fn read(text: &[u8]) -> Result<Peer, Refusal> {
         let mut peer = Peer::of_lengths((text.len() / 5).min(2_000_000), 300);
-        match read(text, &mut peer.areas()) {
+        match read(text, &mut peer.areas.lent()) {
             Reading::Accepted { header, texts } => {
                 peer.header = header;
                 peer.texts = texts;
@@ -35,42 +30,26 @@ impl Peer {
         Peer {
             header: Header::default(),
             texts: Texts::default(),
-            tec: vec![0; values],
-            rms: vec![0; values],
-            height: vec![0; values],
-            exponents: vec![0; 3 * values],
-            epochs: vec![0; maps],
-            marks: vec![0; maps],
-        }
-    }
-
-    fn areas(&mut self) -> Areas<'_> {
-        Areas {
-            tec: &mut self.tec,
-            rms: &mut self.rms,
-            height: &mut self.height,
-            exponents: &mut self.exponents,
-            epochs: &mut self.epochs,
-            marks: &mut self.marks,
+            areas: Buffers {
+                tec: vec![0; values],
+                rms: vec![0; values],
+                height: vec![0; values],
+                exponents: vec![0; 3 * values],
+                epochs: vec![0; maps],
+                marks: vec![0; maps],
+            },
         }
     }
 
     fn view(&self) -> View<'_> {
-        View {
-            tec: &self.tec,
-            rms: &self.rms,
-            height: &self.height,
-            exponents: &self.exponents,
-            epochs: &self.epochs,
-            marks: &self.marks,
-        }
+        self.areas.view()
     }
 
     /// The canonical text of this and a later text joined, or the number of the refusal.
     pub fn joined(&self, later: &Peer) -> Result<Vec<u8>, u8> {
-        let values = self.tec.len() + later.tec.len();
+        let values = self.areas.tec.len() + later.areas.tec.len();
         let mut both = Peer::of_lengths(values, 600);
-        let mut areas = both.areas();
+        let mut areas = both.areas.lent();
         let (header, texts) = second::join(&self.given(), &later.given(), &mut areas)
             .map_err(|refusal| refusal.number())?;
         (both.header, both.texts) = (header, texts);
@@ -148,7 +127,7 @@ impl Peer {
     fn node(&self, [map, layer, row, column]: [u64; 4]) -> String {
         let at = |axis: Axis, line: u64| decimals(axis.first + line as i64 * axis.step, 10);
         let [year, month, day, hour, minute, second] =
-            second::calendar::date(self.epochs[map as usize - 1]).expect("a date");
+            second::calendar::date(self.areas.epochs[map as usize - 1]).expect("a date");
         format!(
             "\"map\":{map},\"epoch\":\"{year:04}-{month:02}-{day:02}T{hour:02}:{minute:02}:{second:02}\",\
              \"layer\":{layer},\"row\":{row},\"lat\":{},\"column\":{column},\"lon\":{}",

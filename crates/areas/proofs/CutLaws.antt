@@ -19,7 +19,8 @@ use Rattle.mapset.specs.Areas.{Present, present?, Nowhere}
 use Rattle.layout.specs.Layout.{Exponent}
 use Rattle.areas.specs.Lists.{flat, chop, zipw}
 use Rattle.areas.specs.Flat.{absent-block, or-absent, Slots, reads, values-of, exponents-of, there}
-use Rattle.areas.specs.Formed.{Value, BlockRules, MapRules}
+use Rattle.areas.specs.Formed.{BlockRules, MapRules}
+use Rattle.areas.specs.Value.{Value}
 use Rattle.areas.specs.Stores.{has}
 use Rattle.areas.specs.Nest.{a-block, cut, if-there, kept}
 use Rattle.areas.specs.Valid.{Blank}

@@ -13,7 +13,8 @@ use Rattle.mapset.specs.MapSet.{OtherMap}
 use Rattle.mapset.specs.Areas.{values}
 use Rattle.layout.specs.Layout.{Force, Left, nothing, maps, early, blocks, Loose, per-map, Writes, w-end, w-comment, w-exponent, w-tec, w-epoch, w-other, w-again, w-block, w-close, w-file}
 use Rattle.areas.specs.Events.{epoch, told}
-use Rattle.areas.specs.Stores.{before, Inside}
+use Rattle.areas.specs.Stores.{Inside}
+use Rattle.areas.specs.Places.{before}
 
 block-inside : (n B C i j N : ℕ) → 1 ≤ i → i ≤ n → suc j ≤ B → n * B * C ≤ N → (before B i (B - suc j) < n * B) × (before B i (B - suc j) * C + C ≤ N)
 block-inside n B C i j N l u f e =

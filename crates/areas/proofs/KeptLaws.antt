@@ -16,7 +16,7 @@ use Rattle.areas.proofs.ListLaws.{tab-ext}
 use Rattle.areas.proofs.KindLaws.{found-here, found-past, found-low, Fits}
 
 module _ (n B C : ℕ) where
-  pub kept-slots : (i k : ℕ) (xs : List OtherMap) → n ≡ i + k → Rising n B C i xs → kept (suc i) (tab (suc i) k (found xs)) ≡ xs
+  kept-slots : (i k : ℕ) (xs : List OtherMap) → n ≡ i + k → Rising n B C i xs → kept (suc i) (tab (suc i) k (found xs)) ≡ xs
   kept-slots i zero [] e r = refl
   kept-slots i zero (x ∷ xs) e r = absurd (omega (arith, r .0, r .1))
   kept-slots i (suc k) [] e r = kept-slots (suc i) k [] (omega arith) tt

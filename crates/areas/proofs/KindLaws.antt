@@ -12,7 +12,8 @@ use Rattle.kit.proofs.ListLaws.{all-turn, all-map, all-replicate}
 use Rattle.mapset.specs.MapSet.{Block, OtherMap}
 use Rattle.areas.specs.Lists.{flat}
 use Rattle.areas.specs.Flat.{found, absent-block, or-absent, Slots, slots, reads, values-of, exponents-of}
-use Rattle.areas.specs.Formed.{Value, BlockRules, MapRules, Rising}
+use Rattle.areas.specs.Formed.{BlockRules, MapRules, Rising}
+use Rattle.areas.specs.Value.{Value}
 use Rattle.areas.proofs.ListLaws.{all-flat, flat-length, tab-length, tab-all}
 
 -- ---- maps, and their values and exponents

@@ -33,7 +33,7 @@ one-written left i s e a ih j = go (ℕ-discrete j i)
     go (yes q) = rw (q, e) a
     go (no q) = rw (getD-set-other left i j none none q) at (ih j)
 
-pub heads-fit : {m : MapSet} {a : Mode} {e : ℤ} {left : Slots} {ds : Lines} {rs : List (List ℕ)} → Heads m a e left ds rs → (i : ℕ) → Fit (content i) (getD left i none)
+heads-fit : {m : MapSet} {a : Mode} {e : ℤ} {left : Slots} {ds : Lines} {rs : List (List ℕ)} → Heads m a e left ds rs → (i : ℕ) → Fit (content i) (getD left i none)
 heads-fit (h-description c hw) = heads-fit hw
 heads-fit (h-comment c hw) = heads-fit hw
 heads-fit (h-exponent c u hw) = heads-fit hw

@@ -13,7 +13,7 @@ use Rattle.kit.proofs.Parts.{neg-up, neg-dn, le-parts}
 use Rattle.forms.specs.Form as form
 use Rattle.forms.specs.Form.{Spells, Digit, numeral, sign, signed, pointed}
 use Rattle.layout.specs.Records.{Cells, c-blank, c-value, ValueRows, v-last, v-full}
-use Rattle.areas.specs.Formed.{Value}
+use Rattle.areas.specs.Value.{Value}
 
 -- k digits
 abbrev tens : ℕ → ℕ

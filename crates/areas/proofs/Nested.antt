@@ -19,7 +19,8 @@ use Rattle.mapset.specs.Areas.{present?}
 use Rattle.layout.specs.Layout.{Exponent, Other}
 use Rattle.areas.specs.Lists.{flat, zipw}
 use Rattle.areas.specs.Flat.{found, absent-block, Slots, slots, reads, tec-blocks, values-of, exponents-of, wanted, mark, there, areas-of}
-use Rattle.areas.specs.Formed.{Value, BlockRules, MapRules, Rising, MapsRules}
+use Rattle.areas.specs.Formed.{BlockRules, MapRules, Rising, MapsRules}
+use Rattle.areas.specs.Value.{Value}
 use Rattle.areas.specs.Stores.{has}
 use Rattle.areas.specs.Nest.{a-block, a-tec, cut, third, if-there, kept, nest}
 use Rattle.areas.specs.Valid.{values-in, Blank}

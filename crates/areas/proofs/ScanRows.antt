@@ -59,7 +59,7 @@ block-past C s rs (v-full {zs} {more} {r} {rs = vs} a z x v) =
     row-past C s (length (zs ++ more)) r (vs ++ rs) (omega arith) ∙ ap (λ c. brought C s c (vs ++ rs)) n ∙ block-past C s rs v
 
 -- a block's opening r and the rows vs of its values zs
-pub block-turn : (C : ℕ) (s : Now) (r : List ℕ) {zs : List ℤ} {vs : List (List ℕ)} (rs : List (List ℕ)) → label r ≡ some block → length zs ≡ C → ValueRows zs vs
+block-turn : (C : ℕ) (s : Now) (r : List ℕ) {zs : List ℤ} {vs : List (List ℕ)} (rs : List (List ℕ)) → label r ≡ some block → length zs ≡ C → ValueRows zs vs
     → brought C s 0 (r ∷ (vs ++ rs))
     ≡ event.block (s .kind) (s .number) (s .done) (record { exponent = s .exponent; values = zs }) ∷ brought C (now (s .kind) (s .number) (suc (s .done)) (s .exponent) (s .tecs)) 0 rs
 unfolding brought

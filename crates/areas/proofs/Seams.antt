@@ -17,7 +17,8 @@ use Rattle.areas.specs.Flat.{absent-block, Slots, reads}
 use Rattle.areas.specs.Formed.{MapRules}
 use Rattle.areas.specs.Nest.{kept}
 use Rattle.areas.specs.Events.{Event, epoch, marked, block}
-use Rattle.areas.specs.Stores.{before, place, put, scan}
+use Rattle.areas.specs.Stores.{put, scan}
+use Rattle.areas.specs.Places.{before, place}
 use Rattle.areas.proofs.KindLaws.{widths, Fits}
 use Rattle.areas.proofs.ListLaws.{flat-append, map-append}
 use Rattle.areas.proofs.Sorted.{is-self, scan-append, mine, blocks-left, tecs, extras}

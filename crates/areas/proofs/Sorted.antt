@@ -48,7 +48,7 @@ of-maps Tec B i ms = tecs B i (ms .tec)
 of-maps Rms B i ms = extras Rms B (ms .rms)
 of-maps Height B i ms = extras Height B (ms .height)
 
-abbrev pub of-left : Kind → (B i : ℕ) → Left → List Event
+abbrev of-left : Kind → (B i : ℕ) → Left → List Event
 of-left k B i nothing = []
 of-left k B i (maps ms) = of-maps k B i ms
 of-left k B i (early m ms) = of-maps k B i (one-tec m ms)

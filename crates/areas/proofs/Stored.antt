@@ -19,7 +19,8 @@ use Rattle.areas.specs.Formed.{Rising, MapsRules}
 use Rattle.areas.specs.Nest.{kept}
 use Rattle.areas.specs.Events.{Event}
 use Rattle.kit.specs.Lists.{front}
-use Rattle.areas.specs.Stores.{put, put-values, put-exponent, put-epoch, put-mark, scan, Inside, fill, cleared, scanned, fronts}
+use Rattle.areas.specs.Stores.{put, put-values, put-exponent, put-epoch, put-mark, scan, Inside, fill, cleared, scanned}
+use Rattle.areas.specs.Fronts.{fronts}
 use Rattle.areas.proofs.ListLaws.{tab-length}
 use Rattle.areas.proofs.KindLaws.{slots-fit, kind-values}
 use Rattle.areas.proofs.KeptLaws.{kept-all}

@@ -11,7 +11,8 @@ use Rattle.kit.specs.Answer.{All}
 use Rattle.mapset.specs.declared.Kind.{Kind}
 use Rattle.mapset.specs.declared.Kind.the-variants.{Tec, Rms, Height}
 use Rattle.areas.specs.Events.{Event, epoch, marked, block}
-use Rattle.areas.specs.Stores.{before, put, put-exponent, scan, Inside}
+use Rattle.areas.specs.Stores.{put, put-exponent, scan, Inside}
+use Rattle.areas.specs.Places.{before}
 
 set-append-right : {A : Type 0} (xs ys : List A) (s i : ℕ) (a : A) → length xs ≡ s → set (xs ++ ys) (s + i) a ≡ xs ++ set ys i a
 set-append-right [] ys s i a e = let z : s + i ≡ i = omega arith in ap (λ j. set ys j a) z

@@ -17,7 +17,7 @@ use Rattle.areas.specs.Flat.{areas-of, areas}
 use Rattle.areas.specs.Formed.{Formed}
 use Rattle.areas.specs.Nest.{nest}
 use Rattle.kit.specs.Lists.{front}
-use Rattle.areas.specs.Stores.{fronts}
+use Rattle.areas.specs.Fronts.{fronts}
 use Rattle.areas.specs.Valid.{needed, Valid}
 use Rattle.areas.proofs.Needs.{needs}
 use Rattle.areas.proofs.Unnested.{Sixfold, epochs-back, nest-rules, areas-nest}

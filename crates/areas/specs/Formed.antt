@@ -3,18 +3,13 @@ use mathlib.Core.Path.{_≡_}
 use mathlib.Core.List.{List, [], _∷_, map}
 use Prim.Native.Nat.{ℕ, _≤_, _<_}
 use lib.ListN.{length}
-use lib.IntN.{ℤ, pos, negsuc}
 use Rattle.kit.specs.Answer.{All}
-use Rattle.kit.specs.Integer.{Between}
 use Rattle.mapset.specs.Grid.{columns}
 use Rattle.mapset.specs.Header.{HeaderRules}
 use Rattle.mapset.specs.MapSet.{Block, OtherMap, Maps, MapSet}
 use Rattle.mapset.specs.Areas.{EpochRules}
 use Rattle.layout.specs.Layout.{Exponent, per-map}
-
--- what five columns can hold: I5
-abbrev pub Value : ℤ → Type 0
-Value z = Between (negsuc 9998) (pos 99999) z
+use Rattle.areas.specs.Value.{Value}
 
 -- C values, under an exponent
 pub record BlockRules (C : ℕ) (b : Block) : Type 0 where

@@ -3,7 +3,10 @@ pub mod Lists
 -- what comes back
 pub mod Flat
 pub mod Exact
+pub mod Value
 pub mod Formed
+pub mod Places
+pub mod Fronts
 -- the second scan
 pub mod Events
 pub mod Stores

@@ -11,7 +11,7 @@ use Rattle.mapset.specs.MapSet.{Block, TecMap, OtherMap, Maps}
 use Rattle.mapset.specs.Areas.{Areas, present?}
 use Rattle.areas.specs.Lists.{chop, zipw}
 use Rattle.areas.specs.Flat.{Slots}
-use Rattle.areas.specs.Stores.{first-of}
+use Rattle.areas.specs.Places.{first-of}
 
 abbrev pub a-block : ℤ → List ℤ → Block
 a-block e zs = record { exponent = e; values = zs }

@@ -6,7 +6,6 @@ use Prim.Native.Nat.{ℕ, _+_, _-_, _*_, _≤_, _<_}
 use lib.ListN.{length, replicate, getD, set, drop}
 use lib.Seq.{sets}
 use lib.IntN.{ℤ, pos, negsuc}
-use Rattle.kit.specs.Lists.{front}
 use Rattle.kit.specs.Answer.{All, pick}
 use Rattle.mapset.specs.declared.Kind.{Kind}
 use Rattle.mapset.specs.declared.Kind.the-variants.{Tec, Rms, Height}
@@ -16,6 +15,8 @@ use Rattle.mapset.specs.Areas.{Areas, present?, value-need, Room}
 use Rattle.layout.specs.Layout.{per-map}
 use Rattle.areas.specs.Flat.{mark, areas}
 use Rattle.areas.specs.Events.{Event, epoch, marked, block}
+use Rattle.areas.specs.Places.{before, place, first-of}
+use Rattle.areas.specs.Fronts.{fronts}
 
 abbrev pub is : Kind → Kind → Bool
 is Tec Tec = true
@@ -30,14 +31,6 @@ is Height Height = true
 
 -- ---- the stores
 
--- how many blocks of its kind stand before block b of map i
-abbrev pub before : (B i b : ℕ) → ℕ
-before B i b = (i - 1) * B + b
-
--- where its elements begin, w of each block
-abbrev pub place : (B w i b : ℕ) → ℕ
-place B w i b = before B i b * w
-
 -- w elements of each block of the kind k
 abbrev pub put : {A : Type 0} → (B w : ℕ) → (Block → List A) → Kind → Event → List A → List A
 put B w g k (block k′ i b x) l = cond (is k k′) (sets l (place B w i b) (g x)) l
@@ -47,12 +40,6 @@ put B w g k (marked k′ i) l = l
 -- C values
 abbrev pub put-values : (B C : ℕ) → Kind → Event → List ℤ → List ℤ
 put-values B C k = put B C (λ b. b .values) k
-
--- s exponents of each kind, one kind after the other
-abbrev pub first-of : Kind → ℕ → ℕ
-first-of Tec s = 0
-first-of Rms s = s
-first-of Height s = s + s
 
 abbrev pub put-exponent : (n B : ℕ) → Event → List ℤ → List ℤ
 put-exponent n B (block k i b x) l = set l (first-of k (n * B) + before B i b) (x .exponent)
@@ -116,18 +103,6 @@ cleared n B r t l =
       exponents = fill (negsuc 0) (3 * (n * B)) (l .exponents);
       epochs = l .epochs;
       marks = fill 0 n (l .marks);
-    }
-
--- ---- what is to come of it: the lists a, and behind each what was there
-unfoldable pub fronts : (a l : Areas) → Areas
-fronts a l =
-    record {
-      tec = front (a .tec) (l .tec);
-      rms = front (a .rms) (l .rms);
-      height = front (a .height) (l .height);
-      exponents = front (a .exponents) (l .exponents);
-      epochs = front (a .epochs) (l .epochs);
-      marks = front (a .marks) (l .marks);
     }
 
 -- ---- in these words: the events leave the areas of m, wherever there is room, and no store stands outside them

@@ -13,7 +13,7 @@ use Rattle.mapset.specs.Described.{FullTexts}
 use Rattle.mapset.specs.Grid.{columns}
 use Rattle.mapset.specs.Areas.{Areas, Present, blocks, values, value-need, Sound}
 use Rattle.layout.specs.Layout.{Exponent, per-map}
-use Rattle.areas.specs.Formed.{Value}
+use Rattle.areas.specs.Value.{Value}
 use Rattle.areas.specs.Nest.{third}
 
 -- the lists up to each need

@@ -12,7 +12,7 @@ use Rattle.mapset.specs.Described.{FullTexts}
 use Rattle.mapset.specs.Grid.{columns}
 use Rattle.mapset.specs.Areas.{Areas, present?, blocks, Sound}
 use Rattle.layout.specs.Layout.{Exponent, per-map, exponent?}
-use Rattle.areas.specs.Formed.{Value}
+use Rattle.areas.specs.Value.{Value}
 use Rattle.areas.specs.Nest.{third}
 use Rattle.areas.specs.Valid.{needed, values-in, Blank, Valid}
 

@@ -13,16 +13,17 @@ use lib.Seq.{length-take-le}
 use Rattle.mapset.specs.Grid.{layers}
 use Rattle.mapset.specs.Areas.{Sound}
 use Rattle.mapset.specs.Sound.{StartsAt, EpochsSay}
-use Rattle.mapset.specs.SoundDecided.{header-groups, sound-groups}
+use Rattle.mapset.proofs.Groups.{header-groups, sound-groups}
 use Rattle.ask_cells.specs.Place.{InCell}
 use Rattle.ask.specs.Turned.{CanAsk}
 use Rattle.ask_spans.specs.Time.{epoch, Uses}
 use Rattle.ask_spans.specs.Spans.{Regular, Spanned}
 use Rattle.ask_spans.proofs.TimeLaws.{regular, last-epoch, rises-to, shares-within, shares-small}
 use Rattle.ask_nodes.specs.Value.{kind-of}
-use Rattle.ask_sums.specs.Mean.{Valued, spread, weight, mean}
-use Rattle.ask.specs.Ask.{Question, Told, refused, in-told, Guard, stop, go, Known, epochs, Served, InTime, Inside, area, shape, asked, Rounded, Placed, Answers}
-use Rattle.ask_sums.specs.Sums.{Summable}
+use Rattle.ask_sums.specs.Mean.{Valued, spread, weight}
+use Rattle.ask_sums.specs.Sums.{mean, Summable}
+use Rattle.ask.specs.Ask.{Question, Told, refused, Guard, stop, go, Known, epochs, Served, InTime, Inside, area, shape, asked, Rounded, Placed, Answers}
+use Rattle.ask.specs.Summed.{in-told}
 use Rattle.ask.proofs.MeanLaws.{mean-is}
 use Rattle.ask.proofs.ReachLaws.{latitude-step, longitude-step, total, some-weight, summable}
 use Rattle.ask.specs.Sun.{in-time, unit-of, moved, lon-at, Cells}

@@ -14,23 +14,24 @@ use Rattle.kit.proofs.Parts.{add-parts, sub-parts2, scale-up, scale-dn, eq-part
 use Rattle.mapset.specs.Areas.{Sound}
 use Rattle.mapset.specs.declared.Grid.{Grid}
 use Rattle.mapset.specs.declared.Kind.{Kind}
-use Rattle.ask_round.specs.Round.{apart, Nearest, rounded}
+use Rattle.ask_round.specs.Round.{apart, Nearest}
+use Rattle.ask_round.specs.Rounded.{rounded}
 use Rattle.ask_round.proofs.RoundLaws.{round-nearest, nearest-unique}
 use Rattle.ask_cells.specs.Place.{InCell100}
 use Rattle.ask_cells.proofs.EarthLaws.{finer, finer-in}
 use Rattle.ask_spans.specs.Time.{epoch, NearestMap, shared, Uses, nearest, between, last}
 use Rattle.ask_spans.specs.Spans.{Regular}
 use Rattle.ask_spans.proofs.TimeLaws.{nearest-last, nearest-early}
-use Rattle.ask_nodes.specs.Value.{kind-of, value}
+use Rattle.ask_nodes.specs.Value.{kind-of, value, corner, or-zero}
 use Rattle.ask_sums.specs.Mean.{left, right, next-left, next-right, by-column, corners, spread, Term, terms, Valued, weighted, weight}
 use Rattle.ask_sums.proofs.SumLaws.{corners-elim}
-use Rattle.ask.specs.Ask.{Question, Told, refused, in-unit, in-told, Guard, stop, go, Known, epochs, Served, InTime, Inside, Weighs, area, shape, asked, Rounded, Blended, Answers}
+use Rattle.ask.specs.Ask.{Question, Told, refused, in-unit, Guard, stop, go, Known, epochs, Served, InTime, Inside, Weighs, area, shape, asked, Rounded, Blended, Answers}
+use Rattle.ask.specs.Summed.{in-told}
 use Rattle.ask.specs.Sun.{in-time, moved, CellAt}
 use Rattle.ask.proofs.AskLaws.{in-time-small, steady}
 use Rattle.ask.proofs.Once.{mean-once, weighs-once, weighs-weight}
 use Rattle.ask_cells.specs.declared.Cell.{Cell}
 use Rattle.ask_nodes.specs.declared.Weighed.{Weighed}
-use Rattle.ask_nodes.specs.Nodes.{corner, or-zero}
 
 -- ---- a map's epoch is the second: its share is all
 uses-at : (es : List ℕ) → Regular es → (t method i : ℕ) → method < 2 → i < length es → epoch es i ≡ t → (g : ℕ) × ((1 ≤ g) × Uses es t method (shared i g 0))
@@ -126,7 +127,7 @@ valued-light [] [] w v = tt
 valued-light [] (z ∷ zs) w v = (inl (w .0), valued-light [] zs (w .1) tt)
 valued-light (t ∷ ts) zs w v = (v .0, valued-light ts zs w (v .1))
 
-pub same-mean : (k : Kind) (g : ℕ) (ts zs : List Term) → 0 < g → 0 < weight ts → Weightless zs → (a : Told) → Guard (Valued (times g ts ++ zs)) 22 (Rounded k (times g ts ++ zs)) a → Guard (Valued ts) 22 (Rounded k ts) a
+same-mean : (k : Kind) (g : ℕ) (ts zs : List Term) → 0 < g → 0 < weight ts → Weightless zs → (a : Told) → Guard (Valued (times g ts ++ zs)) 22 (Rounded k (times g ts ++ zs)) a → Guard (Valued ts) 22 (Rounded k ts) a
 same-mean k g ts zs h p w a (stop n) = stop (λ v. n (valued-light (times g ts) zs w (valued-times g ts v)))
 same-mean k g ts zs h p w a (go v (x, (m, e))) =
     let r = rounded (weighted ts) (weight ts) in
@@ -196,7 +197,7 @@ passed p (stop n) = absurd (n p)
 passed p (go x r) = r
 
 -- the mean of map i's nodes alone
-abbrev pub Alone : Question → ℕ → Cell → Told → Type 0
+abbrev Alone : Question → ℕ → Cell → Told → Type 0
 Alone q i c = Guard (Valued (asked q (corners 1 i c))) 22 (Rounded (kind-of (q .kind)) (asked q (corners 1 i c)))
 
 -- ---- at its own epoch a map is not moved
@@ -250,7 +251,7 @@ module _ (q : Question) (sound : Sound (q .header) (q .texts) (q .areas)) (serve
           ap weight parts ∙ light-weight (times g (asked q (corners 1 i c))) (asked q (corners 0 (i + 1) d)) (shareless q (i + 1) d) ∙ times-weight g (asked q (corners 1 i c)) in
           absurd (omega (arith, weighs-weight q sound served (spread (shared i (share .0) 0) d d) here, w, ap (λ (k : ℕ). g * k) z))
 
-  pub at-epoch : (a : Told) → Blended q a → Alone q i c a
+  at-epoch : (a : Told) → Blended q a → Alone q i c a
   at-epoch a (ns, (w, b)) =
       let e : ns ≡ spread (shared i (share .0) 0) d d = weighs-once q sound ns (spread (shared i (share .0) 0) d d) w here in
       let f : asked q ns ≡ times g (asked q (corners 1 i c)) ++ asked q (corners 0 (i + 1) d) = ap (asked q) e ∙ parts in
@@ -276,7 +277,7 @@ module _ (q : Question) (sound : Sound (q .header) (q .texts) (q .areas)) (serve
       mean-once (kind-of (q .kind)) (asked q (corners 1 i c)) heavy a _ (at-epoch a (passed inside (passed time (passed served (passed sound (passed known answer)))))) (alone-at-node d e)
 
 -- ---- the methods agree at a map's epoch
-abbrev pub by-method : ℕ → Question → Question
+abbrev by-method : ℕ → Question → Question
 by-method m q =
     record { header = q .header; texts = q .texts; areas = q .areas; kind = q .kind; method = m; layer = q .layer; lat = q .lat; lon = q .lon; second = q .second }
 

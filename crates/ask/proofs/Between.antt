@@ -12,14 +12,13 @@ use Rattle.kit.specs.Integer.{up, dn, Between}
 use Rattle.kit.proofs.Parts.{add-parts, scale-up, scale-dn, parts-le, le-parts}
 use Rattle.mapset.specs.declared.Kind.{Kind}
 use Rattle.mapset.specs.declared.Kind.the-variants.{Tec as tec, Rms as rms, Height as height}
-use Rattle.ask_round.specs.Round.{rounded}
+use Rattle.ask_round.specs.Rounded.{rounded}
 use Rattle.ask_round.proofs.RoundLaws.{round-above, round-below, round-nearest, nearest-unique}
-use Rattle.ask_nodes.specs.Value.{kind-of}
+use Rattle.ask_nodes.specs.Value.{kind-of, or-zero}
 use Rattle.ask_sums.specs.Mean.{Term, IsSome, Valued, Mean, weighted, weight}
 use Rattle.ask.specs.Ask.{Question, Told, tecu, km, refused, in-unit, stop, go, Weighs, asked, Answers}
 use Rattle.ask.proofs.Once.{weighs-once, weighs-weight}
 use Rattle.ask_nodes.specs.declared.Weighed.{Weighed}
-use Rattle.ask_nodes.specs.Nodes.{or-zero}
 
 -- a needed node's value lies from lo to hi
 abbrev pub Bounds : ℤ → ℤ → Term → Type 0

@@ -37,7 +37,7 @@ guard-once u a b (stop n) (go p r) = absurd (n p)
 guard-once u a b (go p r) (stop n) = absurd (n p)
 guard-once u a b (go p r) (go q s) = u p a b r s
 
-pub rounded-once : (k : Kind) (ts : List Term) → 0 < weight ts → Once (Rounded k ts)
+rounded-once : (k : Kind) (ts : List Term) → 0 < weight ts → Once (Rounded k ts)
 rounded-once k ts h a b (v, (m, e)) (w, (n, f)) = e ∙ ap (in-unit k) (nearest-unique (weighted ts) (weight ts) h v w m n) ∙ sym f
 
 -- the mean of a list, or that it lacks a value

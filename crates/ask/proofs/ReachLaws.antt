@@ -17,7 +17,7 @@ use Rattle.mapset.specs.Grid.{latitudes, longitudes, layers, rows, columns}
 use Rattle.mapset.specs.Areas.{Present, Nowhere, nowhere?, blocks, values, Sound}
 use Rattle.mapset.specs.declared.Kind.{Kind}
 use Rattle.mapset.specs.declared.Kind.the-variants.{Tec as tec, Rms as rms, Height as height}
-use Rattle.mapset.specs.SoundDecided.{header-groups, marked}
+use Rattle.mapset.proofs.Groups.{header-groups, marked}
 use Rattle.mapset.proofs.SoundLaws.{few-blocks, some-nodes}
 use Rattle.ask_cells.specs.Place.{InCell}
 use Rattle.ask_nodes.specs.Value.{kind-of, block}
@@ -64,7 +64,7 @@ module _ (s : Shape) (vs ks : List ℤ) (ms : List ℕ) where
   weight-append [] m = omega arith
   weight-append (n ∷ l) m = omega (arith, weight-append l m)
 
-  pub spread-weight : (h : Shares) (c d : Cell) → c .down ≤ c .tall → c .across ≤ c .wide → d .down ≤ d .tall → d .across ≤ d .wide →
+  spread-weight : (h : Shares) (c d : Cell) → c .down ≤ c .tall → c .across ≤ c .wide → d .down ≤ d .tall → d .across ≤ d .wide →
       weight (terms s vs ks ms (spread h c d)) ≡ h .early * (c .tall * c .wide) + h .late * (d .tall * d .wide)
   unfolding spread
   spread-weight h c d p q p′ q′ =

@@ -31,9 +31,11 @@ use Rattle.ask_spans.specs.Spans.{Regular}
 use Rattle.ask_spans.proofs.TimeLaws.{nearest-early, nearest-late, uses-last}
 use Rattle.ask_spans.specs.declared.Shares.{Shares}
 use Rattle.ask_nodes.specs.Value.{kind-of}
-use Rattle.ask_sums.specs.Mean.{spread, mean}
+use Rattle.ask_sums.specs.Mean.{spread}
+use Rattle.ask_sums.specs.Sums.{mean}
 use Rattle.ask.specs.Sun.{in-time, CellAt, Cells}
-use Rattle.ask.specs.Ask.{Question, Told, tecu, km, refused, in-told, stop, go, Known, epochs, Served, InTime, asked, Answers}
+use Rattle.ask.specs.Ask.{Question, Told, tecu, km, refused, stop, go, Known, epochs, Served, InTime, asked, Answers}
+use Rattle.ask.specs.Summed.{in-told}
 use Rattle.ask.proofs.AskLaws.{in-time-small, steady, answered}
 use Rattle.ask.proofs.Strip.{cell-plain}
 

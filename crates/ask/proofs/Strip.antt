@@ -11,7 +11,7 @@ use Rattle.kit.proofs.ListLaws.{all-append}
 use Rattle.mapset.specs.Grid.{longitudes, AxisRules, layers, columns}
 use Rattle.mapset.specs.Areas.{Sound}
 use Rattle.mapset.specs.declared.Grid.{Grid}
-use Rattle.mapset.specs.SoundDecided.{header-groups}
+use Rattle.mapset.proofs.Groups.{header-groups}
 use Rattle.ask_cells.specs.Place.{InRow, Strip, GoesRound, InCell, InCell100}
 use Rattle.ask_cells.proofs.EarthLaws.{round-inside, strip-right}
 use Rattle.ask_sums.specs.Mean.{corners, spread}
@@ -50,7 +50,7 @@ right-weight t m c e =
 
 -- ---- methods 0 and 1 ask every map at the place itself
 module _ (m : ℕ) (h : m < 2) (g : Grid) (lat lon : ℤ) (t e : ℕ) (c : Cell) where
-  pub plain-cell : CellAt m g lat lon t e c → InCell100 g lat lon c
+  plain-cell : CellAt m g lat lon t e c → InCell100 g lat lon c
   plain-cell i = rw (plain-unit m h, plain-lon m h lon t e) at i
 
   pub cell-plain : InCell100 g lat lon c → CellAt m g lat lon t e c
@@ -68,7 +68,7 @@ module _ (q : Question) (sound : Sound (q .header) (q .texts) (q .areas)) where
   longitudes-ok = header-groups (q .header) (q .texts) (sound .header) .1 .1 .1 .1 .0 .1 .1
 
   -- ---- where the grid goes round, 21 is for the layer and the latitude alone
-  pub round-cell : GoesRound (q .header .grid .longitudes) → (unit : ℕ) → 0 < unit → (lat lon : ℤ) (row down : ℕ) → InRow (q .header .grid .latitudes) lat row down → (c : Cell) × InCell unit (q .header .grid) lat lon c
+  round-cell : GoesRound (q .header .grid .longitudes) → (unit : ℕ) → 0 < unit → (lat lon : ℤ) (row down : ℕ) → InRow (q .header .grid .latitudes) lat row down → (c : Cell) × InCell unit (q .header .grid) lat lon c
   round-cell g unit some lat lon row down r =
       let a = q .header .grid .longitudes in
       let x = round-inside a longitudes-ok unit some lon g in

@@ -18,14 +18,14 @@ use Rattle.kit.specs.Integer.{le?, lt?, int?, between?}
 use Rattle.mapset.specs.Areas.{Areas, present?, nowhere?, Sound, six}
 use Rattle.mapset.specs.Judged.{toward?}
 use Rattle.mapset.specs.Decisions.{end?, step?, multiple?, ×₃-dec, ×₄-dec, together?, dimension?, limits?, follows?}
-use Rattle.mapset.specs.Sound.{version?, printable?, written?, lines?, texts?, times?, model?, axis?, grid?, count?, system?, systems?, header?, run?, runs?, starts?, epochs?, marks?, lengths?, sound-says?}
-use Rattle.mapset.specs.SoundDecided.{sound?}
+use Rattle.mapset.specs.SoundDecided.{written?, axis?, records?, fillers?, header-rules?, room?, run?, epoch-rules?, sound?}
 use Rattle.mapset.specs.declared.Header.{Header}
-use Rattle.ask_round.specs.Round.{rounded}
+use Rattle.ask_round.specs.Rounded.{rounded}
 use Rattle.ask_cells.specs.Place.{first, next, InCell}
 use Rattle.ask_spans.specs.Time.{epoch, gap, alone, shared, nearest, between}
 use Rattle.ask_nodes.specs.Value.{is-value?, worth, value}
-use Rattle.ask_sums.specs.Mean.{by-column, corners, spread, terms, weighted, weight, valued?, mean}
+use Rattle.ask_sums.specs.Mean.{by-column, corners, spread, terms, weighted, weight}
+use Rattle.ask_sums.specs.Sums.{valued?, mean}
 use Rattle.ask.specs.Sun.{Turns}
 use Rattle.ask.specs.Ask.{Question, question, tecu, Inside, Answers}
 use Rattle.ask.proofs.AskLaws.{answered}
@@ -60,14 +60,14 @@ fine =
     six (pos 1 ∷ replicate 143 (pos 0)) [] [] (negsuc 2 ∷ negsuc 2 ∷ replicate 4 (negsuc 0)) (0 ∷ 7200 ∷ []) (0 ∷ 0 ∷ [])
 
 is-sound : truth (sound? header texts held) ≡ true
-unfolding truth sound? dec-by sound-says? ×-dec ⊎-dec ¬-dec all-dec pick header? version? lines? texts? written? printable? within? times? model? grid? axis? end? step? together? between? ×₃-dec ×₄-dec multiple? toward? le? lt? int? count? systems? system? dimension? limits? epochs? starts? runs? run? follows? marks? lengths? nowhere? present? ℕ-discrete decLe decLt header texts held axis absent
+unfolding truth sound? dec-by ×-dec ⊎-dec ¬-dec all-dec pick header-rules? records? fillers? room? epoch-rules? written? within? axis? end? step? together? between? ×₃-dec ×₄-dec multiple? toward? le? lt? int? dimension? limits? run? follows? nowhere? present? ℕ-discrete decLe decLt header texts held axis absent
 is-sound = refl
 
 sound : Sound header texts held
 sound = truth-true (sound? header texts held) is-sound
 
 is-sound-fine : truth (sound? header texts fine) ≡ true
-unfolding truth sound? dec-by sound-says? ×-dec ⊎-dec ¬-dec all-dec pick header? version? lines? texts? written? printable? within? times? model? grid? axis? end? step? together? between? ×₃-dec ×₄-dec multiple? toward? le? lt? int? count? systems? system? dimension? limits? epochs? starts? runs? run? follows? marks? lengths? nowhere? present? ℕ-discrete decLe decLt header texts fine axis absent
+unfolding truth sound? dec-by ×-dec ⊎-dec ¬-dec all-dec pick header-rules? records? fillers? room? epoch-rules? written? within? axis? end? step? together? between? ×₃-dec ×₄-dec multiple? toward? le? lt? int? dimension? limits? run? follows? nowhere? present? ℕ-discrete decLe decLt header texts fine axis absent
 is-sound-fine = refl
 
 -- the grid goes round, its step is 5.0, its maps are 7,200 s apart
@@ -162,7 +162,7 @@ nearest-sun-answer =
 unfoldable pub fine-question : Question
 fine-question = question header texts fine 0 2 0 (pos 0) (pos 34250) 3600
 
-pub once-answer : Answers fine-question (tecu (pos 0))
+once-answer : Answers fine-question (tecu (pos 0))
 unfolding fine-question ask-at header axis cell fine rounded mean valued? weighted weight ⊎-dec all-dec terms spread corners by-column decLt value worth is-value? between? present? pick ×-dec ¬-dec dec-by le? int? ℕ-discrete
 once-answer =
     answered fine-question (truth-true (sound? header texts fine) is-sound-fine) (inr turns) (shared 0 3600 3600) (between 0 refl (omega arith) (omega arith) (omega arith))

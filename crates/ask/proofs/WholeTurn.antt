@@ -13,7 +13,7 @@ use Rattle.ask.proofs.Once.{answers-once}
 use Rattle.ask_cells.specs.declared.Cell.{Cell}
 
 -- the same question k turns to the east
-abbrev pub east-by : ℤ → Question → Question
+abbrev east-by : ℤ → Question → Question
 east-by k q =
     record { header = q .header; texts = q .texts; areas = q .areas; kind = q .kind; method = q .method; layer = q .layer; lat = q .lat; lon = q .lon +ℤ pos 36000 *ℤ k; second = q .second }
 

@@ -1,7 +1,6 @@
 -- 01, 'The value at a place and second': what is asked, and what is answered.
 use mathlib.Core.Path.{_≡_}
 use mathlib.Core.List.{List}
-use mathlib.Core.Option.{Option, none, some}
 use Prim.Native.Nat.{ℕ, _<_}
 use lib.IntN.{ℤ}
 use lib.ListN.{take}
@@ -12,7 +11,6 @@ use Rattle.mapset.specs.declared.Kind.{Kind}
 use Rattle.mapset.specs.declared.Kind.the-variants.{Tec as tec, Rms as rms, Height as height}
 use Rattle.mapset.specs.declared.Header.{Header}
 use Rattle.mapset.specs.Described.{FullTexts}
-use Rattle.ask_round.specs.Round.{rounded}
 use Rattle.ask_cells.specs.Place.{InCell100}
 use Rattle.ask_spans.specs.Time.{Uses}
 use Rattle.ask_nodes.specs.Value.{kind-of}
@@ -22,8 +20,6 @@ use Rattle.ask_cells.specs.declared.Cell.{Cell}
 use Rattle.ask_spans.specs.declared.Shares.{Shares}
 use Rattle.ask_nodes.specs.declared.Weighed.{Weighed}
 use Rattle.ask_nodes.specs.declared.Shape.{Shape}
-use Rattle.ask_sums.specs.declared.Sum.{Sum}
-use Rattle.ask_sums.specs.declared.Sum.the-variants as S
 use Rattle.ask.specs.declared.Why.{Why}
 use Rattle.ask.specs.declared.Why.the-variants as W
 use Rattle.ask.specs.declared.Asked.{Asked}
@@ -51,11 +47,6 @@ abbrev pub in-unit : Kind → ℤ → Told
 in-unit tec v = tecu v
 in-unit rms v = tecu v
 in-unit height v = km v
-
--- a mean in its unit, or 22 where there is none
-abbrev pub in-told : Kind → Option ℤ → Told
-in-told k none = refused 22
-in-told k (some v) = in-unit k v
 
 -- the answer is number n where P does not hold, and R's where it does
 pub data Guard (P : Type 0) (n : ℕ) (R : Told → Type 0) : Told → Type 0 where
@@ -170,12 +161,6 @@ abbrev pub told : Asked → Told
 told (A.Tecu v) = tecu (v .0)
 told (A.Km v) = km (v .0)
 told (A.Refused w) = refused (number w)
-
--- what a sum comes to
-abbrev pub told-sum : Sum → Told
-told-sum S.Lacks = refused 22
-told-sum (S.Tecu t u) = tecu (rounded t u)
-told-sum (S.Km t u) = km (rounded t u)
 
 abbrev pub question : Header → FullTexts → Areas → ℕ → ℕ → ℕ → ℤ → ℤ → ℕ → Question
 question header texts areas kind method layer lat lon second =

@@ -7,8 +7,7 @@ use lib.IntN.{ℤ, pos, natAbs, _+ℤ_, _-ℤ_, _*ℤ_}
 use Rattle.mapset.specs.declared.Axis.{Axis}
 use Rattle.mapset.specs.declared.Grid.{Grid}
 use Rattle.ask_cells.specs.Place.{GoesRound, InCell}
-use Rattle.ask_spans.specs.Time.{epoch}
-use Rattle.ask_spans.specs.Spans.{Close}
+use Rattle.ask_spans.specs.Time.{epoch, Close}
 use Rattle.ask_cells.specs.declared.Cell.{Cell}
 use Rattle.ask_spans.specs.declared.Shares.{Shares}
 

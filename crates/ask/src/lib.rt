@@ -101,7 +101,9 @@ pub fn look(
     kind: u64,
     method: u64,
 ) -> Gate
-    ensures { λ r. ⌜ Gated (question header (full texts (now (descriptions .entry))) (six (now (tec .entry)) (now (rms .entry)) (now (height .entry)) (now (exponents .entry)) (now (epochs .entry)) (now (marks .entry))) kind method) r ⌝ }
+    ensures { λ r. ⌜ Gated (question header (full texts (now (descriptions .entry)))
+        (six (now (tec .entry)) (now (rms .entry)) (now (height .entry)) (now (exponents .entry)) (now (epochs .entry)) (now (marks .entry)))
+        kind method) r ⌝ }
 {
     if !is_known(kind, method) {
         return Gate::Shut(Why::Unknown);
@@ -143,7 +145,9 @@ pub fn value_at(
     second: u64,
 ) -> Asked
     requires { ⌜ Askable header s (six (now tec) (now rms) (now height) (now exponents) (now epochs) (now marks)) method lat lon second ⌝ }
-    ensures { λ r. ⌜ ValueAt header s (six (now (tec .entry)) (now (rms .entry)) (now (height .entry)) (now (exponents .entry)) (now (epochs .entry)) (now (marks .entry))) method lat lon second (told r) ⌝ }
+    ensures { λ r. ⌜ ValueAt header s
+        (six (now (tec .entry)) (now (rms .entry)) (now (height .entry)) (now (exponents .entry)) (now (epochs .entry)) (now (marks .entry)))
+        method lat lon second (told r) ⌝ }
 {
     if !in_time(header.times, second) {
         return Asked::Refused(Why::OutOfTime);
@@ -186,7 +190,9 @@ pub fn ask(
     lon: i32,
     second: u64,
 ) -> Asked
-    ensures { λ r. ⌜ Answers (question header (full texts (now (descriptions .entry))) (six (now (tec .entry)) (now (rms .entry)) (now (height .entry)) (now (exponents .entry)) (now (epochs .entry)) (now (marks .entry))) kind method layer lat lon second) (told r) ⌝ }
+    ensures { λ r. ⌜ Answers (question header (full texts (now (descriptions .entry)))
+        (six (now (tec .entry)) (now (rms .entry)) (now (height .entry)) (now (exponents .entry)) (now (epochs .entry)) (now (marks .entry)))
+        kind method layer lat lon second) (told r) ⌝ }
 {
     match look(
         header,

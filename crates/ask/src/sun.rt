@@ -8,7 +8,7 @@ ghost use Rattle.ask_spans.specs.Spans.{Regular};
 ghost use Rattle.ask.specs.Sun.{in-time, unit-of, moved, lon-at, Serves};
 ghost use Rattle.ask.specs.Turned.{CanAsk, PairFound};
 use ask_cells::Cell;
-use ask_cells::Found;
+use ask_cells::Whereabouts;
 use ask_spans::Shares;
 use mapset::Axis;
 use mapset::Grid;
@@ -56,7 +56,7 @@ fn lon_of(method: u64, lon: i32, second: u64, epoch: u64) -> i64
 }
 
 // The cell in a map with that epoch.
-fn cell_at(g: Grid, method: u64, lat: i32, lon: i32, second: u64, epoch: u64) -> Found
+fn cell_at(g: Grid, method: u64, lat: i32, lon: i32, second: u64, epoch: u64) -> Whereabouts
     requires { ⌜ (0 < natAbs (g .latitudes .step)) × (0 < natAbs (g .longitudes .step)) × (second < 2 ^ 40) × (epoch < 2 ^ 40) ⌝ }
     ensures { λ r. ⌜ CellFound (unit-of method) g lat (lon-at method lon second epoch) r ⌝ }
 {
@@ -78,8 +78,8 @@ pub fn cells_at(
 {
     let map = shares.map as usize;
     match cell_at(g, method, lat, lon, second, epochs[map]) {
-        Found::Outside => Pair::Outside,
-        Found::In(first) => {
+        Whereabouts::Outside => Pair::Outside,
+        Whereabouts::In(first) => {
             if shares.late == 0 {
                 return Pair::Of(first, first);
             }
@@ -87,8 +87,8 @@ pub fn cells_at(
                 return Pair::Of(first, first);
             }
             match cell_at(g, method, lat, lon, second, epochs[map + 1]) {
-                Found::Outside => Pair::Outside,
-                Found::In(other) => Pair::Of(first, other),
+                Whereabouts::Outside => Pair::Outside,
+                Whereabouts::In(other) => Pair::Of(first, other),
             }
         }
     }

@@ -1,11 +1,11 @@
 // The weighted mean of the nodes, rounded once, in the unit of its kind.
 ghost use mathlib.Core.Path.{_≡_};
 ghost use Prim.Native.Nat.{_<_};
-ghost use Rattle.ask_round.specs.Round.{rounded};
-ghost use Rattle.ask_nodes.specs.Value.{kind-of};
-ghost use Rattle.ask_sums.specs.Mean.{spread, terms, weight, mean};
-ghost use Rattle.ask_sums.specs.Sums.{Summable, Fits, Ready};
-ghost use Rattle.ask.specs.Ask.{in-told, of-kind, told, told-sum};
+ghost use Rattle.ask_round.specs.Rounded.{rounded};
+ghost use Rattle.ask_sums.specs.Sums.{Fits, Ready};
+ghost use Rattle.ask.specs.Ask.{told};
+ghost use Rattle.ask.specs.Looked.{asked-values, Meanable, told-mean};
+ghost use Rattle.ask.specs.Summed.{told-sum};
 use super::Asked;
 use super::Why;
 use ask_cells::Cell;
@@ -44,8 +44,8 @@ fn value_of(
     exponents: &[i32],
     marks: &[u8],
 ) -> Asked
-    requires { ⌜ Summable (now values) (now exponents) (now marks) s shares first second × (0 < weight (terms s (now values) (now exponents) (now marks) (spread shares first second))) ⌝ }
-    ensures { λ r. ⌜ told r ≡ in-told (kind-of (s .kind)) (mean (terms s (now (values .entry)) (now (exponents .entry)) (now (marks .entry)) (spread shares first second))) ⌝ }
+    requires { ⌜ Meanable s (now values) (now exponents) (now marks) shares first second ⌝ }
+    ensures { λ r. ⌜ told r ≡ told-mean s (now (values .entry)) (now (exponents .entry)) (now (marks .entry)) shares first second ⌝ }
 {
     mean_of(ask_sums::sum_of(shares, first, second, s, values, exponents, marks))
 }
@@ -62,8 +62,8 @@ pub fn kind_value(
     exponents: &[i32],
     marks: &[u8],
 ) -> Asked
-    requires { ⌜ Summable (of-kind (kind-of (s .kind)) (now tec) (now rms) (now height)) (now exponents) (now marks) s shares first second × (0 < weight (terms s (of-kind (kind-of (s .kind)) (now tec) (now rms) (now height)) (now exponents) (now marks) (spread shares first second))) ⌝ }
-    ensures { λ r. ⌜ told r ≡ in-told (kind-of (s .kind)) (mean (terms s (of-kind (kind-of (s .kind)) (now (tec .entry)) (now (rms .entry)) (now (height .entry))) (now (exponents .entry)) (now (marks .entry)) (spread shares first second))) ⌝ }
+    requires { ⌜ Meanable s (asked-values s (now tec) (now rms) (now height)) (now exponents) (now marks) shares first second ⌝ }
+    ensures { λ r. ⌜ told r ≡ told-mean s (asked-values s (now (tec .entry)) (now (rms .entry)) (now (height .entry))) (now (exponents .entry)) (now (marks .entry)) shares first second ⌝ }
 {
     if s.kind == 0 {
         return value_of(shares, first, second, s, tec, exponents, marks);

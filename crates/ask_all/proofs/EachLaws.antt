@@ -1,26 +1,18 @@
 -- Question after question: the answers so far, and one more.
-use mathlib.Core.Path.{_≡_, refl, sym, _∙_}
+use mathlib.Core.Path.{_≡_, refl, _∙_}
 use Prim.Native.Nat.{ℕ, _+_, _≤_, _<_}
 use native.Mathlib.Decide.{decLt}
 use native.Mathlib.Omega.{arith}
 use lib.IntN.{ℤ, pos}
 use lib.ListN.{length, getD, length-set}
 use lib.Seq.{getD-set-same, getD-set-other}
-use Rattle.kit.specs.Answer.{pick}
+use Rattle.kit.specs.Range.{lesser}
+use Rattle.kit.proofs.LesserLaws.{lesser-within}
 use Rattle.ask.specs.Ask.{Told, told-number, number}
 use Rattle.ask.specs.declared.Why.{Why}
 use Rattle.ask.specs.declared.Why.the-variants as W
-use Rattle.ask_all.specs.AskAll.{Places, Slots, lesser, count, value-or, Fills, Each}
+use Rattle.ask_all.specs.AskAll.{Places, Slots, count, value-or, Fills, Each}
 use Rattle.ask_all.specs.Filling.{stored}
-
--- ---- the shortest of five
-lesser-within : (a b : ℕ) → (lesser a b ≤ a) × (lesser a b ≤ b)
-unfolding lesser pick
-lesser-within a b = by (decLt a b)
-  where
-    by : (d : Dec (a < b)) → (pick d a b ≤ a) × (pick d a b ≤ b)
-    by (yes h) = (omega arith, omega arith)
-    by (no h) = (omega arith, omega arith)
 
 -- every question has its place in each of the five
 pub record Reaches (n : ℕ) (p : Places) (l : Slots) : Type 0 where

@@ -1,3 +1,4 @@
 pub mod EachLaws
 pub mod Once
+pub mod Vectors
 pub mod Theorems

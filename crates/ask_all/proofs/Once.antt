@@ -4,7 +4,7 @@ use Prim.Native.Nat.{ℕ, _<_}
 use native.Mathlib.Decide.{decLt}
 use native.Mathlib.Omega.{arith}
 use lib.IntN.{ℤ, pos}
-use lib.ListN.{length, getD}
+use lib.ListN.{getD}
 use lib.Seq.{ext-getD}
 use Rattle.ask.specs.Ask.{Question, Told, refused, told-number, Answers}
 use Rattle.ask.proofs.Once.{Once, answers-once, number-once}
@@ -28,7 +28,7 @@ module _ (R : ℤ → ℤ → ℕ → Told → Type 0) (o : (lat lon : ℤ) (t :
   at-value k (yes h) = fills-once (o _ _ _) _ (e .each k h) (f .each k h) .1
   at-value k (no h) = e .values-behind k (omega arith) ∙ sym (f .values-behind k (omega arith))
 
-  pub each-once : m ≡ m′
+  each-once : m ≡ m′
   each-once =
       let a = ext-getD 0 (m .answers) (m′ .answers) (e .as-many-answers ∙ sym (f .as-many-answers)) (λ k h. at-answer k (decLt k n)) in
       let v = ext-getD (pos 0) (m .values) (m′ .values) (e .as-many-values ∙ sym (f .as-many-values)) (λ k h. at-value k (decLt k n)) in

@@ -2,10 +2,9 @@
 use mathlib.Core.Path.{_≡_}
 use mathlib.Core.List.{List}
 use Prim.Native.Nat.{ℕ, _≤_, _<_}
-use native.Mathlib.Decide.{decLt}
 use lib.IntN.{ℤ, pos}
 use lib.ListN.{length, getD}
-use Rattle.kit.specs.Answer.{pick}
+use Rattle.kit.specs.Range.{lesser}
 use Rattle.ask.specs.Ask.{Question, Told, tecu, km, refused, told-number, Answers, Barred, Open, number}
 use Rattle.ask_all.specs.declared.AllAsked.{AllAsked}
 use Rattle.ask_all.specs.declared.AllAsked.the-variants.{Answered, Refused}
@@ -28,9 +27,6 @@ abbrev pub slots : List ℕ → List ℤ → Slots
 slots answers values = record { answers = answers; values = values }
 
 -- as many questions as the shortest of the five has elements
-unfoldable pub lesser : ℕ → ℕ → ℕ
-lesser a b = pick (decLt a b) a b
-
 abbrev pub count : Places → Slots → ℕ
 count p l = lesser (length (p .lats)) (lesser (length (p .lons)) (lesser (length (p .seconds)) (lesser (length (l .answers)) (length (l .values)))))
 
@@ -51,7 +47,8 @@ pub record Fills (R : Told → Type 0) (v : ℤ) (n : ℕ) (w : ℤ) : Type 0 wh
 pub record Each (R : ℤ → ℤ → ℕ → Told → Type 0) (n : ℕ) (p : Places) (l m : Slots) : Type 0 where
   pub as-many-answers : length (m .answers) ≡ length (l .answers)
   pub as-many-values : length (m .values) ≡ length (l .values)
-  pub each : (k : ℕ) → k < n → Fills (R (getD (p .lats) k (pos 0)) (getD (p .lons) k (pos 0)) (getD (p .seconds) k 0)) (getD (l .values) k (pos 0)) (getD (m .answers) k 0) (getD (m .values) k (pos 0))
+  pub each : (k : ℕ) → k < n
+      → Fills (R (getD (p .lats) k (pos 0)) (getD (p .lons) k (pos 0)) (getD (p .seconds) k 0)) (getD (l .values) k (pos 0)) (getD (m .answers) k 0) (getD (m .values) k (pos 0))
   pub answers-behind : (k : ℕ) → n ≤ k → getD (m .answers) k 0 ≡ getD (l .answers) k 0
   pub values-behind : (k : ℕ) → n ≤ k → getD (m .values) k (pos 0) ≡ getD (l .values) k (pos 0)
 

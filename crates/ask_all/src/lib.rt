@@ -7,7 +7,7 @@ ghost use Rattle.mapset.specs.Described.{full};
 ghost use Rattle.mapset.specs.Areas.{six};
 ghost use Rattle.ask.specs.Ask.{question, told-number, told as told-asked};
 ghost use Rattle.ask.specs.Looked.{ValueAt};
-ghost use Rattle.ask_all.specs.AskAll.{places, slots, count, lesser as lesser-of, value-or, Each, AsksAll, told};
+ghost use Rattle.ask_all.specs.AskAll.{places, slots, count, value-or, Each, AsksAll, told};
 ghost use Rattle.ask_all.specs.Filling.{stored, AllAskable};
 use ask::Asked;
 use ask::Gate;
@@ -20,15 +20,6 @@ use mapset::Texts;
 pub enum AllAsked {
     Answered,
     Refused(Why),
-}
-
-fn lesser(a: usize, b: usize) -> usize
-    ensures { λ r. ⌜ r ≡ lesser-of a b ⌝ }
-{
-    if a < b {
-        return a;
-    }
-    b
 }
 
 // A number of question k.
@@ -94,10 +85,12 @@ fn answer_each(
     answers: &mut [u8],
     values: &mut [i32],
 )
-    requires { ⌜ AllAskable header s (six (now tec) (now rms) (now height) (now exponents) (now epochs) (now marks)) method
-        × (n ≤ count (places (now lats) (now lons) (now seconds)) (slots (now answers) (now values))) ⌝ }
-    ensures { λ _. ⌜ Each (ValueAt header s (six (now (tec .entry)) (now (rms .entry)) (now (height .entry)) (now (exponents .entry)) (now (epochs .entry)) (now (marks .entry))) method)
-        n (places (now (lats .entry)) (now (lons .entry)) (now (seconds .entry)))
+    requires { ⌜ AllAskable header s
+        (six (now tec) (now rms) (now height) (now exponents) (now epochs) (now marks))
+        method × (n ≤ count (places (now lats) (now lons) (now seconds)) (slots (now answers) (now values))) ⌝ }
+    ensures { λ _. ⌜ Each (ValueAt header s
+        (six (now (tec .entry)) (now (rms .entry)) (now (height .entry)) (now (exponents .entry)) (now (epochs .entry)) (now (marks .entry)))
+        method) n (places (now (lats .entry)) (now (lons .entry)) (now (seconds .entry)))
         (slots (now (answers .entry)) (now (values .entry))) (slots (now (answers .exit)) (now (values .exit))) ⌝ }
 {
     let mut k: usize = 0;
@@ -141,8 +134,9 @@ pub fn ask_all(
     answers: &mut [u8],
     values: &mut [i32],
 ) -> AllAsked
-    ensures { λ r. ⌜ AsksAll (question header (full texts (now (descriptions .entry))) (six (now (tec .entry)) (now (rms .entry)) (now (height .entry)) (now (exponents .entry)) (now (epochs .entry)) (now (marks .entry))) kind method layer)
-        (places (now (lats .entry)) (now (lons .entry)) (now (seconds .entry)))
+    ensures { λ r. ⌜ AsksAll (question header (full texts (now (descriptions .entry)))
+        (six (now (tec .entry)) (now (rms .entry)) (now (height .entry)) (now (exponents .entry)) (now (epochs .entry)) (now (marks .entry)))
+        kind method layer) (places (now (lats .entry)) (now (lons .entry)) (now (seconds .entry)))
         (slots (now (answers .entry)) (now (values .entry))) (told r) (slots (now (answers .exit)) (now (values .exit))) ⌝ }
 {
     match ask::look(
@@ -160,11 +154,11 @@ pub fn ask_all(
     ) {
         Gate::Shut(why) => AllAsked::Refused(why),
         Gate::Open => {
-            let n = lesser(
+            let n = kit::lesser(
                 lats.len(),
-                lesser(
+                kit::lesser(
                     lons.len(),
-                    lesser(seconds.len(), lesser(answers.len(), values.len())),
+                    kit::lesser(seconds.len(), kit::lesser(answers.len(), values.len())),
                 ),
             );
             answer_each(

@@ -14,8 +14,8 @@ use Rattle.ask_cells.specs.declared.Way.{Way}
 use Rattle.ask_cells.specs.declared.Way.the-variants as W
 use Rattle.ask_cells.specs.declared.Spot.{Spot}
 use Rattle.ask_cells.specs.declared.Spot.the-variants as S
-use Rattle.ask_cells.specs.declared.Found.{Found}
-use Rattle.ask_cells.specs.declared.Found.the-variants as F
+use Rattle.ask_cells.specs.declared.Whereabouts.{Whereabouts}
+use Rattle.ask_cells.specs.declared.Whereabouts.the-variants as F
 
 -- x lies so far in the direction of d, or behind
 abbrev pub IsWay : ℤ → ℤ → Way → Type 0
@@ -50,6 +50,6 @@ abbrev pub ColumnFound : ℕ → Axis → ℤ → Spot → Type 0
 ColumnFound unit a lon (S.At i r part) = InColumn unit a lon i r part
 ColumnFound unit a lon S.Outside = (i r part : ℕ) → ¬ InColumn unit a lon i r part
 
-abbrev pub CellFound : ℕ → Grid → ℤ → ℤ → Found → Type 0
+abbrev pub CellFound : ℕ → Grid → ℤ → ℤ → Whereabouts → Type 0
 CellFound unit g lat lon (F.In c) = InCell unit g lat lon c
 CellFound unit g lat lon F.Outside = (c : Cell) → ¬ InCell unit g lat lon c

@@ -34,7 +34,7 @@ enum Spot {
     Outside,
 }
 
-pub enum Found {
+pub enum Whereabouts {
     In(Cell),
     Outside,
 }
@@ -169,15 +169,15 @@ fn column_of(a: Axis, lon: i64, unit: u64) -> Spot
 }
 
 // The cell of a latitude in hundredths of a degree and a longitude in units, of which a tenth of a degree has `unit`.
-pub fn cell_of(g: Grid, lat: i32, lon: i64, unit: u64) -> Found
+pub fn cell_of(g: Grid, lat: i32, lon: i64, unit: u64) -> Whereabouts
     requires { ⌜ (0 < natAbs (g .latitudes .step)) × (0 < natAbs (g .longitudes .step)) × (natAbs lon < 2 ^ 60) × (0 < unit) × (unit ≤ 120) ⌝ }
     ensures { λ r. ⌜ CellFound unit g lat lon r ⌝ }
 {
     match row_of(g.latitudes, lat) {
-        Spot::Outside => Found::Outside,
+        Spot::Outside => Whereabouts::Outside,
         Spot::At(row, _next, down) => match column_of(g.longitudes, lon, unit) {
-            Spot::Outside => Found::Outside,
-            Spot::At(column, right, across) => Found::In(Cell {
+            Spot::Outside => Whereabouts::Outside,
+            Spot::At(column, right, across) => Whereabouts::In(Cell {
                 row: row,
                 down: down,
                 tall: step_of(g.latitudes, 10),

@@ -8,7 +8,7 @@ use Rattle.kit.proofs.TruthLaws.{clash}
 use Rattle.ask_nodes.specs.Value.{kind-of}
 use Rattle.ask.specs.Ask as ask
 use Rattle.ask.specs.Ask.{Question, in-unit, Guard, stop, go, Answers}
-use Rattle.delay.specs.Delay.{Told}
+use Rattle.delay.specs.Delay.{ToldDelay}
 use Rattle.ask_delay.specs.AskDelay.{AskDelays, refuses, serves, Turned}
 
 -- kilometres are no refusal
@@ -31,7 +31,7 @@ km-kind q v s =
     let mean = passed _ (inside .1 .1 .1) refl in
     km-unit (q .kind) v (mean .1 .0) (known .0 .0) (mean .1 .1 .1)
 
-pub turns : (q : Question) (f : Float) → ¬ (q .kind ≡ 2) → (b : ask.Told) → Answers q b → (a : Told) → Turned f b a → AskDelays q f a
+pub turns : (q : Question) (f : Float) → ¬ (q .kind ≡ 2) → (b : ask.Told) → Answers q b → (a : ToldDelay) → Turned f b a → AskDelays q f a
 turns q f k (ask.tecu x) s a d = serves k x s a d
 turns q f k (ask.km x) s a e = absurd (k (km-kind q x s))
 turns q f k (ask.refused n) s a e = rw e (refuses k n s)

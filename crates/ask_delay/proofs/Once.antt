@@ -10,7 +10,7 @@ use Rattle.ask.proofs.Once.{answers-once, number-once}
 use Rattle.ask.specs.declared.Why.{Why}
 use Rattle.ask.specs.declared.Why.the-variants as W
 use Rattle.delay.specs.Delay as delay
-use Rattle.delay.specs.Delay.{Told, refused, milli, Delays}
+use Rattle.delay.specs.Delay.{ToldDelay, refused, milli, Delays}
 use Rattle.delay.proofs.DelayLaws.{delays-once, told-once}
 use Rattle.delay.specs.declared.Delayed.{Delayed}
 use Rattle.delay.specs.declared.Delayed.the-variants as D
@@ -19,7 +19,7 @@ use Rattle.ask_delay.specs.declared.AskedDelay.{AskedDelay}
 use Rattle.ask_delay.specs.declared.AskedDelay.the-variants as A
 
 module _ (q : Question) (f : Float) where
-  pub ask-delays-once : (a b : Told) → AskDelays q f a → AskDelays q f b → a ≡ b
+  pub ask-delays-once : (a b : ToldDelay) → AskDelays q f a → AskDelays q f b → a ≡ b
   ask-delays-once a b (no-delay h) (no-delay k) = refl
   ask-delays-once a b (no-delay h) (refuses k n s) = absurd (k h)
   ask-delays-once a b (no-delay h) (serves k x s c d) = absurd (k h)
@@ -49,7 +49,7 @@ no-refusal : {X : Type 0} (d : Delayed) (w : Why) → delay.told d ≡ refused (
 no-refusal (D.Given d) w e = clash (cc)
 no-refusal D.Refused w e = not-twenty-five w e
 
-pub asked-once : (r s : AskedDelay) → told r ≡ told s → r ≡ s
+asked-once : (r s : AskedDelay) → told r ≡ told s → r ≡ s
 asked-once (A.Answered d) (A.Answered e) p = ap A.Answered (told-once d e p)
 asked-once (A.Answered d) (A.Refused w) p = no-refusal d w p
 asked-once (A.Refused w) (A.Answered d) p = no-refusal d w (let q : delay.told d ≡ refused (number w) = cc in q)

@@ -44,7 +44,9 @@ pub fn ask_delay(
     second: u64,
     carrier: f64,
 ) -> AskedDelay
-    ensures { λ r. ⌜ AskDelays (question header (full texts (now (descriptions .entry))) (six (now (tec .entry)) (now (rms .entry)) (now (height .entry)) (now (exponents .entry)) (now (epochs .entry)) (now (marks .entry))) kind method layer lat lon second) carrier (told r) ⌝ }
+    ensures { λ r. ⌜ AskDelays (question header (full texts (now (descriptions .entry)))
+        (six (now (tec .entry)) (now (rms .entry)) (now (height .entry)) (now (exponents .entry)) (now (epochs .entry)) (now (marks .entry)))
+        kind method layer lat lon second) carrier (told r) ⌝ }
 {
     if kind == 2 {
         return AskedDelay::Refused(Why::Unknown);

@@ -3,7 +3,7 @@ use mathlib.Core.Path.{_≡_, refl, sym, ap, _∙_}
 use mathlib.Core.Logic.{⊎-elim}
 use mathlib.Core.List.{List}
 use mathlib.Core.Option.{Option, none, some}
-use Prim.Native.Nat.{ℕ, zero, suc, _^_, _≤_, _<_}
+use Prim.Native.Nat.{ℕ, zero, suc, _*_, _^_, _≤_, _<_}
 use native.Mathlib.Nat.{mul-le-mul}
 use native.Mathlib.Omega.{arith}
 use lib.IntN.{ℤ, pos, negsuc, natAbs, _+ℤ_, _*ℤ_}
@@ -11,17 +11,18 @@ use Rattle.kit.proofs.Parts.{parts-le, le-parts, abs-parts, abs-scale, one-zero
 use Rattle.kit.specs.Answer.{pick, ×-dec}
 use Rattle.kit.proofs.AnswerLaws.{pick-yes, pick-no, pick-elim}
 use Rattle.kit.specs.Integer.{Between}
-use Rattle.mapset.specs.Areas.{Present, present?}
+use Rattle.mapset.specs.Areas.{Present, present?, kind-number}
 use Rattle.mapset.specs.declared.Kind.{Kind}
 use Rattle.mapset.specs.declared.Kind.the-variants.{Tec as tec, Rms as rms, Height as height}
 use Rattle.ask_nodes.specs.Value.{IsValue, thousandths, is-value?, worth, kind-of, value}
-use Rattle.ask_nodes.specs.Nodes.{power-of, plain, in-node, Small, bare}
+use Rattle.ask_nodes.specs.Nodes.{power-of, plain, Small}
+use Rattle.ask_nodes.specs.Units.{in-node, bare}
 use Rattle.ask_nodes.specs.declared.Shape.{Shape}
 use Rattle.ask_nodes.specs.declared.Weighed.{Weighed}
 use Rattle.ask_nodes.specs.declared.Node.the-variants as N
 
 -- ---- powers of ten
-pub power-small : (k : ℤ) → power-of k ≤ 1000
+power-small : (k : ℤ) → power-of k ≤ 1000
 power-small (pos zero) = omega arith
 power-small (pos (suc k)) = omega arith
 power-small (negsuc zero) = omega arith
@@ -69,7 +70,7 @@ plain-some v k b g n =
     let p = powers k n in
     ap (λ (w : ℕ). some (pos w *ℤ v)) (p .1) ∙ sym (pick-yes (is-value? v k) _ _ (record { number = b; given = g; exponent = p .0 }))
 
-pub number-size : (v : ℤ) → Between (negsuc 9998) (pos 99999) v → natAbs v ≤ 99999
+number-size : (v : ℤ) → Between (negsuc 9998) (pos 99999) v → natAbs v ≤ 99999
 number-size v b =
     let l = parts-le (negsuc 9998) v (b .from) in
     let h = parts-le v (pos 99999) (b .to) in
@@ -112,6 +113,12 @@ pub other-kind : (k : ℕ) → ¬ (k ≡ 0) → ¬ (k ≡ 1) → kind-of k ≡ h
 other-kind zero m n = absurd (m refl)
 other-kind (suc zero) m n = absurd (n refl)
 other-kind (suc (suc k)) m n = refl
+
+pub kind-back : (k b : ℕ) → k < 3 → kind-number (kind-of k) * b ≡ k * b
+kind-back zero b h = refl
+kind-back (suc zero) b h = refl
+kind-back (suc (suc zero)) b h = refl
+kind-back (suc (suc (suc k))) b h = absurd (omega arith)
 
 pub tecu-node : (kind : ℕ) (v : ℤ) → kind < 2 → N.Tecu (record { 0 = v }) ≡ in-node (kind-of kind) (some v)
 tecu-node zero v h = refl

@@ -1,3 +1,4 @@
 -- The value at one node.
 pub mod Value
 pub mod Nodes
+pub mod Units

@@ -56,3 +56,11 @@ exponent-at s n = s .kind * (s .maps * (s .layers * s .rows)) + block s n
 unfoldable pub value : Shape → List ℤ → List ℤ → List ℕ → Weighed → Option ℤ
 value s values exponents marks n =
     worth (kind-of (s .kind)) (getD marks (n .map) 0) (getD values (number-at s n) (pos 0)) (getD exponents (exponent-at s n) (pos 0))
+
+-- a node of a map with a weight
+abbrev pub corner : ℕ → ℕ → ℕ → ℕ → Weighed
+corner weight map row column = record { weight = weight; map = map; row = row; column = column }
+
+abbrev pub or-zero : Option ℤ → ℤ
+or-zero none = pos 0
+or-zero (some v) = v

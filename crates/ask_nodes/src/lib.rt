@@ -5,7 +5,9 @@ ghost use lib.IntN.{pos};
 ghost use Rattle.kit.specs.Truth.{truth};
 ghost use Rattle.mapset.specs.Areas.{present?};
 ghost use Rattle.ask_nodes.specs.Value.{kind-of, block, value};
-ghost use Rattle.ask_nodes.specs.Nodes.{power-of, in-node, plain, Reached};
+ghost use Rattle.ask_nodes.specs.Nodes.{power-of, plain, Reached};
+ghost use Rattle.ask_nodes.specs.Units.{in-node};
+use mapset::Kind;
 
 // Thousandths of a TECU.
 pub struct MilliTecu(pub i32);
@@ -73,17 +75,24 @@ pub fn node_of(kind: u64, v: i32, k: i32) -> Node
     Node::Km(MilliKm(p * v))
 }
 
+// The kind of a number: 0 TEC, 1 RMS, 2 height.
+pub fn kind_of(kind: u64) -> Kind
+    ensures { λ r. ⌜ r ≡ kind-of kind ⌝ }
+{
+    if kind == 0 {
+        return Kind::Tec;
+    }
+    if kind == 1 {
+        return Kind::Rms;
+    }
+    Kind::Height
+}
+
 // Whether a map's mark says that the kind's map is there.
 pub fn is_present(kind: u64, mark: u8) -> bool
     ensures { λ r. ⌜ r ≡ truth (present? (kind-of kind) mark) ⌝ }
 {
-    if kind == 0 {
-        return true;
-    }
-    if kind == 1 {
-        return (mark == 1) | (mark == 3);
-    }
-    (mark == 2) | (mark == 3)
+    mapset::present(kind_of(kind), mark)
 }
 
 // The number of a node's block among all of its kind.
@@ -99,14 +108,8 @@ pub fn first_exponent(s: Shape) -> u64
     requires { ⌜ (s .kind < 3) × (s .layers * s .rows ≤ 2_000_000) × (s .maps * (s .layers * s .rows) ≤ 2_000_000) ⌝ }
     ensures { λ r. ⌜ r ≡ s .kind * (s .maps * (s .layers * s .rows)) ⌝ }
 {
-    let blocks = s.maps * (s.layers * s.rows);
-    if s.kind == 0 {
-        return 0;
-    }
-    if s.kind == 1 {
-        return blocks;
-    }
-    2 * blocks
+    let blocks = (s.maps * (s.layers * s.rows)) as usize;
+    mapset::blocks_before(kind_of(s.kind), blocks) as u64
 }
 
 pub fn node_at(n: Weighed, s: Shape, values: &[i32], exponents: &[i32], marks: &[u8]) -> Node

@@ -12,10 +12,11 @@ use borrow.Author.Tests.{le-ltb}
 use lib.IntN.{ℤ, pos, negsuc, negℤ, natAbs, _-ℤ_, _*ℤ_}
 use Rattle.kit.specs.Integer.{up, dn}
 use Rattle.kit.proofs.Parts.{add-parts, neg-up, neg-dn, scale-up, scale-dn, one-zero, eq-parts, abs-parts}
-use Rattle.ask_round.specs.Round.{apart, Nearest, roundAbs, rounded}
+use Rattle.ask_round.specs.Round.{apart, Nearest}
+use Rattle.ask_round.specs.Rounded.{roundAbs, rounded}
 
 -- ---- the distance, in naturals
-pub apart-is : (s : ℤ) (d : ℕ) (r : ℤ) → apart s d r ≡ ((d * up r + dn s) - (d * dn r + up s)) + ((d * dn r + up s) - (d * up r + dn s))
+apart-is : (s : ℤ) (d : ℕ) (r : ℤ) → apart s d r ≡ ((d * up r + dn s) - (d * dn r + up s)) + ((d * dn r + up s) - (d * up r + dn s))
 unfolding apart
 apart-is s d r =
     let z : ℤ = pos d *ℤ r -ℤ s in

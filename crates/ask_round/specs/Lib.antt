@@ -1,2 +1,3 @@
 -- The nearest whole number.
 pub mod Round
+pub mod Rounded

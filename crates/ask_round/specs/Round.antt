@@ -1,7 +1,7 @@
 -- The exact fraction s / d rounded once: to the nearest whole number, halves away from zero.
 use mathlib.Core.Path.{_≡_}
-use Prim.Native.Nat.{ℕ, suc, _+_, _*_, _/_, _≤_, _<_}
-use lib.IntN.{ℤ, pos, negsuc, negℤ, natAbs, _-ℤ_, _*ℤ_}
+use Prim.Native.Nat.{ℕ, _*_, _≤_, _<_}
+use lib.IntN.{ℤ, pos, natAbs, _-ℤ_, _*ℤ_}
 
 -- d times the distance of r from s / d
 unfoldable pub apart : ℤ → ℕ → ℤ → ℕ
@@ -11,11 +11,3 @@ apart s d r = natAbs (pos d *ℤ r -ℤ s)
 pub record Nearest (s : ℤ) (d : ℕ) (r : ℤ) : Type 0 where
   pub near : 2 * apart s d r ≤ d
   pub away : 2 * apart s d r ≡ d → natAbs s < d * natAbs r
-
--- the same, computed
-abbrev pub roundAbs : ℕ → ℕ → ℕ
-roundAbs m d = (2 * m + d) / (2 * d)
-
-unfoldable pub rounded : ℤ → ℕ → ℤ
-rounded (pos m) d = pos (roundAbs m d)
-rounded (negsuc m) d = negℤ (pos (roundAbs (suc m) d))

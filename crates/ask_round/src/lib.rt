@@ -2,7 +2,7 @@
 ghost use mathlib.Core.Path.{_≡_};
 ghost use Prim.Native.Nat.{_+_, _*_, _<_, _≤_, _^_};
 ghost use lib.IntN.{ℤ, pos, natAbs, _+ℤ_, _*ℤ_};
-ghost use Rattle.ask_round.specs.Round.{roundAbs, rounded};
+ghost use Rattle.ask_round.specs.Rounded.{roundAbs, rounded};
 
 // The nearest whole number to m / d, a half rounded up.
 fn round_abs(m: u64, d: u64) -> u64

@@ -10,8 +10,8 @@ use native.Mathlib.Omega.{arith}
 use lib.ListN.{length, getD}
 use Rattle.mapset.specs.Areas.{Follows}
 use Rattle.mapset.specs.Sound.{Runs}
-use Rattle.ask_spans.specs.Spans.{Regular, Close}
-use Rattle.ask_spans.specs.Time.{epoch, gap, NearestMap, alone, shared, Uses, nearest, between, last}
+use Rattle.ask_spans.specs.Spans.{Regular}
+use Rattle.ask_spans.specs.Time.{Close, epoch, gap, NearestMap, alone, shared, Uses, nearest, between, last}
 use Rattle.ask_spans.specs.declared.Shares.{Shares}
 
 -- ---- from the rules

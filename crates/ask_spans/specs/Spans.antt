@@ -22,7 +22,3 @@ pub record Spanned (es : List ℕ) (t : ℕ) : Type 0 where
   pub some : 1 ≤ length es
   pub from : epoch es 0 ≤ t
   pub to : (i : ℕ) → i + 1 ≡ length es → t ≤ epoch es i
-
--- no two neighbouring epochs are more than `limit` seconds apart
-abbrev pub Close : ℕ → List ℕ → Type 0
-Close limit es = (i : ℕ) → i + 1 < length es → epoch es (i + 1) ≤ epoch es i + limit

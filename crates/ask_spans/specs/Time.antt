@@ -13,6 +13,10 @@ epoch es i = getD es i 0
 abbrev pub gap : ℕ → ℕ → ℕ
 gap s t = (s - t) + (t - s)
 
+-- no two neighbouring epochs are more than `limit` seconds apart
+abbrev pub Close : ℕ → List ℕ → Type 0
+Close limit es = (i : ℕ) → i + 1 < length es → epoch es (i + 1) ≤ epoch es i + limit
+
 -- the nearest map, the earlier of two equally near
 pub record NearestMap (es : List ℕ) (t i : ℕ) : Type 0 where
   pub map : i < length es

@@ -2,8 +2,8 @@
 ghost use Prim.Native.Nat.{_+_, _≤_, _<_};
 ghost use lib.ListN.{length};
 ghost use Rattle.kit.specs.Truth.{Says};
-ghost use Rattle.ask_spans.specs.Time.{epoch, Uses};
-ghost use Rattle.ask_spans.specs.Spans.{Regular, Before, Spanned, Close};
+ghost use Rattle.ask_spans.specs.Time.{epoch, Uses, Close};
+ghost use Rattle.ask_spans.specs.Spans.{Regular, Before, Spanned};
 
 // The shares of a map and of the next one.
 pub struct Shares {

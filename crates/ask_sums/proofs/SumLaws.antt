@@ -15,11 +15,12 @@ use Rattle.kit.proofs.Parts.{abs-add-scaled}
 use Rattle.kit.specs.Answer.{All, pick}
 use Rattle.mapset.specs.declared.Kind.{Kind}
 use Rattle.mapset.specs.declared.Kind.the-variants.{Tec as tec, Rms as rms, Height as height}
-use Rattle.ask_nodes.specs.Value.{kind-of, value}
-use Rattle.ask_nodes.specs.Nodes.{in-node, Small, or-zero, corner, bare}
+use Rattle.ask_nodes.specs.Value.{kind-of, value, or-zero, corner}
+use Rattle.ask_nodes.specs.Nodes.{Small}
+use Rattle.ask_nodes.specs.Units.{in-node, bare}
 use Rattle.ask_nodes.proofs.NodeLaws.{small-value, bare-node}
-use Rattle.ask_sums.specs.Mean.{left, right, next-left, next-right, by-column, Term, Valued, valued?, corners, spread, terms, weighted, weight}
-use Rattle.ask_sums.specs.Sums.{four, beside, in-sum, add-node, add-value, add-all, Fits, Room, Ready}
+use Rattle.ask_sums.specs.Mean.{left, right, next-left, next-right, by-column, Term, Valued, corners, spread, terms, weighted, weight}
+use Rattle.ask_sums.specs.Sums.{valued?, four, beside, in-sum, add-node, add-value, add-all, Fits, SumRoom, Ready}
 use Rattle.ask_cells.specs.declared.Cell.{Cell}
 use Rattle.ask_spans.specs.declared.Shares.{Shares}
 use Rattle.ask_nodes.specs.declared.Shape.{Shape}
@@ -61,7 +62,7 @@ add-some height t u w v = refl
 fits-add : (t : ℤ) (u w : ℕ) (v : ℤ) (k : ℕ) → Fits t u (w + k) → natAbs v ≤ 99_999_000 → Fits (t +ℤ pos w *ℤ v) (u + w) k
 fits-add t u w v k h r = (omega (arith, abs-add-scaled t w v, mul-le-mul (le-refl w) r), omega arith)
 
-room-node : (s : Sum) (w : ℕ) (n : Node) (k : ℕ) → Room s (w + k) → Small (bare n) → Room (add-node s w n) k
+room-node : (s : Sum) (w : ℕ) (n : Node) (k : ℕ) → SumRoom s (w + k) → Small (bare n) → SumRoom (add-node s w n) k
 room-node S.Lacks w n k h r = omega arith
 room-node (S.Tecu t u) w N.Nothing k h r = omega arith
 room-node (S.Tecu t u) w (N.Tecu v) k h r = fits-add t u w (v .0) k h r
@@ -70,11 +71,11 @@ room-node (S.Km t u) w N.Nothing k h r = omega arith
 room-node (S.Km t u) w (N.Tecu v) k h r = omega arith
 room-node (S.Km t u) w (N.Km v) k h r = fits-add t u w (v .0) k h r
 
-pub room-add : (kind : Kind) (s : Sum) (w : ℕ) (o : Option ℤ) (k : ℕ) → Room s (w + k) → Small o → Room (add-value kind s w o) k
+room-add : (kind : Kind) (s : Sum) (w : ℕ) (o : Option ℤ) (k : ℕ) → SumRoom s (w + k) → Small o → SumRoom (add-value kind s w o) k
 room-add kind s zero o k h r = rw (zero-add k) at h
 room-add kind s (suc w) o k h r = room-node s (suc w) (in-node kind o) k h (rw (bare-node kind o) r)
 
-pub room-less : (s : Sum) (w k : ℕ) → Room s (w + k) → Room s w
+room-less : (s : Sum) (w k : ℕ) → SumRoom s (w + k) → SumRoom s w
 room-less S.Lacks w k h = omega arith
 room-less (S.Tecu t u) w k h = omega arith
 room-less (S.Km t u) w k h = omega arith
@@ -100,7 +101,7 @@ lacking-sum k ((zero, o) ∷ ts) n t u = lacking-sum k ts (λ a. n (inl refl, a)
 lacking-sum k ((suc w, none) ∷ ts) n t u = rw (add-none k t u w) (all-lacks k ts)
 lacking-sum k ((suc w, some v) ∷ ts) n t u = rw (add-some k t u w v) (lacking-sum k ts (λ a. n (inr tt, a)) (t +ℤ pos (suc w) *ℤ v) (u + suc w))
 
-room-all : (k : Kind) (s : Sum) (ts : List Term) → Room s (weight ts) → All (λ (t : Term). Small (t .1)) ts → Room (add-all k s ts) 0
+room-all : (k : Kind) (s : Sum) (ts : List Term) → SumRoom s (weight ts) → All (λ (t : Term). Small (t .1)) ts → SumRoom (add-all k s ts) 0
 unfolding add-all weight
 room-all k s [] h a = rw (zero-add 0) h
 room-all k s (t ∷ ts) h a = room-all k (add-value k s (t .0) (t .1)) ts (room-add k s (t .0) (t .1) (weight ts) h (a .0)) (a .1)
@@ -114,11 +115,11 @@ module _ (s : Shape) (vs ks : List ℤ) (ms : List ℕ) (ns : List Weighed) (d :
   unfolding terms
   split = rw (add-one, drop-cons ns k d h) refl
 
-  pub this-room : (t : Sum) → Room t (weight (terms s vs ks ms (drop k ns))) → Room t (this .weight)
+  pub this-room : (t : Sum) → SumRoom t (weight (terms s vs ks ms (drop k ns))) → SumRoom t (this .weight)
   unfolding weight
   this-room t r = room-less t (this .weight) (weight (terms s vs ks ms (drop (k + 1) ns))) (rw split at r)
 
-  pub next-room : (t : Sum) → Room t (weight (terms s vs ks ms (drop k ns))) → Room (add-value (kind-of (s .kind)) t (this .weight) (value s vs ks ms this)) (weight (terms s vs ks ms (drop (k + 1) ns)))
+  pub next-room : (t : Sum) → SumRoom t (weight (terms s vs ks ms (drop k ns))) → SumRoom (add-value (kind-of (s .kind)) t (this .weight) (value s vs ks ms this)) (weight (terms s vs ks ms (drop (k + 1) ns)))
   unfolding weight
   next-room t r = room-add (kind-of (s .kind)) t (this .weight) (value s vs ks ms this) (weight (terms s vs ks ms (drop (k + 1) ns))) (rw split at r) (small-value s vs ks ms this)
 
@@ -199,12 +200,12 @@ unfolding terms
 small-terms s vs ks ms [] = tt
 small-terms s vs ks ms (n ∷ ns) = (small-value s vs ks ms n, small-terms s vs ks ms ns)
 
-pub start-room : (k : Kind) (w : ℕ) → w ≤ 64_800_000_000 → Room (in-sum k (pos 0) 0) w
+pub start-room : (k : Kind) (w : ℕ) → w ≤ 64_800_000_000 → SumRoom (in-sum k (pos 0) 0) w
 start-room tec w h = omega arith
 start-room rms w h = omega arith
 start-room height w h = omega arith
 
-ready-in : (k : Kind) (t : ℤ) (u : ℕ) → Room (in-sum k t u) 0 → 0 < u → Ready (in-sum k t u)
+ready-in : (k : Kind) (t : ℤ) (u : ℕ) → SumRoom (in-sum k t u) 0 → 0 < u → Ready (in-sum k t u)
 ready-in tec t u r h = (r, h)
 ready-in rms t u r h = (r, h)
 ready-in height t u r h = (r, h)
@@ -212,10 +213,10 @@ ready-in height t u r h = (r, h)
 ready-sum : (k : Kind) (ts : List Term) → 0 < weight ts → weight ts ≤ 64_800_000_000 → All (λ (t : Term). Small (t .1)) ts → Ready (add-all k (in-sum k (pos 0) 0) ts)
 ready-sum k ts h w a = by (valued? ts) (room-all k (in-sum k (pos 0) 0) ts (start-room k (weight ts) w) a)
   where
-    by : Dec (Valued ts) → Room (add-all k (in-sum k (pos 0) 0) ts) 0 → Ready (add-all k (in-sum k (pos 0) 0) ts)
+    by : Dec (Valued ts) → SumRoom (add-all k (in-sum k (pos 0) 0) ts) 0 → Ready (add-all k (in-sum k (pos 0) 0) ts)
     by (yes v) r =
         let e = valued-sum k ts v (pos 0) 0 in
-        let f : Room (in-sum k (pos 0 +ℤ weighted ts) (0 + weight ts)) 0 = rw e at r in
+        let f : SumRoom (in-sum k (pos 0 +ℤ weighted ts) (0 + weight ts)) 0 = rw e at r in
         rw e (ready-in k _ _ f (omega arith))
     by (no n) r = rw (lacking-sum k ts n (pos 0) 0) tt
 

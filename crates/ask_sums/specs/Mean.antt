@@ -5,15 +5,14 @@ use mathlib.Core.List.{List, [], _∷_, _++_}
 use mathlib.Core.Option.{Option, none, some}
 use Prim.Native.Nat.{ℕ, _+_, _-_, _*_}
 use lib.IntN.{ℤ, pos, _+ℤ_, _*ℤ_}
-use native.Mathlib.Decide.{ℕ-discrete, decLt}
-use Rattle.kit.specs.Answer.{All, all-dec, pick, ⊎-dec}
-use Rattle.ask_round.specs.Round.{Nearest, rounded}
-use Rattle.ask_nodes.specs.Value.{value}
+use native.Mathlib.Decide.{decLt}
+use Rattle.kit.specs.Answer.{All, pick}
+use Rattle.ask_round.specs.Round.{Nearest}
+use Rattle.ask_nodes.specs.Value.{value, corner, or-zero}
 use Rattle.ask_cells.specs.declared.Cell.{Cell}
 use Rattle.ask_spans.specs.declared.Shares.{Shares}
 use Rattle.ask_nodes.specs.declared.Weighed.{Weighed}
 use Rattle.ask_nodes.specs.declared.Shape.{Shape}
-use Rattle.ask_nodes.specs.Nodes.{corner, or-zero}
 
 -- ---- the four nodes of a cell: 001's four-point formula times `tall` times `wide`, and a map's share
 
@@ -71,14 +70,3 @@ weight (t ∷ ts) = t .0 + weight ts
 -- v is the mean, rounded once
 abbrev pub Mean : List Term → ℤ → Type 0
 Mean ts v = Nearest (weighted ts) (weight ts) v
-
--- ---- the same, computed
-unfoldable pub valued? : (ts : List Term) → Dec (Valued ts)
-valued? ts = all-dec (λ (t : Term). ⊎-dec (ℕ-discrete (t .0) 0) (some? (t .1))) ts
-  where
-    some? : (o : Option ℤ) → Dec (IsSome o)
-    some? none = no (λ e. e)
-    some? (some v) = yes tt
-
-unfoldable pub mean : List Term → Option ℤ
-mean ts = pick (valued? ts) (some (rounded (weighted ts) (weight ts))) none

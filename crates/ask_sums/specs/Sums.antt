@@ -1,15 +1,18 @@
--- What the parts of the mean answer: the sum node by node.
+-- The mean computed, and what its parts answer: the sum node by node.
 use mathlib.Core.Path.{_≡_}
 use mathlib.Core.Logic.{_⊎_}
 use mathlib.Core.List.{List, [], _∷_}
 use mathlib.Core.Option.{Option, none, some}
 use Prim.Native.Nat.{ℕ, zero, suc, _+_, _*_, _≤_, _<_}
 use lib.IntN.{ℤ, pos, natAbs, _+ℤ_, _*ℤ_}
-use Rattle.kit.specs.Answer.{All}
+use native.Mathlib.Decide.{ℕ-discrete}
+use Rattle.kit.specs.Answer.{All, all-dec, pick, ⊎-dec}
 use Rattle.mapset.specs.declared.Kind.{Kind}
 use Rattle.mapset.specs.declared.Kind.the-variants.{Tec as tec, Rms as rms, Height as height}
-use Rattle.ask_nodes.specs.Nodes.{Reached, Small, in-node, bare}
-use Rattle.ask_sums.specs.Mean.{left, right, next-left, next-right, spread, Term, terms, weight}
+use Rattle.ask_nodes.specs.Nodes.{Reached, Small}
+use Rattle.ask_nodes.specs.Units.{in-node, bare}
+use Rattle.ask_round.specs.Rounded.{rounded}
+use Rattle.ask_sums.specs.Mean.{left, right, next-left, next-right, spread, Term, terms, IsSome, Valued, weighted, weight}
 use Rattle.ask_cells.specs.declared.Cell.{Cell}
 use Rattle.ask_spans.specs.declared.Shares.{Shares}
 use Rattle.ask_nodes.specs.declared.Weighed.{Weighed}
@@ -18,6 +21,19 @@ use Rattle.ask_nodes.specs.declared.Node.{Node}
 use Rattle.ask_nodes.specs.declared.Node.the-variants as N
 use Rattle.ask_sums.specs.declared.Sum.{Sum}
 use Rattle.ask_sums.specs.declared.Sum.the-variants as S
+
+-- ---- `Mean`, computed
+unfoldable pub valued? : (ts : List Term) → Dec (Valued ts)
+valued? ts = all-dec (λ (t : Term). ⊎-dec (ℕ-discrete (t .0) 0) (some? (t .1))) ts
+  where
+    some? : (o : Option ℤ) → Dec (IsSome o)
+    some? none = no (λ e. e)
+    some? (some v) = yes tt
+
+unfoldable pub mean : List Term → Option ℤ
+mean ts = pick (valued? ts) (some (rounded (weighted ts) (weight ts))) none
+
+-- ---- nodes in the areas
 
 -- each needed node is
 abbrev pub Reaches : List ℤ → List ℤ → List ℕ → Shape → Weighed → Type 0
@@ -81,14 +97,18 @@ unfoldable pub add-all : Kind → Sum → List Term → Sum
 add-all k s [] = s
 add-all k s (t ∷ ts) = add-all k (add-value k s (t .0) (t .1)) ts
 
+-- from nothing on
+abbrev pub sum-all : Kind → List Term → Sum
+sum-all k ts = add-all k (in-sum k (pos 0) 0) ts
+
 -- the sum is no larger than its weight allows, and there is room for the weight w
 abbrev pub Fits : ℤ → ℕ → ℕ → Type 0
 Fits t u w = (natAbs t ≤ u * 99_999_000) × (u + w ≤ 64_800_000_000)
 
-abbrev pub Room : Sum → ℕ → Type 0
-Room S.Lacks w = w ≤ 64_800_000_000
-Room (S.Tecu t u) w = Fits t u w
-Room (S.Km t u) w = Fits t u w
+abbrev pub SumRoom : Sum → ℕ → Type 0
+SumRoom S.Lacks w = w ≤ 64_800_000_000
+SumRoom (S.Tecu t u) w = Fits t u w
+SumRoom (S.Km t u) w = Fits t u w
 
 abbrev pub InRange : Node → Type 0
 InRange n = Small (bare n)

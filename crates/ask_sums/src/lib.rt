@@ -3,10 +3,9 @@ ghost use mathlib.Core.Path.{_≡_};
 ghost use Prim.Native.Nat.{_*_, _≤_, _<_};
 ghost use lib.IntN.{pos};
 ghost use lib.ListN.{getD};
-ghost use Rattle.ask_nodes.specs.Nodes.{corner};
-ghost use Rattle.ask_nodes.specs.Value.{kind-of, value};
+ghost use Rattle.ask_nodes.specs.Value.{corner, kind-of, value};
 ghost use Rattle.ask_sums.specs.Mean.{corners, spread, terms};
-ghost use Rattle.ask_sums.specs.Sums.{Reaches, Shared, Summable, Room, InRange, four, beside, in-sum, add-node, add-value, add-all};
+ghost use Rattle.ask_sums.specs.Sums.{Reaches, Shared, Summable, SumRoom, InRange, four, beside, in-sum, add-node, add-value, sum-all};
 use ask_cells::Cell;
 use ask_nodes::Node;
 use ask_nodes::Shape;
@@ -33,7 +32,7 @@ fn empty(kind: u64) -> Sum
 }
 
 fn add_tecu(total: i64, weights: u64, weight: u64, n: Node) -> Sum
-    requires { ⌜ Room (Sum.Tecu total weights) weight × InRange n ⌝ }
+    requires { ⌜ SumRoom (Sum.Tecu total weights) weight × InRange n ⌝ }
     ensures { λ r. ⌜ r ≡ add-node (Sum.Tecu total weights) weight n ⌝ }
 {
     match n {
@@ -44,7 +43,7 @@ fn add_tecu(total: i64, weights: u64, weight: u64, n: Node) -> Sum
 }
 
 fn add_km(total: i64, weights: u64, weight: u64, n: Node) -> Sum
-    requires { ⌜ Room (Sum.Km total weights) weight × InRange n ⌝ }
+    requires { ⌜ SumRoom (Sum.Km total weights) weight × InRange n ⌝ }
     ensures { λ r. ⌜ r ≡ add-node (Sum.Km total weights) weight n ⌝ }
 {
     match n {
@@ -56,7 +55,7 @@ fn add_km(total: i64, weights: u64, weight: u64, n: Node) -> Sum
 
 // The sum with a needed node.
 fn add(sum: Sum, weight: u64, n: Node) -> Sum
-    requires { ⌜ Room sum weight × InRange n ⌝ }
+    requires { ⌜ SumRoom sum weight × InRange n ⌝ }
     ensures { λ r. ⌜ r ≡ add-node sum weight n ⌝ }
 {
     match sum {
@@ -68,7 +67,7 @@ fn add(sum: Sum, weight: u64, n: Node) -> Sum
 
 // The sum with a node, which is looked at where its weight is not zero.
 fn term(sum: Sum, n: Weighed, s: Shape, values: &[i32], exponents: &[i32], marks: &[u8]) -> Sum
-    requires { ⌜ Room sum (n .weight) × Reaches (now values) (now exponents) (now marks) s n ⌝ }
+    requires { ⌜ SumRoom sum (n .weight) × Reaches (now values) (now exponents) (now marks) s n ⌝ }
     ensures { λ r. ⌜ r ≡ add-value (kind-of (s .kind)) sum (n .weight) (value s (now (values .entry)) (now (exponents .entry)) (now (marks .entry)) n) ⌝ }
 {
     if n.weight == 0 {
@@ -159,7 +158,7 @@ pub fn sum_of(
     marks: &[u8],
 ) -> Sum
     requires { ⌜ Summable (now values) (now exponents) (now marks) s shares first second ⌝ }
-    ensures { λ r. ⌜ r ≡ add-all (kind-of (s .kind)) (in-sum (kind-of (s .kind)) (pos 0) 0) (terms s (now (values .entry)) (now (exponents .entry)) (now (marks .entry)) (spread shares first second)) ⌝ }
+    ensures { λ r. ⌜ r ≡ sum-all (kind-of (s .kind)) (terms s (now (values .entry)) (now (exponents .entry)) (now (marks .entry)) (spread shares first second)) ⌝ }
 {
     let mut sum = empty(s.kind);
     let mut k: u64 = 0;

@@ -1,3 +1,4 @@
+pub mod CauseOrder
 pub mod NodeList
 pub mod Once
 pub mod Order

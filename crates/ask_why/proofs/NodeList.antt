@@ -3,7 +3,7 @@ use mathlib.Core.Path.{_≡_, refl, sym, ap, _∙_}
 use mathlib.Core.Logic.{inl, inr}
 use mathlib.Core.List.{List, [], _∷_, _++_, map, append-nil}
 use mathlib.Core.Option.{Option, none, some}
-use Prim.Native.Nat.{ℕ, zero, suc, _+_, _-_, _≤_, _<_}
+use Prim.Native.Nat.{ℕ, suc, _+_, _-_, _≤_, _<_}
 use native.Mathlib.Decide.{ℕ-discrete}
 use native.Mathlib.Omega.{arith}
 use lib.IntN.{ℤ, pos, negsuc}
@@ -18,14 +18,14 @@ use Rattle.kit.specs.Integer.{Between, int?, between?}
 use Rattle.mapset.specs.Areas.{Present, present?}
 use Rattle.mapset.specs.declared.Kind.{Kind}
 use Rattle.mapset.specs.declared.Kind.the-variants.{Tec as tec, Rms as rms, Height as height}
-use Rattle.ask_nodes.specs.Value.{IsValue, is-value?, thousandths, worth, kind-of, number-at, exponent-at, value}
-use Rattle.ask_nodes.specs.Nodes.{in-node}
+use Rattle.ask_nodes.specs.Value.{IsValue, is-value?, thousandths, worth, kind-of, value}
+use Rattle.ask_nodes.specs.Units.{in-node}
 use Rattle.ask_nodes.specs.declared.Node.the-variants as N
 use Rattle.ask_nodes.specs.declared.Shape.{Shape}
 use Rattle.ask_nodes.specs.declared.Weighed.{Weighed}
 use Rattle.ask_cells.specs.declared.Cell.{Cell}
 use Rattle.ask_spans.specs.declared.Shares.{Shares}
-use Rattle.ask_sums.specs.Mean.{corners, spread, Term, IsSome, Valued, terms}
+use Rattle.ask_sums.specs.Mean.{corners, spread, IsSome, Valued, terms}
 use Rattle.ask_sums.proofs.SumLaws.{all-corners}
 use Rattle.ask_why.specs.Explain.{needed, filler, places, Causes, absent, by-exponent, by-number, is-9999}
 use Rattle.ask_why.specs.Parts.{node-with, put, add, collect, plain-cause, cause-of, lack-with, found, or-else, cause, lacks, first}
@@ -200,7 +200,7 @@ cause-once kind mark v k c d (is-9999 q y a) (is-9999 p x b) = refl
 -- ---- the first that has no value
 module _ (s : Shape) (vs ks : List ℤ) (ms : List ℕ) where
   -- a value at each of these nodes, none at the next
-  pub record Found (ns : List Weighed) : Type 0 where
+  pub record NodeFound (ns : List Weighed) : Type 0 where
     pub before : List Weighed
     pub node : Weighed
     pub behind : List Weighed
@@ -218,13 +218,13 @@ module _ (s : Shape) (vs ks : List ℤ) (ms : List ℕ) where
     unfolding needed first
     heavy z o e = (pick-no (ℕ-discrete (m .weight) 0) (needed ns) (m ∷ needed ns) z, ap (λ (f : First). or-else f (first s vs ks ms ns)) (lacks-by s vs ks ms m z o e))
 
-    skip : m .weight ≡ 0 → Found ns → Found (m ∷ ns)
+    skip : m .weight ≡ 0 → NodeFound ns → NodeFound (m ∷ ns)
     skip z f = record { before = f .before; node = f .node; behind = f .behind; order = light z .0 ∙ f .order; valued = f .valued; lacks = f .lacks; is = light z .1 ∙ f .is }
 
-    here : ¬ (m .weight ≡ 0) → value s vs ks ms m ≡ none → Found (m ∷ ns)
+    here : ¬ (m .weight ≡ 0) → value s vs ks ms m ≡ none → NodeFound (m ∷ ns)
     here z e = record { before = []; node = m; behind = needed ns; order = heavy z none e .0; valued = tt; lacks = e; is = heavy z none e .1 }
 
-    past : ¬ (m .weight ≡ 0) → (v : ℤ) → value s vs ks ms m ≡ some v → Found ns → Found (m ∷ ns)
+    past : ¬ (m .weight ≡ 0) → (v : ℤ) → value s vs ks ms m ≡ some v → NodeFound ns → NodeFound (m ∷ ns)
     past z v e f = record {
       before = m ∷ f .before;
       node = f .node;
@@ -235,13 +235,13 @@ module _ (s : Shape) (vs ks : List ℤ) (ms : List ℕ) where
       is = heavy z (some v) e .1 ∙ f .is;
     }
 
-    weighed : (Dec (m .weight ≡ 0)) → (o : Option ℤ) → value s vs ks ms m ≡ o → (¬ Valued (terms s vs ks ms ns) → Found ns) → ¬ Valued (terms s vs ks ms (m ∷ ns)) → Found (m ∷ ns)
+    weighed : (Dec (m .weight ≡ 0)) → (o : Option ℤ) → value s vs ks ms m ≡ o → (¬ Valued (terms s vs ks ms ns) → NodeFound ns) → ¬ Valued (terms s vs ks ms (m ∷ ns)) → NodeFound (m ∷ ns)
     unfolding terms
     weighed (yes z) o e f n = skip z (f (λ a. n (inl z, a)))
     weighed (no z) none e f n = here z e
     weighed (no z) (some v) e f n = past z v e (f (λ a. n (inr (rw e tt), a)))
 
-  pub find : (ns : List Weighed) → ¬ Valued (terms s vs ks ms ns) → Found ns
+  pub find : (ns : List Weighed) → ¬ Valued (terms s vs ks ms ns) → NodeFound ns
   unfolding terms
   find [] n = absurd (n tt)
   find (m ∷ ns) n = weighed m ns (ℕ-discrete (m .weight) 0) (value s vs ks ms m) refl (find ns) n

@@ -1,5 +1,5 @@
 -- No second explanation fits.
-use mathlib.Core.Path.{_≡_, refl, sym, ap, ap₂, _∙_}
+use mathlib.Core.Path.{_≡_, refl, sym, ap, _∙_}
 use mathlib.Core.List.{List, [], _∷_, _++_, map}
 use mathlib.Core.Option.{Option, none}
 use Prim.Native.Nat.{ℕ, _+_, _-_, _*_}
@@ -15,7 +15,7 @@ use Rattle.ask_spans.proofs.TimeLaws.{uses-once}
 use Rattle.ask_nodes.specs.Value.{value}
 use Rattle.ask_nodes.specs.declared.Weighed.{Weighed}
 use Rattle.ask_sums.specs.Mean.{IsSome}
-use Rattle.ask.specs.Ask.{Question, Told, tecu, km, refused, epochs, Answers, number}
+use Rattle.ask.specs.Ask.{Question, tecu, km, refused, epochs, Answers}
 use Rattle.ask.specs.Sun.{in-time}
 use Rattle.ask.proofs.AskLaws.{steady, epoch-last}
 use Rattle.ask.proofs.Once.{weighs-once, answers-once, number-once}
@@ -26,7 +26,7 @@ use Rattle.ask_why.specs.declared.Explained.{Explained}
 use Rattle.ask_why.specs.declared.Explained.the-variants as E
 use Rattle.ask_why.specs.declared.Explanation.{Explanation}
 use Rattle.ask_why.proofs.NodeList.{no-worth, cause-once}
-use Rattle.ask_why.proofs.WhyLaws.{Looks, opened}
+use Rattle.ask_why.proofs.WhyLaws.{opened}
 
 -- the first of a list that P does not hold of is one
 first-once : (P : Weighed → Type 0) (b c : List Weighed) (n m : Weighed) (x y : List Weighed) → All P b → ¬ P n → All P c → ¬ P m → b ++ (n ∷ x) ≡ c ++ (m ∷ y) → n ≡ m

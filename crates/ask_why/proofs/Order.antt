@@ -1,6 +1,6 @@
 -- The needed nodes come in the order map, row, column, and none of them twice.
 use mathlib.Core.Path.{_≡_, refl, ap, _∙_}
-use mathlib.Core.Logic.{_⊎_, inl, inr, ⊎-elim}
+use mathlib.Core.Logic.{_⊎_, inr, ⊎-elim}
 use mathlib.Core.List.{List, [], _∷_, _++_, map}
 use Prim.Native.Nat.{ℕ, _+_, _*_, _≤_, _<_}
 use native.Mathlib.Decide.{ℕ-discrete}
@@ -14,9 +14,8 @@ use Rattle.mapset.specs.declared.Axis.{Axis}
 use Rattle.ask_cells.specs.Place.{RightOf, first, next, InCell}
 use Rattle.ask_cells.specs.declared.Cell.{Cell}
 use Rattle.ask_cells.proofs.EarthLaws.{strip-turn}
-use Rattle.ask_spans.specs.declared.Shares.{Shares}
 use Rattle.ask_nodes.specs.declared.Weighed.{Weighed}
-use Rattle.ask_sums.specs.Mean.{left, right, next-left, next-right, corners, spread}
+use Rattle.ask_sums.specs.Mean.{right, corners, spread}
 use Rattle.ask_sums.proofs.SumLaws.{corners-elim, all-corners}
 use Rattle.ask.specs.Ask.{Question, Served, Weighs}
 use Rattle.ask.specs.Sun.{unit-of}

@@ -1,8 +1,8 @@
 -- An explanation worked out by hand: maps that turn with the Sun, asked at 342.50 halfway between two epochs 7,200 s apart, DLAT and DLON 5.0. The first
 -- map is looked at in the strip, at 357.50, the second at 327.50: four nodes of equal weight.
-use mathlib.Core.Path.{_≡_, refl}
+use mathlib.Core.Path.{refl}
 use mathlib.Core.Logic.{inl, inr}
-use mathlib.Core.List.{List, [], _∷_, _++_}
+use mathlib.Core.List.{[], _∷_}
 use Prim.Native.Nat.{ℕ}
 use native.Mathlib.Decide.{ℕ-discrete, decLt}
 use native.Mathlib.Omega.{arith}

@@ -2,8 +2,8 @@
 -- their weighted sum, rounded once, is the answer.
 use mathlib.Core.Path.{_≡_, refl, sym, ap, ap₂, _∙_}
 use mathlib.Core.Logic.{_⊎_, ⊎-elim}
-use mathlib.Core.List.{List, [], _∷_, _++_, map}
-use mathlib.Core.Option.{Option, none, some}
+use mathlib.Core.List.{List, [], _∷_, map}
+use mathlib.Core.Option.{none, some}
 use Prim.Native.Nat.{ℕ, _+_, _-_, _<_}
 use native.Mathlib.Decide.{ℕ-discrete}
 use native.Mathlib.Omega.{arith}
@@ -13,18 +13,18 @@ use lib.Seq.{take-append-seam}
 use Rattle.kit.specs.Answer.{All, pick}
 use Rattle.mapset.specs.Areas.{Sound}
 use Rattle.ask_round.specs.Round.{Nearest}
-use Rattle.ask_nodes.specs.Value.{kind-of, value}
-use Rattle.ask_nodes.specs.Nodes.{in-node, or-zero, bare}
+use Rattle.ask_nodes.specs.Value.{kind-of, value, or-zero}
+use Rattle.ask_nodes.specs.Units.{bare}
 use Rattle.ask_nodes.specs.declared.Weighed.{Weighed}
 use Rattle.ask_nodes.proofs.NodeLaws.{bare-node}
-use Rattle.ask_sums.specs.Mean.{IsSome, Term, Valued, terms, weighted, weight, spread}
-use Rattle.ask.specs.Ask.{Question, Told, tecu, km, refused, in-unit, stop, go, Served, Weighs, asked, Blended, Answers}
+use Rattle.ask_sums.specs.Mean.{IsSome, Valued, terms, weighted, weight}
+use Rattle.ask.specs.Ask.{Question, Told, refused, stop, go, Served, Weighs, asked, Blended, Answers}
 use Rattle.ask.specs.Ask as ask
 use Rattle.ask.specs.declared.Asked.{Asked}
 use Rattle.ask.proofs.AskLaws.{whole-weight}
 use Rattle.ask.proofs.Once.{weighs-once, answers-once}
 use Rattle.ask.proofs.Between.{thousandths-of, in-unit-of, some-once, none-some}
-use Rattle.ask_why.specs.Explain.{needed, value-of, listed, filler, places, FirstLacking, told, Lists, ListsNothing, Beside, Explains}
+use Rattle.ask_why.specs.Explain.{needed, value-of, listed, filler, FirstLacking, told, Lists, ListsNothing, Beside, Explains}
 use Rattle.ask_why.specs.Shown.{shown, weights, weighted-sum, Rising, Among, first, later}
 use Rattle.ask_why.specs.declared.Needed.{Needed}
 use Rattle.ask_why.specs.declared.Lacking.{Lacking}

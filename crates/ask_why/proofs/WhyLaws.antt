@@ -3,11 +3,10 @@ use mathlib.Core.Path.{_≡_, refl, sym, ap, ap₂, _∙_}
 use mathlib.Core.Bool.{true, false}
 use mathlib.Core.List.{List, [], _∷_, map}
 use mathlib.Core.Option.{none, some}
-use Prim.Native.Nat.{ℕ, suc, _+_, _-_, _*_, _≤_, _<_}
+use Prim.Native.Nat.{ℕ, suc, _+_, _-_, _*_, _<_}
 use native.Mathlib.Omega.{arith}
 use lib.IntN.{ℤ}
 use lib.ListN.{length}
-use Rattle.kit.specs.Answer.{All}
 use Rattle.mapset.specs.Grid.{layers}
 use Rattle.mapset.specs.Areas.{Sound}
 use Rattle.ask_cells.specs.declared.Cell.{Cell}
@@ -29,14 +28,13 @@ use Rattle.ask.specs.declared.Asked.the-variants as A
 use Rattle.ask.proofs.AskLaws.{steady, last-is, can-sum}
 use Rattle.ask.proofs.Once.{weighs-once}
 use Rattle.ask.proofs.Between.{thousandths-of, in-unit-of}
-use Rattle.ask_why.specs.Explain.{needed, listed, places, cell-size, Gap, nearest, last, between, Denominator, CauseAt, FirstLacking, told, Lists, ListsNothing, Explains}
-use Rattle.ask_why.specs.Parts.{Listable, none-listed, collect, first, lack-with, cause, blank, without, of-answer, denominator, with-nodes, explained-by, is-22, has-nodes}
+use Rattle.ask_why.specs.Explain.{needed, listed, places, Gap, nearest, last, between, Denominator, CauseAt, told, Lists, Explains}
+use Rattle.ask_why.specs.Parts.{Listable, none-listed, collect, first, cause, blank, without, of-answer, denominator, with-nodes, explained-by, is-22, has-nodes}
 use Rattle.ask_why.specs.declared.causes.First.{First}
-use Rattle.ask_why.specs.declared.causes.First.the-variants as F
 use Rattle.ask_why.specs.declared.nodes.Listing.{Listing}
 use Rattle.ask_why.specs.declared.Explained.{Explained}
 use Rattle.ask_why.specs.declared.Explained.the-variants as E
-use Rattle.ask_why.proofs.NodeList.{shown, collected, causes, Found, find}
+use Rattle.ask_why.proofs.NodeList.{collected, causes, NodeFound, find}
 
 -- ---- an answer that looked at nodes has passed all tests before
 abbrev pub Looks : Told → Type 0
@@ -88,7 +86,7 @@ unexplained q (A.Km v) x e = absurd (let z : _≡_ {A = ℕ} 0 1 = cc in omega a
 unexplained q (A.Refused w) x e = record { answers = x; beside = (other-22 w e, record { count = refl; denominator = refl; listed = refl }) }
 
 -- ---- the denominator
-pub gap-of : (q : Question) → Sound (q .header) (q .texts) (q .areas) → (h : Shares) → Uses (epochs q) (q .second) (in-time (q .method)) h → Gap q (h .early + h .late)
+gap-of : (q : Question) → Sound (q .header) (q .texts) (q .areas) → (h : Shares) → Uses (epochs q) (q .second) (in-time (q .method)) h → Gap q (h .early + h .late)
 gap-of q sound h (time.nearest i e n) = nearest e
 gap-of q sound h (time.between i e l p r) =
     let z : (epoch (epochs q) (i + 1) - q .second) + (q .second - epoch (epochs q) i) ≡ epoch (epochs q) (i + 1) - epoch (epochs q) i = omega (arith, p, r) in
@@ -135,7 +133,7 @@ module _ (q : Question) (sound : Sound (q .header) (q .texts) (q .areas)) (h : S
       record { nodes = ns; weighs = weighs; count = ap (λ (l : Listing). l .count) listing-is ∙ length-listed q (needed ns); denominator = denominator-is; listed = ap (λ (l : Listing). l .nodes) listing-is }
 
   -- the cause of the node that was found
-  found-cause : (f : Found (shape q) (area (kind-of (q .kind)) (q .areas)) (q .areas .exponents) (q .areas .marks) ns) → CauseAt q (f .node) (cause (shape q) (area (kind-of (q .kind)) (q .areas)) (q .areas .exponents) (q .areas .marks) (f .node))
+  found-cause : (f : NodeFound (shape q) (area (kind-of (q .kind)) (q .areas)) (q .areas .exponents) (q .areas .marks) ns) → CauseAt q (f .node) (cause (shape q) (area (kind-of (q .kind)) (q .areas)) (q .areas .exponents) (q .areas .marks) (f .node))
   unfolding cause value
   found-cause f = causes _ _ _ _ (f .lacks)
 

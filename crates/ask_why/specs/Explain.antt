@@ -12,7 +12,7 @@ use Rattle.mapset.specs.Areas.{Present}
 use Rattle.mapset.specs.declared.Kind.{Kind}
 use Rattle.ask_spans.specs.Time.{epoch}
 use Rattle.ask_nodes.specs.Value.{kind-of, number-at, exponent-at, value}
-use Rattle.ask_nodes.specs.Nodes.{in-node}
+use Rattle.ask_nodes.specs.Units.{in-node}
 use Rattle.ask_nodes.specs.declared.Weighed.{Weighed}
 use Rattle.ask_nodes.specs.declared.Node.the-variants as N
 use Rattle.ask_sums.specs.Mean.{IsSome}

@@ -1,9 +1,8 @@
 -- What the parts of an explanation answer: the nodes one by one.
-use mathlib.Core.Path.{_≡_}
 use mathlib.Core.Bool.{Bool, true, false}
 use mathlib.Core.List.{List, [], _∷_}
 use mathlib.Core.Option.{Option, none, some}
-use Prim.Native.Nat.{ℕ, _+_, _*_, _≤_, _<_}
+use Prim.Native.Nat.{ℕ, _+_, _*_, _≤_}
 use native.Mathlib.Decide.{ℕ-discrete}
 use lib.IntN.{ℤ, pos, negsuc}
 use lib.ListN.{getD, set, replicate}
@@ -14,7 +13,7 @@ use Rattle.mapset.specs.declared.Kind.{Kind}
 use Rattle.ask_cells.specs.declared.Cell.{Cell}
 use Rattle.ask_spans.specs.declared.Shares.{Shares}
 use Rattle.ask_nodes.specs.Value.{kind-of, number-at, exponent-at, value}
-use Rattle.ask_nodes.specs.Nodes.{in-node}
+use Rattle.ask_nodes.specs.Units.{in-node}
 use Rattle.ask_nodes.specs.declared.Weighed.{Weighed}
 use Rattle.ask_nodes.specs.declared.Shape.{Shape}
 use Rattle.ask_nodes.specs.declared.Node.{Node}

@@ -5,7 +5,8 @@ use Prim.Native.Nat.{ℕ, _+_, _<_}
 use lib.IntN.{ℤ, pos, _+ℤ_, _*ℤ_}
 use lib.ListN.{take}
 use Rattle.kit.specs.Answer.{All}
-use Rattle.ask_nodes.specs.Nodes.{or-zero, bare}
+use Rattle.ask_nodes.specs.Units.{bare}
+use Rattle.ask_nodes.specs.Value.{or-zero}
 use Rattle.ask_why.specs.declared.Needed.{Needed}
 use Rattle.ask_why.specs.declared.Explanation.{Explanation}
 

@@ -3,8 +3,8 @@ ghost use mathlib.Core.Path.{_≡_};
 ghost use Prim.Native.Nat.{_+_, _≤_};
 ghost use Rattle.mapset.specs.Described.{full};
 ghost use Rattle.mapset.specs.Areas.{six};
-ghost use Rattle.ask_nodes.specs.Value.{kind-of};
-ghost use Rattle.ask.specs.Ask.{of-kind, question};
+ghost use Rattle.ask.specs.Ask.{question};
+ghost use Rattle.ask.specs.Looked.{asked-values};
 ghost use Rattle.ask_why.specs.Explain.{Explains};
 ghost use Rattle.ask_why.specs.Parts as parts;
 ghost use Rattle.ask_why.specs.Parts.{Listable, of-answer, without, explained-by, has-nodes};
@@ -175,8 +175,8 @@ fn explain_kind(
     exponents: &[i32],
     marks: &[u8],
 ) -> Explanation
-    requires { ⌜ Listable (of-kind (kind-of (s .kind)) (now tec) (now rms) (now height)) (now exponents) (now marks) s shares first second ⌝ }
-    ensures { λ r. ⌜ r ≡ explained-by asked shares first second s (of-kind (kind-of (s .kind)) (now (tec .entry)) (now (rms .entry)) (now (height .entry))) (now (exponents .entry)) (now (marks .entry)) ⌝ }
+    requires { ⌜ Listable (asked-values s (now tec) (now rms) (now height)) (now exponents) (now marks) s shares first second ⌝ }
+    ensures { λ r. ⌜ r ≡ explained-by asked shares first second s (asked-values s (now (tec .entry)) (now (rms .entry)) (now (height .entry))) (now (exponents .entry)) (now (marks .entry)) ⌝ }
 {
     if s.kind == 0 {
         return explain_in(asked, shares, first, second, s, tec, exponents, marks);
@@ -204,7 +204,9 @@ pub fn explain(
     lon: i32,
     second: u64,
 ) -> Explanation
-    ensures { λ r. ⌜ Explains (question header (full texts (now (descriptions .entry))) (six (now (tec .entry)) (now (rms .entry)) (now (height .entry)) (now (exponents .entry)) (now (epochs .entry)) (now (marks .entry))) kind method layer lat lon second) r ⌝ }
+    ensures { λ r. ⌜ Explains (question header (full texts (now (descriptions .entry)))
+        (six (now (tec .entry)) (now (rms .entry)) (now (height .entry)) (now (exponents .entry)) (now (epochs .entry)) (now (marks .entry)))
+        kind method layer lat lon second) r ⌝ }
 {
     let asked = ask::ask(
         header,

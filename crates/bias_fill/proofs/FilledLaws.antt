@@ -32,30 +32,30 @@ use Rattle.bias_fill.specs.declared.Fill.{Fill}
 
 module _ (b : Biases) (ns nt : ℕ) (l : Lent) where
   -- the areas with a satellite's four numbers, and with a station's numbers and name
-  abbrev pub with-fours : List ℤ → Lent
+  abbrev with-fours : List ℤ → Lent
   with-fours xs = lent (sets (l .satellites) (4 * ns) xs) (l .stations) (l .names)
 
-  abbrev pub with-station-of : List ℤ → List ℕ → Lent
+  abbrev with-station-of : List ℤ → List ℕ → Lent
   with-station-of xs ys = lent (l .satellites) (sets (l .stations) (3 * nt) xs) (sets (l .names) (20 * nt) ys)
 
-  pub satellite-stored : (a : Answer Fault Satellite) → stored b (ns + one a) nt (with-fours (fours a)) ≡ stored (with-satellite a b) ns nt l
+  satellite-stored : (a : Answer Fault Satellite) → stored b (ns + one a) nt (with-fours (fours a)) ≡ stored (with-satellite a b) ns nt l
   unfolding with-satellite
   satellite-stored (ok s) = λ i. lent (sets-append (four s) (of-satellites (b .satellites)) (l .satellites) (4 * ns) (4 * (ns + 1)) (omega arith) i) (sets (l .stations) (3 * nt) (of-stations (b .stations))) (sets (l .names) (20 * nt) (names-of (b .stations)))
   satellite-stored (refused w) = let e : ns + 0 ≡ ns = omega arith in ap (λ (k : ℕ). stored b k nt l) e
 
-  pub satellite-fits : (a : Answer Fault Satellite) → Fits (with-satellite a b) ns nt l → Fits b (ns + one a) nt (with-fours (fours a))
+  satellite-fits : (a : Answer Fault Satellite) → Fits (with-satellite a b) ns nt l → Fits b (ns + one a) nt (with-fours (fours a))
   unfolding with-satellite
   satellite-fits (ok s) h =
       let k = length-sets (l .satellites) (4 * ns) (four s) in
       record { satellites = omega (arith, h .satellites, length-append (four s) (of-satellites (b .satellites))); stations = h .stations; names = h .names }
   satellite-fits (refused w) h = record { satellites = omega (arith, h .satellites); stations = h .stations; names = h .names }
 
-  pub satellite-room : (a : Answer Fault Satellite) → Fits (with-satellite a b) ns nt l → 4 * ns + length (fours a) ≤ length (l .satellites)
+  satellite-room : (a : Answer Fault Satellite) → Fits (with-satellite a b) ns nt l → 4 * ns + length (fours a) ≤ length (l .satellites)
   unfolding with-satellite
   satellite-room (ok s) h = omega (arith, h .satellites, length-append (four s) (of-satellites (b .satellites)))
   satellite-room (refused w) h = omega (arith, h .satellites)
 
-  pub station-stored : (a : Answer Fault Station) → length (named a) ≡ 20 * one a → stored b ns (nt + one a) (with-station-of (threes a) (named a)) ≡ stored (with-station a b) ns nt l
+  station-stored : (a : Answer Fault Station) → length (named a) ≡ 20 * one a → stored b ns (nt + one a) (with-station-of (threes a) (named a)) ≡ stored (with-station a b) ns nt l
   unfolding with-station
   station-stored (ok s) e =
       λ i. lent (sets (l .satellites) (4 * ns) (of-satellites (b .satellites)))
@@ -63,7 +63,7 @@ module _ (b : Biases) (ns nt : ℕ) (l : Lent) where
       (sets-append (s .name) (names-of (b .stations)) (l .names) (20 * nt) (20 * (nt + 1)) (omega arith) i)
   station-stored (refused w) e = let f : nt + 0 ≡ nt = omega arith in ap (λ (k : ℕ). stored b ns k l) f
 
-  pub station-fits : (a : Answer Fault Station) → length (named a) ≡ 20 * one a → Fits (with-station a b) ns nt l → Fits b ns (nt + one a) (with-station-of (threes a) (named a))
+  station-fits : (a : Answer Fault Station) → length (named a) ≡ 20 * one a → Fits (with-station a b) ns nt l → Fits b ns (nt + one a) (with-station-of (threes a) (named a))
   unfolding with-station
   station-fits (ok s) e h =
       let k = length-sets (l .stations) (3 * nt) (three s) in
@@ -75,7 +75,7 @@ module _ (b : Biases) (ns nt : ℕ) (l : Lent) where
       }
   station-fits (refused w) e h = record { satellites = h .satellites; stations = omega (arith, h .stations); names = omega (arith, h .names) }
 
-  pub station-room : (a : Answer Fault Station) → Fits (with-station a b) ns nt l
+  station-room : (a : Answer Fault Station) → Fits (with-station a b) ns nt l
       → (3 * nt + length (threes a) ≤ length (l .stations)) × (20 * nt + length (named a) ≤ length (l .names))
   unfolding with-station
   station-room (ok s) h =

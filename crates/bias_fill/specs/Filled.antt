@@ -7,6 +7,7 @@ use lib.ListN.{length}
 use lib.IntN.{ℤ}
 use lib.Seq.{sets}
 use Rattle.kit.specs.Answer.{Answer, ok, refused}
+use Rattle.layout.specs.Text.{pad}
 use Rattle.reading.specs.Feed.{Fault, Feed, over as ends, bad, row}
 use Rattle.biases.specs.Biases.{Biases, nothing}
 use Rattle.biases.specs.Read.{role, satellite-of, station-of}
@@ -51,6 +52,27 @@ threes (refused w) = []
 abbrev pub named : Answer Fault Station → List ℕ
 named (ok s) = s .name
 named (refused w) = []
+
+-- ---- the record of a line, stored behind k others of its kind
+
+-- there is room for it
+abbrev pub SatelliteFits : (line : List ℕ) (k : ℕ) (satellites : List ℤ) → Type 0
+SatelliteFits line k l = (length line ≤ 80) × (4 * k + length (fours (satellite-of (pad line))) ≤ length l)
+
+abbrev pub StationFits : (line : List ℕ) (k : ℕ) (stations : List ℤ) (names : List ℕ) → Type 0
+StationFits line k l ns =
+    (length line ≤ 80) × (3 * k + length (threes (station-of (pad line))) ≤ length l) × (20 * k + length (named (station-of (pad line))) ≤ length ns)
+
+-- the area l, with the stations' names ns, has become l′ and ns′; r are then stored
+abbrev pub SatelliteStored : (line : List ℕ) (k : ℕ) (l : List ℤ) (r : ℕ) (l′ : List ℤ) → Type 0
+SatelliteStored line k l r l′ = (r ≡ k + one (satellite-of (pad line))) × (l′ ≡ sets l (4 * k) (fours (satellite-of (pad line))))
+
+abbrev pub StationStored : (line : List ℕ) (k : ℕ) (l : List ℤ) (ns : List ℕ) (r : ℕ) (l′ : List ℤ) (ns′ : List ℕ) → Type 0
+StationStored line k l ns r l′ ns′ =
+    (r ≡ k + one (station-of (pad line)))
+    × (length (named (station-of (pad line))) ≡ 20 * one (station-of (pad line)))
+    × (l′ ≡ sets l (3 * k) (threes (station-of (pad line))))
+    × (ns′ ≡ sets ns (20 * k) (named (station-of (pad line))))
 
 -- ---- stored behind what is stored already
 

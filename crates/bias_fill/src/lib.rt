@@ -5,8 +5,6 @@ ghost use Prim.Native.Nat.{_+_, _*_, _<_, _≤_};
 ghost use lib.ListN.{length};
 ghost use lib.IntN.{pos};
 ghost use lib.Seq.{sets};
-ghost use Rattle.layout.specs.Text.{pad};
-ghost use Rattle.biases.specs.Read.{satellite-of, station-of};
 ghost use Rattle.bias_fill.specs.Flat.{four, three, lent};
 ghost use Rattle.bias_fill.specs.Filled as filled;
 use bias_line::SatelliteSaid;
@@ -106,8 +104,8 @@ fn over(f: Fill) -> Fill
 
 // How many satellites are stored after a satellite's row, which is stored if it is well-formed.
 fn store_satellite(line: &[u8], k: usize, out: &mut [i32]) -> usize
-    requires { ⌜ (length (now line) ≤ 80) × (4 * k + length (filled.fours (satellite-of (pad (now line)))) ≤ length (now out)) ⌝ }
-    ensures { λ r. ⌜ (r ≡ k + filled.one (satellite-of (pad (now (line .entry))))) × (now (out .exit) ≡ sets (now (out .entry)) (4 * k) (filled.fours (satellite-of (pad (now (line .entry)))))) ⌝ }
+    requires { ⌜ filled.SatelliteFits (now line) k (now out) ⌝ }
+    ensures { λ r. ⌜ filled.SatelliteStored (now (line .entry)) k (now (out .entry)) r (now (out .exit)) ⌝ }
 {
     match bias_line::satellite(line) {
         SatelliteSaid::Refused(_, _) => k,
@@ -119,11 +117,8 @@ fn store_satellite(line: &[u8], k: usize, out: &mut [i32]) -> usize
 }
 
 fn store_station(line: &[u8], k: usize, out: &mut [i32], names: &mut [u8]) -> usize
-    requires { ⌜ (length (now line) ≤ 80) × (3 * k + length (filled.threes (station-of (pad (now line)))) ≤ length (now out)) × (20 * k + length (filled.named (station-of (pad (now line)))) ≤ length (now names)) ⌝ }
-    ensures { λ r. ⌜ (r ≡ k + filled.one (station-of (pad (now (line .entry)))))
-        × (length (filled.named (station-of (pad (now (line .entry))))) ≡ 20 * filled.one (station-of (pad (now (line .entry)))))
-        × (now (out .exit) ≡ sets (now (out .entry)) (3 * k) (filled.threes (station-of (pad (now (line .entry))))))
-        × (now (names .exit) ≡ sets (now (names .entry)) (20 * k) (filled.named (station-of (pad (now (line .entry)))))) ⌝ }
+    requires { ⌜ filled.StationFits (now line) k (now out) (now names) ⌝ }
+    ensures { λ r. ⌜ filled.StationStored (now (line .entry)) k (now (out .entry)) (now (names .entry)) r (now (out .exit)) (now (names .exit)) ⌝ }
 {
     let read = bias_line::station(line);
     let said = read.said;
@@ -133,7 +128,7 @@ fn store_station(line: &[u8], k: usize, out: &mut [i32], names: &mut [u8]) -> us
         StationSaid::Refused(_, _) => k,
         StationSaid::Given => {
             put_station(out, 3 * k, s);
-            c_header::copy_at(&name, names, 20 * k);
+            kit::copy_at(&name, names, 20 * k);
             k + 1
         }
     }
@@ -147,7 +142,10 @@ fn fill_row(
     names: &mut [u8],
 ) -> Fill
     requires { ⌜ filled.BiasRoom (now text) f (lent (now satellites) (now stations) (now names)) ⌝ }
-    ensures { λ r. ⌜ filled.Fills (now (text .entry)) f (lent (now (satellites .entry)) (now (stations .entry)) (now (names .entry))) (r .done) r (lent (now (satellites .exit)) (now (stations .exit)) (now (names .exit))) ⌝ }
+    ensures { λ r. ⌜ filled.Fills (now (text .entry)) f
+        (lent (now (satellites .entry)) (now (stations .entry)) (now (names .entry)))
+        (r .done) r
+        (lent (now (satellites .exit)) (now (stations .exit)) (now (names .exit))) ⌝ }
 {
     let place = f.place;
     match bias_scan::next_row(text, f.at, f.lines, place) {
@@ -168,7 +166,8 @@ fn fill_row(
 // What the header's rows give, into areas that are long enough.
 pub fn fill_areas(text: &[u8], satellites: &mut [i32], stations: &mut [i32], names: &mut [u8])
     requires { ⌜ filled.Enough (now text) (lent (now satellites) (now stations) (now names)) ⌝ }
-    ensures { λ _. ⌜ lent (now (satellites .exit)) (now (stations .exit)) (now (names .exit)) ≡ filled.filled (now (text .entry)) (lent (now (satellites .entry)) (now (stations .entry)) (now (names .entry))) ⌝ }
+    ensures { λ _. ⌜ lent (now (satellites .exit)) (now (stations .exit)) (now (names .exit))
+        ≡ filled.filled (now (text .entry)) (lent (now (satellites .entry)) (now (stations .entry)) (now (names .entry))) ⌝ }
 {
     let mut f = past(Place::Outside, 0, 0, 0, 0);
     while !f.done {

@@ -34,7 +34,7 @@ spot-below s z = by (z .system)
     by (inl e) = let k = spot-g s e in omega (arith, z .number)
     by (inr e) = let k = spot-r s e in omega (arith, z .number)
 
-pub length-marked : (ss : List Satellite) → length (marked ss) ≡ 198
+length-marked : (ss : List Satellite) → length (marked ss) ≡ 198
 unfolding marked
 length-marked [] = length-replicate {A = ℕ} 198 0
 length-marked (s ∷ ss) = length-set (marked ss) (spot s) 1 ∙ length-marked ss

@@ -64,7 +64,7 @@ module _ (t : List ℕ) (l : Lent) where
       twenties : length (names-of (b .stations)) ≡ 20 * nt
       twenties = names-length (b .stations) (made-fine (read-biases t is-b .1) .1) ∙ ap (λ (k : ℕ). 20 * k) (sym (g .stations))
 
-      pub needs-are : first-short 1 ((4 * ns, length (l .satellites)) ∷ (3 * nt, length (l .stations)) ∷ (20 * nt, length (l .names)) ∷ []) ≡ first-short 1 (needed-and-lent (flat b) l)
+      needs-are : first-short 1 ((4 * ns, length (l .satellites)) ∷ (3 * nt, length (l .stations)) ∷ (20 * nt, length (l .names)) ∷ []) ≡ first-short 1 (needed-and-lent (flat b) l)
       needs-are = λ i. first-short 1 ((sym fours i, length (l .satellites)) ∷ (sym threes i, length (l .stations)) ∷ (sym twenties i, length (l .names)) ∷ [])
 
       pub too-short : (o : Option (ℕ × ℕ)) → o ≡ first-short 1 ((4 * ns, length (l .satellites)) ∷ (3 * nt, length (l .stations)) ∷ (20 * nt, length (l .names)) ∷ []) → outcome t l ≡ with-room b l o

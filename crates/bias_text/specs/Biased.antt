@@ -18,13 +18,13 @@ use Rattle.bias_text.specs.declared.Biased.{Biased}
 use Rattle.bias_text.specs.declared.Biased.the-variants.{Given, Refused}
 
 -- ---- the answer: how many satellites and stations; or why not: 01's number with line and column, or 11 with the area and its need
-pub data Told : Type 0 where
-  given : (satellites stations : ℕ) → Told
-  because : maps.Told → Told
+pub data ToldBiases : Type 0 where
+  given : (satellites stations : ℕ) → ToldBiases
+  because : maps.ToldReading → ToldBiases
 
 -- what is answered, and what is then in the areas
 pub record Outcome : Type 0 where
-  pub told : Told
+  pub told : ToldBiases
   pub areas : Lent
 
 -- the areas in their order: the elements that each needs, and those lent
@@ -47,7 +47,7 @@ outcome t l = outcome-of (biases t) l
 
 -- ---- what the code's answer tells
 
-abbrev pub told : Biased → Told
+abbrev pub told : Biased → ToldBiases
 told (Given a b) = given a b
 told (Refused w) = because (told-reason w)
 

@@ -8,7 +8,7 @@ ghost use Rattle.bias_fill.specs.Flat.{lent};
 ghost use Rattle.bias_text.specs.Biased.{Maps, outcome, comes};
 use bias_scan::Verdict;
 use read_judge::Judged;
-use read_needs::Room;
+use read_needs::LentRoom;
 use read_outcome::Reason;
 
 // How many satellites and stations are given; or why not: 01's reasons 1 to 10, or 11 with the area and the elements it needs.
@@ -18,20 +18,26 @@ pub enum Biased {
 }
 
 // Satellites, stations, names, in this order: four numbers, three numbers, 20 bytes.
-fn room_for(given: usize, heard: usize, satellites: usize, stations: usize, names: usize) -> Room
+fn room_for(
+    given: usize,
+    heard: usize,
+    satellites: usize,
+    stations: usize,
+    names: usize,
+) -> LentRoom
     requires { ⌜ (4 * given < 18446744073709551616) × (20 * heard < 18446744073709551616) ⌝ }
     ensures { λ r. ⌜ fit r ≡ first-short 1 ((4 * given, satellites) ∷ (3 * heard, stations) ∷ (20 * heard, names) ∷ []) ⌝ }
 {
     if satellites < 4 * given {
-        return Room::Short(1, (4 * given) as u64);
+        return LentRoom::Short(1, (4 * given) as u64);
     }
     if stations < 3 * heard {
-        return Room::Short(2, (3 * heard) as u64);
+        return LentRoom::Short(2, (3 * heard) as u64);
     }
     if names < 20 * heard {
-        return Room::Short(3, (20 * heard) as u64);
+        return LentRoom::Short(3, (20 * heard) as u64);
     }
-    Room::Enough
+    LentRoom::Enough
 }
 
 // Biases that are accepted, into the areas, if each is long enough.
@@ -44,11 +50,12 @@ fn store(
     names: &mut [u8],
 ) -> Biased
     requires { ⌜ Maps (now text) × Gives (now text) given heard ⌝ }
-    ensures { λ r. ⌜ comes r (lent (now (satellites .exit)) (now (stations .exit)) (now (names .exit))) ≡ outcome (now (text .entry)) (lent (now (satellites .entry)) (now (stations .entry)) (now (names .entry))) ⌝ }
+    ensures { λ r. ⌜ comes r (lent (now (satellites .exit)) (now (stations .exit)) (now (names .exit)))
+        ≡ outcome (now (text .entry)) (lent (now (satellites .entry)) (now (stations .entry)) (now (names .entry))) ⌝ }
 {
     match room_for(given, heard, satellites.len(), stations.len(), names.len()) {
-        Room::Short(area, elements) => Biased::Refused(Reason::AreaTooShort(area, elements)),
-        Room::Enough => {
+        LentRoom::Short(area, elements) => Biased::Refused(Reason::AreaTooShort(area, elements)),
+        LentRoom::Enough => {
             bias_fill::fill_areas(text, satellites, stations, names);
             Biased::Given(given as u64, heard as u64)
         }
@@ -58,7 +65,8 @@ fn store(
 // The biases of a text whose maps are accepted.
 fn of_header(text: &[u8], satellites: &mut [i32], stations: &mut [i32], names: &mut [u8]) -> Biased
     requires { ⌜ Maps (now text) ⌝ }
-    ensures { λ r. ⌜ comes r (lent (now (satellites .exit)) (now (stations .exit)) (now (names .exit))) ≡ outcome (now (text .entry)) (lent (now (satellites .entry)) (now (stations .entry)) (now (names .entry))) ⌝ }
+    ensures { λ r. ⌜ comes r (lent (now (satellites .exit)) (now (stations .exit)) (now (names .exit)))
+        ≡ outcome (now (text .entry)) (lent (now (satellites .entry)) (now (stations .entry)) (now (names .entry))) ⌝ }
 {
     match bias_scan::judge(text) {
         Verdict::Wrong(number, line, column) => {
@@ -75,7 +83,8 @@ pub fn read_biases(
     stations: &mut [i32],
     names: &mut [u8],
 ) -> Biased
-    ensures { λ r. ⌜ comes r (lent (now (satellites .exit)) (now (stations .exit)) (now (names .exit))) ≡ outcome (now (text .entry)) (lent (now (satellites .entry)) (now (stations .entry)) (now (names .entry))) ⌝ }
+    ensures { λ r. ⌜ comes r (lent (now (satellites .exit)) (now (stations .exit)) (now (names .exit)))
+        ≡ outcome (now (text .entry)) (lent (now (satellites .entry)) (now (stations .entry)) (now (names .entry))) ⌝ }
 {
     let mut lines = [b' '; 1200];
     let scan = read_judge::judge(text, &mut lines);

@@ -29,7 +29,7 @@ use Rattle.biases.specs.declared.Place.{Place}
 
 -- ---- ranges: every value fits 32 bits with a sign
 
-abbrev pub Nine : ℤ → Type 0
+abbrev Nine : ℤ → Type 0
 Nine z = natAbs z < 10 ^ 9
 
 abbrev pub Lettered : ℕ → Type 0
@@ -90,7 +90,7 @@ fine-station : {s : Station} {r : List ℕ} → StationRow s r → Printable r �
 fine-station (station-row {b = b} {e = e} l a h) p =
     let t = row-roomy h in record { system = lettered a; name = named h p; bias = nine b (t .0); rms = nine e (t .1 .0) }
 
-abbrev pub FineBiases : Biases → Type 0
+abbrev FineBiases : Biases → Type 0
 FineBiases b = All FineSatellite (b .satellites) × All FineStation (b .stations)
 
 told-fine : {f : Feed} {rs : List (List ℕ)} → Carries f rs → Sized f → {p : Place} {b : Biases} → Tells p b rs → FineBiases b

@@ -1,17 +1,18 @@
 -- What a row of a bias block tells is the only thing it can tell.
 use mathlib.Core.Path.{_≡_, refl, sym, ap, _∙_}
-use mathlib.Core.List.{List, _++_}
+use mathlib.Core.List.{List, [], _∷_, _++_}
 use Prim.Native.Nat.{ℕ}
 use native.Mathlib.Omega.{arith}
 use native.Mathlib.Decide.{ℕ-discrete}
 use lib.ListN.{length, getD, take, drop, take-append-drop}
 use lib.Seq.{take-at, length-take-le}
 use lib.IntN.{ℤ, pos, negsuc, natAbs}
-use Rattle.kit.specs.Answer.{ok, need, bind, pick, same, sames, All}
-use Rattle.kit.proofs.AnswerLaws.{need-yes, pick-yes, pick-no, pick-elim, Yields, y-ok, yields, need-yields, bind-yields, pick-yields, yields-map}
+use Rattle.kit.specs.Answer.{ok, refused, need, bind, pick, same, sames, All}
+use Rattle.kit.proofs.AnswerLaws.{need-yes, need-no, pick-yes, pick-no, pick-elim, Yields, y-ok, yields, need-yields, bind-yields, pick-yields, yields-map}
 use Rattle.kit.specs.Range.{Within, Natural}
 use Rattle.layout.specs.Records.{Item, Vals}
 use Rattle.layout.specs.Labels.{name, aux-start, aux-end, header-end}
+use Rattle.reading.specs.Feed.{fault}
 use Rattle.reading.specs.Fields.{scan}
 use Rattle.reading.proofs.RecordLaws.{size, length-fields, scan-of, scan-yields}
 use Rattle.biases.specs.Biases.{Biases, SameSatellite, SameStation}
@@ -89,6 +90,16 @@ unfolding system-of
 system-yields l =
     pick-yields _ (λ e. y-ok (rw e its-g)) (λ _. pick-yields _ (λ e. y-ok (rw e no-letter)) (λ _. need-yields _ _ (λ e. y-ok (rw e its-r))))
 
+pub no-system : {l : List ℕ} → ((s : ℕ) → ¬ Letter s l) → system-of l ≡ refused (fault 7 4)
+unfolding system-of
+no-system {l} n =
+    pick-no (same l (71 ∷ [])) _ _ (λ e. n 71 (rw e its-g)) ∙ pick-no (same l (32 ∷ [])) _ _ (λ e. n 71 (rw e no-letter)) ∙ need-no (same l (82 ∷ [])) _ _ (λ e. n 82 (rw e its-r))
+
+-- the letter is told before the number, whatever that is
+pub letter-before-number : (v : Vals satellite-items) → ((s : ℕ) → ¬ Letter s (v .0)) → satellite-meant v ≡ refused (fault 7 4)
+unfolding satellite-meant bind
+letter-before-number v n = rw (no-system n) refl
+
 -- ---- a satellite's row and a station's
 
 pub size-satellite : size satellite-items ≡ 60
@@ -127,7 +138,7 @@ station-yields r z p =
 -- ---- given for the first time
 
 module _ {A : Type 0} {Same : A → A → Type 0} (d : (x y : A) → Dec (Same x y)) (before : List A) where
-  pub new-made : (x : A) → All (λ y. ¬ Same x y) before → new d before x ≡ ok x
+  new-made : (x : A) → All (λ y. ¬ Same x y) before → new d before x ≡ ok x
   unfolding new
   new-made x h = need-yes _ _ _ h
 

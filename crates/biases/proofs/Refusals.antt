@@ -1,14 +1,14 @@
 -- The bias reading is refused exactly as the map reading, or by the first row at fault.
 use mathlib.Core.Path.{_≡_, refl, sym, ap, _∙_}
 use mathlib.Core.Logic.{_↔_, _⊎_, inl, inr, ⊎-elim}
-use mathlib.Core.List.{List, [], _∷_}
+use mathlib.Core.List.{List}
 use Prim.Native.Nat.{ℕ, _<_}
 use native.Mathlib.Omega.{arith}
 use native.Mathlib.Decide.{ℕ-discrete}
 use lib.ListN.{length, take}
 use lib.IntN.{ℤ}
 use Rattle.kit.specs.Answer.{Answer, ok, refused, need, bind, amap, same, sames, ¬-dec}
-use Rattle.kit.proofs.AnswerLaws.{pick-no, need-no, yields}
+use Rattle.kit.proofs.AnswerLaws.{need-no, yields}
 use Rattle.kit.proofs.TruthLaws.{decided, truth-ok, tested-at}
 use Rattle.kit.specs.Truth.{truth}
 use Rattle.mapset.specs.MapSet.{MapSet}
@@ -25,10 +25,10 @@ use Rattle.reading.proofs.MapLaws.{on-line-yields}
 use Rattle.reading.proofs.Blame.{Blames, b-ok, b-no, blamed, amap-blames, blames-map}
 use Rattle.reading.proofs.Exact.{made-read}
 use Rattle.biases.specs.Biases.{Biases, nothing, one-satellite, one-station}
-use Rattle.biases.specs.Rules.{of-satellite, of-station, satellite-items, station-items, Letter, its-g, no-letter, its-r, Labelled, Stands, s-last, s-opens, s-another, s-past, s-ends, s-unread, s-closes, s-satellite, s-station, s-unknown}
+use Rattle.biases.specs.Rules.{of-satellite, of-station, satellite-items, station-items, Letter, Labelled, Stands, s-last, s-opens, s-another, s-past, s-ends, s-unread, s-closes, s-satellite, s-station, s-unknown}
 use Rattle.biases.specs.Faults.{BadSatellite, six, letter, number, twice, BadStation, Faulty, f-skipped, f-satellite, f-station, f-bad-satellite, f-bad-station}
 use Rattle.biases.specs.Read.{role, system-of, satellite-meant, station-meant, satellite-of, station-of, same-satellite?, same-station?, new, new-satellite, new-station, on-role, gather, biases}
-use Rattle.biases.proofs.Laws.{apart, role-of, stands-role, satellite-label, station-label, row-scan, scan-row, size-satellite, size-station, system-made, satellite-made, station-made, satellite-yields, station-yields, system-yields, new-satellite-made, new-station-made, new-satellite-yields, new-station-yields}
+use Rattle.biases.proofs.Laws.{apart, role-of, stands-role, satellite-label, station-label, row-scan, scan-row, size-satellite, size-station, system-made, no-system, letter-before-number, satellite-made, station-made, satellite-yields, station-yields, system-yields, new-satellite-made, new-station-made, new-satellite-yields, new-station-yields}
 use Rattle.biases.specs.declared.Satellite.{Satellite}
 use Rattle.biases.specs.declared.Station.{Station}
 use Rattle.biases.specs.declared.Place.{Place}
@@ -51,11 +51,6 @@ module _ {W A : Type 0} {P : W → Type 0} where
 
 -- ---- the system
 
-no-system : {l : List ℕ} → ((s : ℕ) → ¬ Letter s l) → system-of l ≡ refused (fault 7 4)
-unfolding system-of
-no-system {l} n =
-    pick-no (same l (71 ∷ [])) _ _ (λ e. n 71 (rw e its-g)) ∙ pick-no (same l (32 ∷ [])) _ _ (λ e. n 71 (rw e no-letter)) ∙ need-no (same l (82 ∷ [])) _ _ (λ e. n 82 (rw e its-r))
-
 -- a refusal is 7 at column 4, and no system is shown
 system-refused : (l : List ℕ) (w : Fault) → system-of l ≡ refused w → (w ≡ fault 7 4) × ((s : ℕ) → ¬ Letter s l)
 system-refused l w e = (by, λ s x. none x)
@@ -69,14 +64,14 @@ system-refused l w e = (by, λ s x. none x)
 -- ---- a row at fault
 
 module _ (g : Biases) (r : List ℕ) where
-  pub bad-satellite : {e : Fault} → BadSatellite g r e → new-satellite g r ≡ refused e
+  bad-satellite : {e : Fault} → BadSatellite g r e → new-satellite g r ≡ refused e
   unfolding new-satellite satellite-of satellite-meant new bind
   bad-satellite (six h) = rw h
-  bad-satellite (letter v h n) = rw (row-scan satellite-items of-satellite size-satellite h, no-system n)
+  bad-satellite (letter v h n) = rw (row-scan satellite-items of-satellite size-satellite h, letter-before-number v n)
   bad-satellite (number v s h x n) = rw (row-scan satellite-items of-satellite size-satellite h, system-made x, need-no _ _ _ n)
   bad-satellite (twice s h n) = rw (satellite-made h) (need-no _ _ _ n)
 
-  pub bad-station : {e : Fault} → BadStation g r e → new-station g r ≡ refused e
+  bad-station : {e : Fault} → BadStation g r e → new-station g r ≡ refused e
   unfolding new-station station-of station-meant new bind
   bad-station (six h) = rw h
   bad-station (letter v h n) = rw (row-scan station-items of-station size-station h, no-system n)
@@ -98,7 +93,7 @@ module _ (g : Biases) (r : List ℕ) (z : length r ≡ 80) where
   first-satellite : Labelled of-satellite r → (w : Fault) → satellite-of r ≡ refused w → BadSatellite g r w
   first-satellite p w e = blamed (rw e at (satellite-causes p))
 
-  pub satellite-blames : Labelled of-satellite r → Blames (BadSatellite g r) (new-satellite g r)
+  satellite-blames : Labelled of-satellite r → Blames (BadSatellite g r) (new-satellite g r)
   unfolding new-satellite
   satellite-blames p = bind-blamed (satellite-of r) (first-satellite p) (λ s e. twice-satellite s e p)
 
@@ -117,13 +112,13 @@ module _ (g : Biases) (r : List ℕ) (z : length r ≡ 80) where
   first-station : Labelled of-station r → (w : Fault) → station-of r ≡ refused w → BadStation g r w
   first-station p w e = blamed (rw e at (station-causes p))
 
-  pub station-blames : Labelled of-station r → Blames (BadStation g r) (new-station g r)
+  station-blames : Labelled of-station r → Blames (BadStation g r) (new-station g r)
   unfolding new-station
   station-blames p = bind-blamed (station-of r) (first-station p) (λ s e. twice-station s e p)
 
 -- ---- the first row at fault is refused
 
-pub faulty-refused : {g : Biases} {p : Place} {f : Feed} {w : Why} → Faulty g p f w → gather g p f ≡ refused w
+faulty-refused : {g : Biases} {p : Place} {f : Feed} {w : Why} → Faulty g p f w → gather g p f ≡ refused w
 unfolding gather on-role bind on-line amap
 faulty-refused (f-skipped q s h) = rw (role-of s) (faulty-refused h)
 faulty-refused (f-satellite {g} x s a n h) = rw (role-of s, new-satellite-made g a n, faulty-refused h)

@@ -59,7 +59,7 @@ after =
     ∷ []
 
 -- the text with these lines in between, of version 1.0
-abbrev pub text-of : List String → List ℕ
+abbrev text-of : List String → List ℕ
 text-of ls = lines (before "     1.0            IONOSPHERE MAPS     GPS                 IONEX VERSION / TYPE" ++ (ls ++ after))
 
 unfoldable pub told : Biases

@@ -17,7 +17,7 @@ use Rattle.forms.specs.Columns.{columns}
 use Rattle.mapset.specs.Grid.{Line, heights, latitudes, longitudes, End, Step, AxisRules}
 use Rattle.mapset.specs.Header.{HeaderRules}
 use Rattle.mapset.specs.Sound.{Count, SystemSays}
-use Rattle.mapset.specs.SoundDecided.{header-groups, takes-known}
+use Rattle.mapset.proofs.Groups.{header-groups, takes-known}
 use Rattle.mapset.specs.declared.Axis.{Axis}
 use Rattle.mapset.specs.declared.Counted.{Counted}
 use Rattle.mapset.specs.declared.System.{System}

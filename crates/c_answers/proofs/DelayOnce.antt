@@ -7,13 +7,13 @@ use lib.IntN.{ℤ}
 use lib.Ieee.{Float}
 use Rattle.kit.specs.Lists.{front}
 use Rattle.ask.specs.Ask.{Question}
-use Rattle.delay.specs.Delay.{Told}
+use Rattle.delay.specs.Delay.{ToldDelay}
 use Rattle.delay.proofs.DelayLaws.{delays-once}
 use Rattle.ask_delay.proofs.Once.{ask-delays-once}
 use Rattle.c_answers.specs.DelayExported.{told-number, told-record, TecuDelayCrosses, area-short, answered, DelayCrosses, short, asked}
 
 module _ (f : Float) (v : List Float) where
-  same : {a b : Told} → a ≡ b → (told-number a ≡ told-number b) × (front (told-record a) v ≡ front (told-record b) v)
+  same : {a b : ToldDelay} → a ≡ b → (told-number a ≡ told-number b) × (front (told-record a) v ≡ front (told-record b) v)
   same p = (ap told-number p, ap (λ a. front (told-record a) v) p)
 
   pub ionex-tecu-delay-once : (x : ℤ) {n m : ℕ} {u w : List Float} → TecuDelayCrosses x f v n u → TecuDelayCrosses x f v m w → (n ≡ m) × (u ≡ w)

@@ -4,10 +4,9 @@ use mathlib.Core.List.{List}
 use mathlib.Core.Option.{Option, none, some}
 use Prim.Native.Nat.{ℕ, _≤_, _<_}
 use native.Mathlib.Omega.{arith}
-use native.Mathlib.Decide.{decLt}
 use lib.IntN.{ℤ}
 use lib.ListN.{length}
-use Rattle.kit.specs.Answer.{Answer, ok, refused, bind, pick}
+use Rattle.kit.specs.Answer.{Answer, ok, refused, bind}
 use Rattle.kit.specs.Lists.{front}
 use Rattle.mapset.specs.declared.Header.{Header}
 use Rattle.mapset.specs.Described.{FullTexts}
@@ -23,7 +22,9 @@ use Rattle.join.proofs.IntoExactly.{LentJoins, not-valid, not-alike, not-met, t
 use Rattle.join_areas.specs.Joined.{comes, came}
 use Rattle.join_areas.specs.declared.Joining.{Joining}
 use Rattle.join_areas.specs.declared.Joining.the-variants.{Done, Refused}
-use Rattle.c_answers.specs.Own.{too-short, lesser, shortest}
+use Rattle.kit.specs.Range.{lesser}
+use Rattle.kit.proofs.LesserLaws.{lesser-within}
+use Rattle.c_answers.specs.Own.{too-short, shortest}
 use Rattle.c_answers.specs.ReadExported.{crossed}
 use Rattle.c_answers.specs.JoinExported.{answer-number, answer-header, answer-texts, answer-place, Small, crosses, join-crossed}
 use Rattle.c_answers.proofs.OwnLaws.{unless-none, unless-short}
@@ -31,12 +32,7 @@ use Rattle.c_answers.proofs.ReadLaws.{in-years}
 
 -- ---- where the shortest is long enough, each is
 lesser-long : (k a b : ℕ) → k ≤ lesser a b → (k ≤ a) × (k ≤ b)
-unfolding lesser pick
-lesser-long k a b h = by (decLt a b) h
-  where
-    by : (d : Dec (a < b)) → k ≤ pick d a b → (k ≤ a) × (k ≤ b)
-    by (yes p) h = (h, omega arith)
-    by (no n) h = (omega arith, h)
+lesser-long k a b h = let w = lesser-within a b in (omega (arith, w), omega (arith, w))
 
 pub all-long : (k a b c : ℕ) → k ≤ shortest a b c → (k ≤ a) × (k ≤ b) × (k ≤ c)
 all-long k a b c h =

@@ -11,4 +11,5 @@ pub mod NeedsOnce
 pub mod ReadOnce
 pub mod WriteOnce
 pub mod Back
+pub mod Vectors
 pub mod Theorems

@@ -6,19 +6,19 @@ use lib.ListN.{length}
 use Rattle.mapset.specs.Described.{FullTexts}
 use Rattle.mapset.specs.Areas.{Areas}
 use Rattle.kit.specs.Lists.{front}
-use Rattle.read_outcome.specs.Outcome.{Told, accepted, at-place, eleven, Outcome, outcome, told-number, told-place}
+use Rattle.read_outcome.specs.Outcome.{ToldReading, accepted, at-place, eleven, Outcome, outcome, told-number, told-place}
 use Rattle.read_outcome.specs.declared.Reading.{Reading}
 use Rattle.read_outcome.specs.declared.Reading.the-variants.{Accepted, Refused}
 use Rattle.c_header.specs.Numbers.{numbers, text-bytes}
 use Rattle.c_answers.specs.Own.{too-short, unless}
 
 -- the header record and its texts; nothing on a refusal
-abbrev pub told-header : Told → List ℤ
+abbrev pub told-header : ToldReading → List ℤ
 told-header (accepted h) = numbers h
 told-header (at-place k l c) = []
 told-header (eleven a n) = []
 
-abbrev pub told-texts : Told → FullTexts → List ℕ
+abbrev pub told-texts : ToldReading → FullTexts → List ℕ
 told-texts (accepted h) x = text-bytes x
 told-texts (at-place k l c) x = []
 told-texts (eleven a n) x = []

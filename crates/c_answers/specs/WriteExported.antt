@@ -5,17 +5,17 @@ use lib.IntN.{ℤ}
 use lib.ListN.{length}
 use Rattle.mapset.specs.Areas.{Areas}
 use Rattle.kit.specs.Lists.{front}
-use Rattle.write_text.specs.Write.{Told, done, refused, written}
+use Rattle.write_text.specs.Write.{ToldWriting, done, refused, written}
 use Rattle.c_given.specs.Given.{header-of, texts-of}
 use Rattle.c_answers.specs.Own.{too-short, unless}
 
 -- 0 for done, or 01's number
-abbrev pub told-number : Told → ℕ
+abbrev pub told-number : ToldWriting → ℕ
 told-number (done n) = 0
 told-number (refused k b) = k
 
 -- the bytes written, or those needed
-abbrev pub told-count : Told → List ℕ
+abbrev pub told-count : ToldWriting → List ℕ
 told-count (done n) = n ∷ []
 told-count (refused k b) = b
 
@@ -28,7 +28,7 @@ pub record Crossed : Type 0 where
 abbrev pub crossed : ℕ → List ℕ → List ℕ → Crossed
 crossed n o c = record { number = n; out = o; count = c }
 
-unfoldable pub crosses : Told × List ℕ → List ℕ → Crossed
+unfoldable pub crosses : ToldWriting × List ℕ → List ℕ → Crossed
 crosses w c = crossed (told-number (w .0)) (w .1) (front (told-count (w .0)) c)
 
 unfoldable pub write-crossed : List ℤ → List ℕ → Areas → List ℕ → List ℕ → Crossed

@@ -56,20 +56,22 @@ pub fn too_short(header: usize, texts: usize, result: usize, elements: usize) ->
     0
 }
 
-fn lesser(a: usize, b: usize) -> usize
-    ensures { λ r. ⌜ r ≡ own.lesser a b ⌝ }
+// Where the result has two areas: 103 for either.
+pub fn too_short_two(header: usize, texts: usize, a: usize, m: usize, b: usize, n: usize) -> u64
+    ensures { λ r. ⌜ r ≡ own.too-short-two header texts a m b n ⌝ }
 {
-    if a < b {
-        return a;
+    let short = too_short(header, texts, a, m);
+    if 0 < short {
+        return short;
     }
-    b
+    too_short(header, texts, b, n)
 }
 
 // Of three headers or texts.
 pub fn shortest(a: usize, b: usize, c: usize) -> usize
     ensures { λ r. ⌜ r ≡ own.shortest a b c ⌝ }
 {
-    lesser(a, lesser(b, c))
+    kit::lesser(a, kit::lesser(b, c))
 }
 
 // ---- Reading

@@ -1,4 +1,5 @@
 -- Biases as they cross to other languages: a number, the three areas, and two areas of the call's own, of two elements each.
+use mathlib.Core.Path.{_≡_}
 use mathlib.Core.List.{List, [], _∷_}
 use Prim.Native.Nat.{ℕ}
 use native.Mathlib.Decide.{decLe}
@@ -7,22 +8,26 @@ use Rattle.kit.specs.Answer.{pick, ×-dec}
 use Rattle.kit.specs.Lists.{front}
 use Rattle.read_outcome.specs.Outcome as maps
 use Rattle.bias_fill.specs.Flat.{Lent}
-use Rattle.bias_text.specs.Biased.{Told, given, because, Outcome, outcome}
+use Rattle.bias_text.specs.Biased.{ToldBiases, given, because, Outcome, outcome}
 
 -- 0 for done, or 01's number
-abbrev pub told-number : Told → ℕ
+abbrev pub told-number : ToldBiases → ℕ
 told-number (given a b) = 0
 told-number (because w) = maps.told-number w
 
 -- how many satellites and stations; nothing on a refusal
-abbrev pub told-counts : Told → List ℕ
+abbrev pub told-counts : ToldBiases → List ℕ
 told-counts (given a b) = a ∷ b ∷ []
 told-counts (because w) = []
 
 -- line and column, or area and need; nothing where the biases are given
-abbrev pub told-place : Told → List ℕ
+abbrev pub told-place : ToldBiases → List ℕ
 told-place (given a b) = []
 told-place (because w) = maps.told-place w
+
+-- the number r is answered, and the call's own areas n and p have become n′ and p′
+abbrev pub BiasesCross : ToldBiases → (n p : List ℕ) (r : ℕ) (n′ p′ : List ℕ) → Type 0
+BiasesCross a n p r n′ p′ = (r ≡ told-number a) × ((n′ ≡ front (told-counts a) n) × (p′ ≡ front (told-place a) p))
 
 -- the number answered, and what is then in the areas
 pub record Crossed : Type 0 where

@@ -17,13 +17,13 @@ use Rattle.mapset.specs.Described.{FullTexts}
 abbrev pub flag : Bool → ℤ
 flag b = cond b (pos 1) (pos 0)
 
-abbrev pub version-numbers : Version → List ℤ
+abbrev version-numbers : Version → List ℤ
 version-numbers v = pos (v .tenths) ∷ pos (v .kind) ∷ pos (v .code) ∷ []
 
-abbrev pub times-numbers : Times → List ℤ
+abbrev times-numbers : Times → List ℤ
 times-numbers t = pos (t .first) ∷ pos (t .last) ∷ pos (t .interval) ∷ pos (t .maps) ∷ []
 
-abbrev pub model-numbers : Model → List ℤ
+abbrev model-numbers : Model → List ℤ
 model-numbers m = pos (m .cutoff) ∷ pos (m .radius) ∷ pos (m .dimension) ∷ []
 
 abbrev pub axis-numbers : Axis → List ℤ

@@ -160,17 +160,6 @@ pub fn put_header(out: &mut [i64], h: Header)
     put_one(out, 44, whole(h.descriptions));
 }
 
-pub fn copy_at(from: &[u8], out: &mut [u8], at: usize)
-    requires { ⌜ at + length (now from) ≤ length (now out) ⌝ }
-    ensures { λ _. ⌜ now (out .exit) ≡ sets (now (out .entry)) at (now (from .entry)) ⌝ }
-{
-    let mut i = 0;
-    while i < from.len() {
-        out[at + i] = from[i];
-        i += 1;
-    }
-}
-
 // PGM / RUN BY / DATE, MAPPING FUNCTION, OBSERVABLES USED.
 fn put_five(out: &mut [u8], x: Texts)
     requires { ⌜ 124 ≤ length (now out) ⌝ }
@@ -181,11 +170,11 @@ fn put_five(out: &mut [u8], x: Texts)
     let date = x.date;
     let mapping = x.mapping;
     let observables = x.observables;
-    copy_at(&program, out, 0);
-    copy_at(&agency, out, 20);
-    copy_at(&date, out, 40);
-    copy_at(&mapping, out, 60);
-    copy_at(&observables, out, 64);
+    kit::copy_at(&program, out, 0);
+    kit::copy_at(&agency, out, 20);
+    kit::copy_at(&date, out, 40);
+    kit::copy_at(&mapping, out, 60);
+    kit::copy_at(&observables, out, 64);
 }
 
 // The texts, and behind them the bytes of the description.
@@ -194,5 +183,5 @@ pub fn put_texts(out: &mut [u8], x: Texts, descriptions: &[u8])
     ensures { λ _. ⌜ now (out .exit) ≡ front (text-bytes (full x (now (descriptions .entry)))) (now (out .entry)) ⌝ }
 {
     put_five(out, x);
-    copy_at(descriptions, out, 124);
+    kit::copy_at(descriptions, out, 124);
 }

@@ -3,7 +3,6 @@ use mathlib.Core.Path.{_≡_, sym, ap, _∙_}
 use mathlib.Core.Bool.{Bool, true, false, cond}
 use mathlib.Core.List.{List}
 use Prim.Native.Nat.{ℕ, _≤_, _<_}
-use native.Mathlib.Decide.{ℕ-discrete}
 use native.Mathlib.Omega.{arith}
 use lib.IntN.{ℤ, pos}
 use lib.ListN.{length}
@@ -11,8 +10,7 @@ use lib.Signed.{ltZ}
 use Rattle.kit.specs.Lists.{front}
 use Rattle.mapset.specs.Areas.{Areas}
 use Rattle.c_given.specs.Given.{nth}
-use Rattle.c_answers.specs.Own.{too-short, unless}
-use Rattle.c_answers.proofs.OwnLaws.{fit, unless-none, unless-short}
+use Rattle.c_answers.proofs.OwnLaws.{fit-two, unless-none, unless-short}
 use Rattle.week.specs.Week.{Given}
 use Rattle.week.specs.Sane.{Outcome, comes, outcome, SmallAnswer}
 use Rattle.week.proofs.SaneLaws.{small-answer}
@@ -33,32 +31,17 @@ module _ (l : List ℤ) where
 
 -- ---- the areas of the call's own
 module _ (h x w p : ℕ) where
-  pub short-first : {k : ℕ} → k ≡ too-short h x w 16 → 1 ≤ k → k ≡ week-short h x w p
-  unfolding week-short
-  short-first e a = e ∙ sym (unless-short (too-short h x p 2) (λ k. k) (omega (arith, e, a)))
-
-  pub short-then : {k l : ℕ} → k ≡ too-short h x w 16 → k < 1 → l ≡ too-short h x p 2 → l ≡ week-short h x w p
-  unfolding week-short
-  short-then e a f = f ∙ sym (unless-none (too-short h x p 2) (λ k. k) (omega (arith, sym e, a)))
-
   pub record Fits : Type 0 where
     pub header : 45 ≤ h
     pub texts : 1324 ≤ x
     pub week : 16 ≤ w
     pub place : 2 ≤ p
 
-  -- where neither test tells a number
-  apart : Dec (too-short h x w 16 ≡ 0) → unless (too-short h x w 16) (too-short h x p 2) (λ j. j) ≡ 0 → (too-short h x w 16 ≡ 0) × (too-short h x p 2 ≡ 0)
-  apart (yes e) f = (e, sym (unless-none (too-short h x p 2) (λ j. j) e) ∙ f)
-  apart (no n) f = absurd (n (sym (unless-short (too-short h x p 2) (λ j. j) (omega arith)) ∙ f))
-
   pub fits : {k : ℕ} → k ≡ week-short h x w p → k < 1 → Fits
   unfolding week-short
   fits e a =
-      let b = apart (ℕ-discrete (too-short h x w 16) 0) (omega (arith, e, a)) in
-      let u = fit h x w 16 (sym (b .0)) (omega arith) in
-      let v = fit h x p 2 (sym (b .1)) (omega arith) in
-      record { header = u .header; texts = u .texts; week = u .result; place = v .result }
+      let u = fit-two h x w 16 p 2 e a in
+      record { header = u .header; texts = u .texts; week = u .first; place = u .second }
 
 -- ---- the answer
 pub small-comes : (w : Week) (s : Given) (r : Added) (l : List ℤ) → comes r l ≡ outcome w s → SmallAnswer r

@@ -6,7 +6,7 @@ use lib.ListN.{length}
 use Rattle.kit.specs.Lists.{front}
 use Rattle.mapset.specs.Areas.{Areas}
 use Rattle.c_given.specs.Given.{header-of, texts-of}
-use Rattle.c_answers.specs.Own.{too-short, unless}
+use Rattle.c_answers.specs.Own.{unless, too-short-two}
 use Rattle.week.specs.Week.{Given, given-as}
 use Rattle.week.specs.Sane.{Outcome, outcome}
 use Rattle.week.specs.declared.Added.{Added}
@@ -41,7 +41,7 @@ told-place (A.Refused y) = why-place y
 
 -- of the lengths of header, texts, week and place: 101, 102, or 103 for the week or the place
 unfoldable pub week-short : ℕ → ℕ → ℕ → ℕ → ℕ
-week-short h x w p = unless (too-short h x w 16) (too-short h x p 2) (λ k. k)
+week-short h x w p = too-short-two h x w 16 p 2
 
 -- the number answered, and what is then in the areas
 pub record Crossed : Type 0 where

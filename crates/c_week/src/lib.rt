@@ -90,11 +90,7 @@ pub fn week_in(n: &[i64]) -> Week
 pub fn too_short(header: usize, texts: usize, week: usize, place: usize) -> u64
     ensures { λ r. ⌜ r ≡ week-short header texts week place ⌝ }
 {
-    let short = c_answers::too_short(header, texts, week, 16);
-    if 0 < short {
-        return short;
-    }
-    c_answers::too_short(header, texts, place, 2)
+    c_answers::too_short_two(header, texts, week, 16, place, 2)
 }
 
 fn put_week(out: &mut [i64], w: Week)

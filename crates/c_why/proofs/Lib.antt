@@ -1,4 +1,5 @@
 pub mod CrossLaws
 pub mod ExplainOnce
 pub mod SmallLaws
+pub mod Vectors
 pub mod Theorems

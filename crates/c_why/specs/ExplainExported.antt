@@ -6,7 +6,8 @@ use lib.IntN.{ℤ, pos}
 use lib.ListN.{length}
 use Rattle.kit.specs.Answer.{All}
 use Rattle.kit.specs.Lists.{front}
-use Rattle.ask_nodes.specs.Nodes.{or-zero, bare}
+use Rattle.ask_nodes.specs.Units.{bare}
+use Rattle.ask_nodes.specs.Value.{or-zero}
 use Rattle.ask.specs.Ask.{Question, told-number}
 use Rattle.ask_why.specs.Explain.{told, Explains}
 use Rattle.ask_why.specs.declared.Needed.{Needed}
@@ -16,7 +17,7 @@ use Rattle.ask_why.specs.declared.Lacking.{Lacking}
 use Rattle.ask_why.specs.declared.Explained.{Explained}
 use Rattle.ask_why.specs.declared.Explained.the-variants as E
 use Rattle.ask_why.specs.declared.Explanation.{Explanation}
-use Rattle.c_answers.specs.Own.{too-short, unless}
+use Rattle.c_answers.specs.Own.{too-short-two}
 
 -- a node: map, layer, row, column, value in thousandths of its unit, weight; a filler is six zeros
 abbrev pub node-numbers : Needed → List ℤ
@@ -55,7 +56,7 @@ told-lacking (E.Refused w) = []
 
 -- of the lengths of header, texts, nodes and lacking: 101, 102, or 103 for the nodes or the one that lacks
 unfoldable pub explain-short : ℕ → ℕ → ℕ → ℕ → ℕ
-explain-short h x n l = unless (too-short h x n 51) (too-short h x l 5) (λ k. k)
+explain-short h x n l = too-short-two h x n 51 l 5
 
 -- the number answered, and what is then in the two areas
 pub data ExplainCrosses (h : List ℤ) (x : List ℕ) (q : Question) (v : List ℤ) (l : List ℕ) : ℕ → List ℤ → List ℕ → Type 0 where

@@ -5,7 +5,8 @@ ghost use lib.IntN.{pos};
 ghost use lib.ListN.{length};
 ghost use lib.Seq.{sets};
 ghost use Rattle.kit.specs.Lists.{front};
-ghost use Rattle.ask_nodes.specs.Nodes.{or-zero, bare};
+ghost use Rattle.ask_nodes.specs.Units.{bare};
+ghost use Rattle.ask_nodes.specs.Value.{or-zero};
 ghost use Rattle.ask_why.specs.Explain.{told};
 ghost use Rattle.ask.specs.Ask.{told-number};
 ghost use Rattle.c_why.specs.ExplainExported.{node-numbers, all-numbers, numbers, told-nodes, lacking-numbers, told-lacking, explain-short, SmallNode, SmallNodes, Small};
@@ -21,11 +22,7 @@ use ask_why::Node;
 pub fn too_short(header: usize, texts: usize, nodes: usize, lacking: usize) -> u64
     ensures { λ r. ⌜ r ≡ explain-short header texts nodes lacking ⌝ }
 {
-    let short = c_answers::too_short(header, texts, nodes, 51);
-    if 0 < short {
-        return short;
-    }
-    c_answers::too_short(header, texts, lacking, 5)
+    c_answers::too_short_two(header, texts, nodes, 51, lacking, 5)
 }
 
 // Numbers as they cross: each is an i64.

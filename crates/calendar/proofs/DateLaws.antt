@@ -11,7 +11,8 @@ use Rattle.days.specs.Sums.{sum, Place}
 use Rattle.days.proofs.SumLaws.{place-once, place-below}
 use Rattle.days.proofs.YearLaws.{all-years}
 use Rattle.days.specs.Years.{row, monthDays, yearDays}
-use Rattle.calendar.specs.Calendar.{daysTo, second, Dated, DateAt, end, past, from-days, years-past, days-in-year, months-past, date-at}
+use Rattle.calendar.specs.Calendar.{daysTo, second, Dated, DateAt, past, from-days, years-past, days-in-year, months-past, date-at}
+use Rattle.calendar.specs.End.{end}
 use Rattle.calendar.specs.Inner.{IsDate, secondOf}
 use Rattle.calendar.specs.declared.Epoch.{Epoch}
 

@@ -16,8 +16,8 @@ use Rattle.calendar.specs.declared.Checked.{Checked}
 use Rattle.calendar.specs.declared.Checked.the-variants as C
 use Rattle.calendar.specs.declared.When.{When}
 use Rattle.calendar.specs.declared.When.the-variants as N
-use Rattle.calendar.specs.declared.Found.{Found}
-use Rattle.calendar.specs.declared.Found.the-variants as D
+use Rattle.calendar.specs.declared.DateFound.{DateFound}
+use Rattle.calendar.specs.declared.DateFound.the-variants as D
 use Rattle.calendar.specs.declared.Taken.{Taken}
 use Rattle.calendar.specs.declared.Taken.the-variants as K
 
@@ -55,7 +55,7 @@ when-told (N.At t) N.Refused e = cc
 when-told N.Refused (N.At u) e = cc
 when-told N.Refused N.Refused e = refl
 
-found-told : (a b : Found) → toldFound a ≡ toldFound b → a ≡ b
+found-told : (a b : DateFound) → toldFound a ≡ toldFound b → a ≡ b
 found-told (D.Date d) (D.Date f) e = cc
 found-told (D.Date d) D.Refused e = cc
 found-told D.Refused (D.Date f) e = cc
@@ -87,8 +87,8 @@ take-dated y m d h i s a p = take-once y m d h i s a (dated y m d h i s) p (date
 pub seconds-once : (e : Epoch) (a b : When) → The (DateAt e) (toldWhen a) → The (DateAt e) (toldWhen b) → a ≡ b
 seconds-once e a b p q = when-told a b (the-once (DateAt e) (λ t u r s. sym (r .at) ∙ s .at) _ _ p q)
 
-pub at-second-once : (t : ℕ) (a b : Found) → The (λ e. DateAt e t) (toldFound a) → The (λ e. DateAt e t) (toldFound b) → a ≡ b
+pub at-second-once : (t : ℕ) (a b : DateFound) → The (λ e. DateAt e t) (toldFound a) → The (λ e. DateAt e t) (toldFound b) → a ≡ b
 at-second-once t a b p q = found-told a b (the-once (λ e. DateAt e t) (date-once t) _ _ p q)
 
-pub moved-once : (e : Epoch) (by : ℤ) (a b : Found) → The (Later e by) (toldFound a) → The (Later e by) (toldFound b) → a ≡ b
+pub moved-once : (e : Epoch) (by : ℤ) (a b : DateFound) → The (Later e by) (toldFound a) → The (Later e by) (toldFound b) → a ≡ b
 moved-once e by a b p q = found-told a b (the-once (Later e by) (later-once e by) _ _ p q)

@@ -15,8 +15,8 @@ use Rattle.calendar.specs.declared.Checked.{Checked}
 use Rattle.calendar.specs.declared.Checked.the-variants as C
 use Rattle.calendar.specs.declared.When.{When}
 use Rattle.calendar.specs.declared.When.the-variants as N
-use Rattle.calendar.specs.declared.Found.{Found}
-use Rattle.calendar.specs.declared.Found.the-variants as D
+use Rattle.calendar.specs.declared.DateFound.{DateFound}
+use Rattle.calendar.specs.declared.DateFound.the-variants as D
 use Rattle.calendar.specs.declared.Taken.{Taken}
 use Rattle.calendar.specs.declared.Taken.the-variants as K
 
@@ -92,10 +92,6 @@ pub record Later (e : Epoch) (by : ℤ) (f : Epoch) : Type 0 where
   pub ends : DateAt f to
   pub later : pos to ≡ pos from +ℤ by
 
--- the first second after 2199
-abbrev pub end : ℕ
-end = 9467107200
-
 -- ---- the date of a second
 
 -- of the first n spans of days, how many are past on day d
@@ -161,6 +157,6 @@ abbrev pub toldWhen : When → Answer Refusal ℕ
 toldWhen (N.At t) = ok t
 toldWhen N.Refused = refused (alone 7)
 
-abbrev pub toldFound : Found → Answer Refusal Epoch
+abbrev pub toldFound : DateFound → Answer Refusal Epoch
 toldFound (D.Date e) = ok e
 toldFound D.Refused = refused (alone 7)

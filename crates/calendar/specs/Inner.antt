@@ -3,7 +3,8 @@ use mathlib.Core.Path.{_≡_}
 use Prim.Native.Nat.{ℕ, _<_}
 use lib.IntN.{ℤ, pos, negsuc, _+ℤ_}
 use Rattle.kit.specs.Answer.{Answer, ok, refused, All}
-use Rattle.calendar.specs.Calendar.{Within, numbersOf, second, dated, end, Refusal, alone, in-column}
+use Rattle.calendar.specs.Calendar.{Within, numbersOf, second, dated, Refusal, alone, in-column}
+use Rattle.calendar.specs.End.{end}
 use Rattle.calendar.specs.declared.Epoch.{Epoch}
 use Rattle.calendar.specs.declared.Taken.{Taken}
 use Rattle.calendar.specs.declared.Taken.the-variants as K

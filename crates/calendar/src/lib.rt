@@ -3,7 +3,8 @@ ghost use Prim.Native.Nat.{_<_};
 ghost use lib.IntN.{pos};
 ghost use Rattle.kit.specs.Range.{Natural};
 ghost use Rattle.kit.specs.Truth.{Says};
-ghost use Rattle.calendar.specs.Calendar.{columnOf, DateAt, Later, end, checked, recorded, The, toldChecked, toldTaken, toldWhen, toldFound};
+ghost use Rattle.calendar.specs.Calendar.{columnOf, DateAt, Later, checked, recorded, The, toldChecked, toldTaken, toldWhen, toldFound};
+ghost use Rattle.calendar.specs.End.{end};
 ghost use Rattle.calendar.specs.Inner.{IsDate, secondOf, datedOf, Moment, clip};
 
 // The first second after 2199.
@@ -41,7 +42,7 @@ pub enum When {
 }
 
 // A date, or a refusal.
-pub enum Found {
+pub enum DateFound {
     Date(Epoch),
     Refused,
 }
@@ -92,25 +93,25 @@ impl Epoch {
     }
 
     // The date of a second.
-    pub fn at_second(t: u64) -> Found
+    pub fn at_second(t: u64) -> DateFound
         ensures { λ r. ⌜ The (λ e. DateAt e t) (toldFound r) ⌝ }
     {
         if t < END {
-            Found::Date(date_of(t))
+            DateFound::Date(date_of(t))
         } else {
-            Found::Refused
+            DateFound::Refused
         }
     }
 
     // The date that comes `by` seconds after this one.
-    pub fn moved(self, by: i64) -> Found
+    pub fn moved(self, by: i64) -> DateFound
         ensures { λ r. ⌜ The (Later self by) (toldFound r) ⌝ }
     {
         match self.seconds() {
-            When::Refused => Found::Refused,
+            When::Refused => DateFound::Refused,
             When::At(s) => match shifted(s, by) {
-                When::Refused => Found::Refused,
-                When::At(t) => Found::Date(date_of(t)),
+                When::Refused => DateFound::Refused,
+                When::At(t) => DateFound::Date(date_of(t)),
             },
         }
     }

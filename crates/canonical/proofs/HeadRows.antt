@@ -13,7 +13,8 @@ use Rattle.kit.proofs.AnswerLaws.{pick-yes, pick-elim}
 use Rattle.kit.proofs.ListLaws.{below}
 use Rattle.kit.specs.Range.{Within}
 use Rattle.days.specs.Years.{row}
-use Rattle.calendar.specs.Calendar.{DateAt, date-at, end as after-2199}
+use Rattle.calendar.specs.Calendar.{DateAt, date-at}
+use Rattle.calendar.specs.End.{end as after-2199}
 use Rattle.calendar.proofs.DateLaws.{date-is as date-is-at}
 use Rattle.days.proofs.YearLaws.{month-le}
 use Rattle.calendar.specs.declared.Epoch.{Epoch}

@@ -14,12 +14,13 @@ use Rattle.kit.specs.Range.{Within, within?, Printable}
 use Rattle.forms.specs.Form as form
 use Rattle.forms.specs.Show.{showField, FieldRoom}
 use Rattle.forms.proofs.ShowLaws.{show-spells, written-spells}
-use Rattle.calendar.specs.Calendar.{end as after-2199}
+use Rattle.calendar.specs.End.{end as after-2199}
 use Rattle.mapset.specs.declared.Kind.the-variants.{Rms, Height}
 use Rattle.mapset.specs.Header.{count, epoch as an-epoch, axis, Said, number, along, a-count, a-epoch, a-axis, VersionRules, Written, says}
-use Rattle.mapset.specs.Described.{line-width, lines-in}
+use Rattle.mapset.specs.Described.{line-width}
+use Rattle.mapset.specs.Lines.{lines-in}
 use Rattle.mapset.proofs.DescribedLaws.{ruled-lines}
-use Rattle.mapset.specs.SoundDecided.{takes-known}
+use Rattle.mapset.proofs.Groups.{takes-known}
 use Rattle.mapset.specs.declared.Axis.{Axis}
 use Rattle.mapset.specs.declared.Version.{Version}
 use Rattle.mapset.specs.Grid.{Line, AxisRules}

@@ -12,20 +12,21 @@ use Rattle.kit.specs.Answer.{All}
 use Rattle.kit.proofs.AnswerLaws.{pick-elim}
 use Rattle.kit.specs.Integer.{int?}
 use Rattle.kit.proofs.ListLaws.{all-append}
-use Rattle.calendar.specs.Calendar.{end as after-2199}
+use Rattle.calendar.specs.End.{end as after-2199}
 use Rattle.mapset.specs.declared.Kind.{Kind}
 use Rattle.mapset.specs.declared.Kind.the-variants.{Tec, Rms, Height}
 use Rattle.mapset.specs.declared.Header.{Header}
 use Rattle.mapset.specs.Grid.{heights, latitudes, longitudes, rows, layers, columns}
 use Rattle.mapset.specs.MapSet.{Block, TecMap, OtherMap, Maps}
 use Rattle.mapset.specs.Areas.{Run}
-use Rattle.mapset.specs.SoundDecided.{run-below}
+use Rattle.mapset.proofs.Groups.{run-below}
 use Rattle.layout.specs.Records.{Vals}
 use Rattle.layout.specs.Labels.{exponent, epoch, block, start, end, layout}
 use Rattle.layout.specs.Layout.{Force, under, with-epoch, last-of, with-last, one-more, one-tec, Other, Left, maps, blocks, Loose, Exponent, InTime, per-map, Opens, Writes, w-exponent, w-tec, w-epoch, w-other, w-block, w-close}
 use Rattle.reading.proofs.RecordLaws.{known-maps}
 use Rattle.areas.proofs.MadeMaps.{Onward, getD-last}
-use Rattle.areas.specs.Formed.{Value, BlockRules, MapRules, Rising}
+use Rattle.areas.specs.Formed.{BlockRules, MapRules, Rising}
+use Rattle.areas.specs.Value.{Value}
 use Rattle.canonical.specs.Canon.{row-of, date-of, six, opening, exponent-rows, value-rows, block-rows, in-force, other-rows, tec-rows, Axes}
 use Rattle.canonical.proofs.RowLaws.{GoodRow, Roomy, row-is, row-good, Fives, values-good}
 use Rattle.canonical.proofs.RoomLaws.{five, six-digits, tenths-six, exponent-room, wide-end, wide-step, wide-node}
@@ -183,7 +184,7 @@ onward-next h (x ∷ xs) e fs o =
 
 -- ---- TEC maps
 
-abbrev pub tec-epochs : List TecMap → List ℕ
+abbrev tec-epochs : List TecMap → List ℕ
 tec-epochs ts = map (λ t. t .epoch) ts
 
 abbrev pub with-tecs : List TecMap → Maps → Maps

@@ -61,7 +61,7 @@ Roomy (X w ∷ is) v = Roomy is v
 Roomy (A w ∷ is) v = Written w (v .0) × Roomy is (v .1)
 Roomy (U w ∷ is) v = Roomy is v
 
-pub roomy-fields : (is : List Item) (v : Vals is) → Roomy is v → Fields is v (columns-of is v)
+roomy-fields : (is : List Item) (v : Vals is) → Roomy is v → Fields is v (columns-of is v)
 unfolding columns-of
 roomy-fields [] v r = f-end
 roomy-fields (I w ∷ is) v r = f-int (showField form.I w (v .0)) (show-spells (r .0)) (roomy-fields is (v .1) (r .1))
@@ -86,7 +86,7 @@ roomy-print (U w ∷ is) v r = all-append _ (replicate w 32) _ (spaces w) (roomy
 abbrev Named : Label → Type 0
 Named l = Printable (name l)
 
-pub name-length : (l : Label) → Known l → length (name l) ≡ 20
+name-length : (l : Label) → Known l → length (name l) ≡ 20
 unfolding all-dec ×-dec ℕ-discrete name
 name-length l k = lookup-all (λ l. length (name l) ≡ 20) (name l) labels l (decided (all-dec (λ l. ℕ-discrete (length (name l)) 20) labels)) k
 

@@ -23,7 +23,7 @@ use Rattle.forms.specs.Show.{digits, aligned, showField}
 use Rattle.mapset.specs.Areas.{six}
 use Rattle.mapset.specs.Decisions.{×₃-dec, ×₄-dec, end?, step?, multiple?, together?, limits?, dimension?, follows?}
 use Rattle.mapset.specs.declared.System.{System}
-use Rattle.mapset.specs.Described.{lines-in, end-to-end, described}
+use Rattle.mapset.specs.Lines.{lines-in, end-to-end, described}
 use Rattle.mapset.specs.MapSet.{Block, MapSet}
 use Rattle.layout.specs.Text.{pad}
 use Rattle.layout.specs.Labels.{epoch, head, bytes, name}

@@ -7,7 +7,8 @@ use lib.IntN.{ℤ, pos, negsuc}
 use lib.ListN.{length, getD, set, take, drop, replicate}
 use Rattle.kit.specs.Answer.{pick, all-dec}
 use Rattle.kit.specs.Integer.{int?, Between}
-use Rattle.calendar.specs.Calendar.{date-at, end as after-2199}
+use Rattle.calendar.specs.Calendar.{date-at}
+use Rattle.calendar.specs.End.{end as after-2199}
 use Rattle.calendar.specs.declared.Epoch.{Epoch}
 use Rattle.forms.specs.Form as form
 use Rattle.forms.specs.Show.{showField}
@@ -16,7 +17,8 @@ use Rattle.mapset.specs.declared.Kind.the-variants.{Tec, Rms, Height}
 use Rattle.mapset.specs.declared.Version.{Version}
 use Rattle.mapset.specs.declared.Header.{Header}
 use Rattle.mapset.specs.Grid.{rows, heights, latitudes, longitudes, AxisRules}
-use Rattle.mapset.specs.Described.{lines-in, FullTexts}
+use Rattle.mapset.specs.Described.{FullTexts}
+use Rattle.mapset.specs.Lines.{lines-in}
 use Rattle.mapset.specs.Header.{Content, count, tenths, epoch as an-epoch, axis, program, mapping, observables, system as a-system, Said, says}
 use Rattle.mapset.specs.MapSet.{Block, TecMap, OtherMap, MapSet}
 use Rattle.layout.specs.Records.{Item, I, F, D, X, A, U, Vals}

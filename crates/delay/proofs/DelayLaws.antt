@@ -5,18 +5,18 @@ use lib.Dec.{T}
 use lib.IntN.{ℤ}
 use lib.Ieee.{Float, binary64, mul, div, le, ofInt}
 use Rattle.ask_nodes.specs.declared.MilliTecu.{MilliTecu}
-use Rattle.delay.specs.Delay.{Told, given, refused, told, whole, InBand, Delays, serves, refuses}
+use Rattle.delay.specs.Delay.{ToldDelay, given, refused, told, whole, InBand, Delays, serves, refuses}
 use Rattle.delay.specs.declared.Delayed.{Delayed}
 use Rattle.delay.specs.declared.Delayed.the-variants.{Given, Refused}
 
-pub delays-once : {x : MilliTecu} {f : Float} (a b : Told) → Delays x f a → Delays x f b → a ≡ b
+pub delays-once : {x : MilliTecu} {f : Float} (a b : ToldDelay) → Delays x f a → Delays x f b → a ≡ b
 delays-once a b (serves p) (serves q) = refl
 delays-once a b (serves p) (refuses n) = absurd (n p)
 delays-once a b (refuses n) (serves p) = absurd (n p)
 delays-once a b (refuses m) (refuses n) = refl
 
 -- and so for what the code returns
-abbrev back : Told → Delayed
+abbrev back : ToldDelay → Delayed
 back (given c t m) = Given (record { carrier = c; tecu = t; metres = m })
 back (refused n) = Refused
 

@@ -47,7 +47,7 @@ units-small j q k s = go (ltb (q * 2 ^ k) (2 ^ 2098))
     go true h = odd-small j 54 q k 1074 s h
     go false h = absurd (unfold le in h)
 
-pub round-small : (j : ℕ) → Held j → (s : Bool) (a b : ℕ) → 0 < b → a ≤ 2 ^ j * b → Small j (round binary64 s a b)
+round-small : (j : ℕ) → Held j → (s : Bool) (a b : ℕ) → 0 < b → a ≤ 2 ^ j * b → Small j (round binary64 s a b)
 round-small j held s a b p h =
     let m : T (le (round binary64 false a b) (round binary64 false (2 ^ j) 1)) = round-mono binary64 a b (2 ^ j) 1 p (omega arith) (rw (mul-one a) h) in
     rw (round-is binary64 s a b) (units-small j _ _ s (rw (held, round-is binary64 false a b) at m))
@@ -118,7 +118,7 @@ module _ (f : Float) (b : InBand f) where
 
   -- ---- a served delay
 
-  pub delay-finite : (x : MilliTecu) → natAbs (x .0) ≤ 2 ^ 31 → T (finite (metres x f))
+  delay-finite : (x : MilliTecu) → natAbs (x .0) ≤ 2 ^ 31 → T (finite (metres x f))
   delay-finite x h =
       let product : Small 90 (mul binary64 (tecu x) (whole 403_000_000_000_000_000)) = rw (factor-exact .0) (mul-small 59 31 90 refl (unfold round in refl) (tecu x) 12_298_583_984_375 15 (tecu-small x h) (omega arith)) in
       div-small 90 (unfold round in refl) _ (mul binary64 f f) product square square-large .0

@@ -8,11 +8,11 @@ use Rattle.delay.specs.declared.Delayed.{Delayed}
 use Rattle.delay.specs.declared.Delayed.the-variants.{Given, Refused}
 
 -- carrier, TECU and metres, or 02's number of a refusal
-pub data Told : Type 0 where
-  given : Float → Float → Float → Told
-  refused : ℕ → Told
+pub data ToldDelay : Type 0 where
+  given : Float → Float → Float → ToldDelay
+  refused : ℕ → ToldDelay
 
-abbrev pub told : Delayed → Told
+abbrev pub told : Delayed → ToldDelay
 told (Given d) = given (d .carrier) (d .tecu) (d .metres)
 told Refused = refused 25
 
@@ -36,6 +36,6 @@ metres x f = div binary64 (mul binary64 (tecu x) (whole 403_000_000_000_000_000)
 abbrev pub InBand : Float → Type 0
 InBand f = T (le (whole 1_000_000_000) f) × T (le f (whole 2_000_000_000))
 
-pub data Delays (x : MilliTecu) (f : Float) : Told → Type 0 where
+pub data Delays (x : MilliTecu) (f : Float) : ToldDelay → Type 0 where
   serves : InBand f → Delays x f (given f (tecu x) (metres x f))
   refuses : ¬ InBand f → Delays x f (refused 25)

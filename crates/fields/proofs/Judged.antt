@@ -26,7 +26,7 @@ or-true : (x y : Bool) → (x || y) ≡ true → (x ≡ true) ⊎ (y ≡ true)
 or-true true y e = inl refl
 or-true false y e = inr e
 
-pub digit-true : (b : ℕ) → Digit b → isDigit b ≡ true
+digit-true : (b : ℕ) → Digit b → isDigit b ≡ true
 digit-true b h = rw (le-leb 48 b (h .0), le-leb b 57 (h .1))
 
 pub true-digit : (b : ℕ) → isDigit b ≡ true → Digit b
@@ -56,7 +56,7 @@ well-digits b (c ∷ l) h e =
     let a = and-true (mayPrecede b c) (well (c ∷ l)) e in
     (h, well-digits c l (true-digit c (sym (digit-next b c h) ∙ a .0)) (a .1))
 
-pub well-whole : (f : List ℕ) → well f ≡ true → (minus : Bool) × (ds : List ℕ) × (0 < length ds) × Whole minus ds f
+well-whole : (f : List ℕ) → well f ≡ true → (minus : Bool) × (ds : List ℕ) × (0 < length ds) × Whole minus ds f
 well-whole [] e = let z : _≡_ {A = ℕ} 0 1 = cc in absurd (omega arith)
 well-whole (b ∷ []) e = (false, b ∷ [], omega arith, record { blanks = 0; digits = (true-digit b e, tt); bytes = refl })
 well-whole (b ∷ c ∷ l) e =
@@ -116,7 +116,7 @@ blanks-numeral zero l = refl
 blanks-numeral (suc n) l = blanks-numeral n l
 
 module _ {minus : Bool} {ds f : List ℕ} (w : Whole minus ds f) where
-  pub whole-well : 0 < length ds → well f ≡ true
+  whole-well : 0 < length ds → well f ≡ true
   whole-well h = rw (w .bytes, well-blanks) (sign-well minus ds (w .digits) h)
 
   whole-minus : hasMinus f ≡ minus

@@ -85,9 +85,6 @@ there [] i h = absurd (omega arith)
 there (b ∷ bs) zero h = refl
 there (b ∷ bs) (suc i) h = there bs i (omega arith)
 
-further-none : (n : ℕ) (r : Found) → r ≡ Nowhere → further n r ≡ Nowhere
-further-none n r e = rw e
-
 further-further : (n : ℕ) (r : Found) → further n (further 1 r) ≡ further (n + 1) r
 further-further n (At i) = ap At (omega arith)
 further-further n Nowhere = refl

@@ -83,7 +83,7 @@ further-none : (n : ℕ) (r : Found) → further n r ≡ Nowhere → r ≡ Nowhe
 further-none n (At i) e = clash (cc)
 further-none n Nowhere e = refl
 
-pub none-blank : (l : List ℕ) → firstNotBlank l ≡ Nowhere → All Blank l
+none-blank : (l : List ℕ) → firstNotBlank l ≡ Nowhere → All Blank l
 unfolding firstNotBlank
 none-blank [] e = tt
 none-blank (b ∷ bs) e = go (eqb b 32) refl e (none-blank bs)
@@ -102,7 +102,7 @@ further-at : (r : Found) (i : ℕ) → further 1 r ≡ At i → (j : ℕ) × ((r
 further-at (At j) i e = let h : 1 + j ≡ i = cc in (j, (refl, omega arith))
 further-at Nowhere i e = clash (cc)
 
-pub first-at : (l : List ℕ) (i : ℕ) → firstNotBlank l ≡ At i → First l i
+first-at : (l : List ℕ) (i : ℕ) → firstNotBlank l ≡ At i → First l i
 unfolding firstNotBlank
 first-at [] i e = clash (cc)
 first-at (b ∷ bs) i e = go (eqb b 32) refl e (first-at bs)

@@ -60,10 +60,15 @@ fresh [] [] h = tt
 fresh [] (d ∷ ds) h = ((λ e. omega arith), (λ e. omega arith))
 fresh (d ∷ ds) part h = let k = h .0 in ((λ e. omega arith), (λ e. omega arith))
 
+-- skipping ends at a byte that is no blank: what stands behind it stays
+skip-ends : (b : ℕ) (bs : List ℕ) → ¬ (b ≡ 32) → skip (b ∷ bs) ≡ b ∷ bs
+skip-ends b bs h = ap (λ (t : Bool). cond t (skip bs) (b ∷ bs)) (ne-eqb b 32 h)
+
 sign-read : (fm : Form) (minus : Bool) (l : List ℕ) → Fresh l → afterBlanks fm (skip (sign minus ++ l)) ≡ numberOf fm minus l
 sign-read fm true l h = refl
 sign-read fm false [] h = refl
-sign-read fm false (b ∷ bs) h = rw (ne-eqb b 32 (h .0), ne-eqb b 45 (h .1))
+sign-read fm false (b ∷ bs) h =
+    ap (afterBlanks fm) (skip-ends b bs (h .0)) ∙ ap (λ (t : Bool). cond t (numberOf fm true bs) (numberOf fm false (b ∷ bs))) (ne-eqb b 45 (h .1))
 
 module _ {fm : Form} {w : ℕ} {z : ℤ} {f : List ℕ} where
   pub read-made : Spells fm w z f → readField fm f ≡ Number z

@@ -14,7 +14,8 @@ use Rattle.kit.specs.Range.{Within, Printable}
 use Rattle.mapset.specs.declared.Version.{Version}
 use Rattle.mapset.specs.declared.Header.{Header}
 use Rattle.mapset.specs.declared.Texts.{Texts}
-use Rattle.mapset.specs.Described.{lines-width, lines-in, end-to-end, described, FullTexts, full, no-lines}
+use Rattle.mapset.specs.Described.{lines-width, FullTexts, full}
+use Rattle.mapset.specs.Lines.{lines-in, end-to-end, described, no-lines}
 use Rattle.mapset.proofs.DescribedLaws.{lines-length, lines-described, described-rules}
 use Rattle.mapset.specs.MapSet.{MapSet}
 use Rattle.mapset.specs.Grid.{Line, AxisRules}

@@ -9,7 +9,8 @@ use Rattle.kit.specs.Range.{Within}
 use Rattle.mapset.specs.declared.Version.{Version}
 use Rattle.mapset.specs.declared.Header.{Header}
 use Rattle.mapset.specs.declared.Texts.{Texts}
-use Rattle.mapset.specs.Described.{lines-in, FullTexts, full}
+use Rattle.mapset.specs.Described.{FullTexts, full}
+use Rattle.mapset.specs.Lines.{lines-in}
 use Rattle.mapset.specs.Grid.{heights, latitudes, longitudes, AxisRules, Limits}
 use Rattle.mapset.specs.Header.{Dimension}
 use Rattle.mapset.specs.MapSet.{MapSet}

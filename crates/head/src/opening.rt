@@ -9,7 +9,7 @@ ghost use Rattle.reading.specs.Head.{heading};
 ghost use Rattle.reading.specs.Read.{nothing-yet, read};
 ghost use Rattle.head_state.specs.Got.{texts-of};
 ghost use Rattle.head.specs.Opened.{Keeps, Passes, onward, beside, ReadsHeader};
-ghost use Rattle.mapset.specs.Described.{no-lines};
+ghost use Rattle.mapset.specs.Lines.{no-lines};
 ghost use mathlib.Core.List.{[]};
 ghost use Rattle.mapset.specs.Said.{blank-texts};
 use super::Headed;

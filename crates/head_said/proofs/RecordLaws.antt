@@ -59,11 +59,11 @@ module _ (line : List ℕ) (fits : length line ≤ 80) where
   version-is = read-is line fits (F 8 ∷ X 12 ∷ []) (omega arith)
 
 -- three numbers between columns that must be blank
-abbrev pub three-of : Triple → Found → Answer Fault (ℤ × ℤ × ℤ)
+abbrev three-of : Triple → Found → Answer Fault (ℤ × ℤ × ℤ)
 three-of (Amiss c) g = refused (fault 6 c)
 three-of (Three x y z) g = unless g (ok (x, y, z))
 
-abbrev pub three-in : Found → Triple → Found → Answer Fault (ℤ × ℤ × ℤ)
+abbrev three-in : Found → Triple → Found → Answer Fault (ℤ × ℤ × ℤ)
 three-in f t g = unless f (three-of t g)
 
 three-by : (f : Found) (x y z : Field) (g : Found)

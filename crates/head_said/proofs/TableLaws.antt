@@ -50,7 +50,7 @@ abbrev pub of-kind : ℕ → ℕ → ℕ → Content
 of-kind k low high =
     getD (count low high ∷ tenths low high ∷ epoch ∷ axis heights ∷ axis latitudes ∷ axis longitudes ∷ program ∷ mapping ∷ observables ∷ []) k system
 
-pub by-kind : (k : Content) → of-kind (kind-of k) (low-of k) (high-of k) ≡ k
+by-kind : (k : Content) → of-kind (kind-of k) (low-of k) (high-of k) ≡ k
 by-kind (count low high) = refl
 by-kind (tenths low high) = refl
 by-kind epoch = refl

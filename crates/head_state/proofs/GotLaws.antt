@@ -49,7 +49,7 @@ module _ {A : Type 0} (f : ℕ → A) where
 -- ---- slots
 
 module _ (s : State) (i : ℕ) (inside : i < 22) where
-  pub slot-at : getD (slots-of s) i none ≡ slot s i
+  slot-at : getD (slots-of s) i none ≡ slot s i
   unfolding slots-of
   slot-at = places-at (slot s) 0 22 i none inside ∙ ap (slot s) (zero-add i)
 
@@ -70,7 +70,7 @@ changed s t i y l e a o =
     (λ k n. let m : ¬ (k ≡ i) = λ q. n (q ∙ sym (zero-add i)) in ap₂ if-stands (seen k ∙ getD-set-other (s .seen) i k true false m) (o k m)))
 
 -- a record of numbers
-abbrev pub with-value : State → ℕ → Value → State
+abbrev with-value : State → ℕ → Value → State
 with-value s i v =
     record { aux = s .aux; exponent = s .exponent; seen = set (s .seen) i true; values = set (s .values) i v; program = s .program; agency = s .agency; date = s .date; mapping = s .mapping; observables = s .observables; descriptions = s .descriptions }
 
@@ -132,15 +132,15 @@ pub observables-place : (i : ℕ) → content i ≡ observables → i ≡ 7
 observables-place i e = eqb→eq i 7 (rw e at (right i))
 
 module _ (s : State) where
-  abbrev pub with-program : List ℕ → List ℕ → List ℕ → State
+  abbrev with-program : List ℕ → List ℕ → List ℕ → State
   with-program a b c =
       record { aux = s .aux; exponent = s .exponent; seen = set (s .seen) 0 true; values = s .values; program = a; agency = b; date = c; mapping = s .mapping; observables = s .observables; descriptions = s .descriptions }
 
-  abbrev pub with-mapping : List ℕ → State
+  abbrev with-mapping : List ℕ → State
   with-mapping a =
       record { aux = s .aux; exponent = s .exponent; seen = set (s .seen) 5 true; values = s .values; program = s .program; agency = s .agency; date = s .date; mapping = a; observables = s .observables; descriptions = s .descriptions }
 
-  abbrev pub with-observables : List ℕ → State
+  abbrev with-observables : List ℕ → State
   with-observables a =
       record { aux = s .aux; exponent = s .exponent; seen = set (s .seen) 7 true; values = s .values; program = s .program; agency = s .agency; date = s .date; mapping = s .mapping; observables = a; descriptions = s .descriptions }
 

@@ -1,19 +1,19 @@
 -- A DESCRIPTION line put behind those got so far.
-use mathlib.Core.Path.{_≡_, refl, sym, ap, _∙_}
+use mathlib.Core.Path.{_≡_, sym, ap, _∙_}
 use mathlib.Core.List.{List, [], _∷_, _++_, append-assoc, append-nil}
 use Prim.Native.Nat.{ℕ, _+_, _*_, _-_, _≤_, _<_}
 use native.Mathlib.Decide.{decLt}
 use native.Mathlib.Omega.{arith}
 use lib.ListN.{length, take, drop, replicate, length-append, length-drop, length-replicate, replicate-append-replicate}
 use lib.Seq.{take-at, drop-at, length-take-le}
-use Rattle.kit.specs.Answer.{ok, refused, need, bind, amap}
+use Rattle.kit.specs.Answer.{ok, refused, bind, amap}
 use Rattle.kit.proofs.AnswerLaws.{need-yes, need-no}
 use Rattle.forms.specs.Columns.{columns}
-use Rattle.mapset.specs.Described.{most-lines, line-width, lines-width, lines-in, end-to-end, described}
+use Rattle.mapset.specs.Described.{most-lines, line-width, lines-width}
+use Rattle.mapset.specs.Lines.{lines-in, end-to-end, described}
 use Rattle.mapset.proofs.DescribedLaws.{lines-length, ends-lines}
 use Rattle.layout.specs.Text.{pad}
 use Rattle.layout.specs.Records.{A}
-use Rattle.layout.specs.Labels.{description}
 use Rattle.layout.specs.Layout.{Lines, plain, mode}
 use Rattle.reading.specs.Feed.{fault}
 use Rattle.reading.specs.Fields.{fields}
@@ -53,7 +53,7 @@ module _ (k : ℕ) (bs : List ℕ) (w : Holds k bs) (more-room : k < most-lines)
       let m : lines-width - length ends ≡ line-width + (lines-width - (line-width * k + line-width)) = omega (arith, ends-width) in
       ap (drop (line-width * k)) (sym (w .tidy)) ∙ drop-at ends (replicate (lines-width - length ends) 32) (line-width * k) ends-width ∙ ap (λ n. replicate n 32) m
 
-  pub line-kept : (d : List ℕ) → length d ≡ line-width
+  line-kept : (d : List ℕ) → length d ≡ line-width
       → take (line-width * k) bs ++ (d ++ drop line-width (drop (line-width * k) bs)) ≡ described (lines-in k bs ++ (d ∷ []))
   unfolding described
   line-kept d z =

@@ -15,7 +15,8 @@ use Rattle.kit.proofs.AnswerLaws.{need-yes, need-no, pick-yes, pick-no, Yields,
 use Rattle.kit.proofs.TruthLaws.{tested-at}
 use Rattle.mapset.specs.declared.Version.{Version}
 use Rattle.mapset.specs.declared.Header.{Header}
-use Rattle.mapset.specs.Described.{most-lines, lines-in, described}
+use Rattle.mapset.specs.Described.{most-lines}
+use Rattle.mapset.specs.Lines.{lines-in, described}
 use Rattle.mapset.proofs.DescribedLaws.{lines-length}
 use Rattle.mapset.specs.Grid.{Limits}
 use Rattle.mapset.specs.Header.{Content, system as a-system, starred, Said, Dimension}
@@ -30,7 +31,7 @@ use Rattle.reading.proofs.LabelLaws.{label-known, label-unknown, named, aux-num
 use Rattle.reading.specs.Maps.{missing}
 use Rattle.reading.specs.Head.{Turn, more, done, meant, place, none?, Complete, complete?, made, once, on-description, on-system, on-end, at-head, head-step}
 use Rattle.head_said.specs.Records.{system-in, entry}
-use Rattle.head_state.specs.Got.{said, slot, slots-of, texts-of, five, Went, went, ended, gone, told, kept, turned}
+use Rattle.head_state.specs.Got.{said, slot, slots-of, texts-of, Went, went, ended, gone, told, kept, turned}
 use Rattle.head_said.specs.Tables.{action, place-at}
 use Rattle.head_said.proofs.RecordLaws.{blank-says, bind-amap, bind-same}
 use Rattle.head_state.proofs.GotLaws.{stands, is-missing, texts-got}

@@ -9,7 +9,8 @@ use lib.Dec.{eqb}
 use lib.ListN.{length, getD}
 use Rattle.kit.specs.Answer.{Answer, ok, refused, need, bind, amap}
 use Rattle.mapset.specs.declared.Version.{Version}
-use Rattle.mapset.specs.Described.{most-lines, lines-width, lines-in, described}
+use Rattle.mapset.specs.Described.{most-lines, lines-width}
+use Rattle.mapset.specs.Lines.{lines-in, described}
 use Rattle.mapset.specs.Header.{system as a-system, starred, Said}
 use Rattle.mapset.specs.Decisions.{dimension?, limits?}
 use Rattle.layout.specs.Labels.{exponent, content, letters}

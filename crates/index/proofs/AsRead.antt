@@ -22,7 +22,9 @@ use Rattle.areas.specs.Lists.{tab}
 use Rattle.areas.specs.Valid.{values-in}
 use Rattle.areas.specs.Events as event
 use Rattle.areas.specs.Events.{Event}
-use Rattle.areas.specs.Stores.{before, put-values, put-exponent, scan, scanned, cleared, fronts as all-fronts, lengths}
+use Rattle.areas.specs.Stores.{put-values, put-exponent, scan, scanned, cleared, lengths}
+use Rattle.areas.specs.Places.{before}
+use Rattle.areas.specs.Fronts.{fronts as all-fronts}
 use Rattle.areas.specs.Scan.{events}
 use Rattle.areas.proofs.ListLaws.{tab-all, fill-length}
 use Rattle.areas.proofs.Needs.{needs, present-bit}

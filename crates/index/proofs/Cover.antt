@@ -26,7 +26,7 @@ Among Height i n ms = there (found (ms .height) i) ≡ true
 
 module _ (h : Header) (k : Kind) (i d : ℕ) where
   -- the block after d others of that map is still to be written
-  abbrev pub Wanted : ℕ → Left → Type 0
+  abbrev Wanted : ℕ → Left → Type 0
   Wanted n nothing = ⊥
   Wanted n (maps ms) = Among k i n ms
   Wanted n (early m ms) = Among k i n (one-tec m ms)

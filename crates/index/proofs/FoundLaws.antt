@@ -25,17 +25,17 @@ use Rattle.reading.proofs.RecordLaws.{blank-spaces, rec-name, rec-fields, named
 use Rattle.kit.proofs.ListLaws.{all-append, all-drop}
 use Rattle.index.specs.Stands as at
 use Rattle.index.specs.Stands.{Over, Eol, Blanks, Shown, Stands}
-use Rattle.index.specs.Found.{clean?, blank?, agrees?, Found, in-front, on-ok, values-at, block-at}
+use Rattle.index.specs.Found.{clean?, blank?, agrees?, BlockFound, in-front, on-ok, values-at, block-at}
 use Rattle.read_lines.specs.Cuts.{Cut, with-byte, with-cr, cuts}
 use Rattle.index.proofs.CutLaws.{cut-line, cut-last, Joined, j-none, j-last, j-line, joined}
 
 -- ---- one line
 
-pub in-front-none : (f : Found) → in-front [] [] f ≡ f
+pub in-front-none : (f : BlockFound) → in-front [] [] f ≡ f
 in-front-none none = refl
 in-front-none (some x) = refl
 
-pub in-front-twice : (zs ys : List ℤ) (a b : List ℕ) (f : Found) → in-front zs a (in-front ys b f) ≡ in-front (zs ++ ys) (a ++ b) f
+pub in-front-twice : (zs ys : List ℤ) (a b : List ℕ) (f : BlockFound) → in-front zs a (in-front ys b f) ≡ in-front (zs ++ ys) (a ++ b) f
 in-front-twice zs ys a b none = refl
 in-front-twice zs ys a b (some x) = λ i. some (sym (append-assoc zs ys (x .0)) i, sym (append-assoc a b (x .1)) i)
 
@@ -167,15 +167,15 @@ module _ (h : Header) (d : ℕ) where
 
 -- ---- what is found stands
 
-data Gives (Q : List ℤ × List ℕ → Type 0) : Found → Type 0 where
+data Gives (Q : List ℤ × List ℕ → Type 0) : BlockFound → Type 0 where
   nothing : Gives Q none
   gives : {x : List ℤ × List ℕ} → Q x → Gives Q (some x)
 
-in-front-gives : {Q R : List ℤ × List ℕ → Type 0} (zs : List ℤ) (b : List ℕ) {f : Found} → ((x : List ℤ × List ℕ) → Q x → R (zs ++ x .0, b ++ x .1)) → Gives Q f → Gives R (in-front zs b f)
+in-front-gives : {Q R : List ℤ × List ℕ → Type 0} (zs : List ℤ) (b : List ℕ) {f : BlockFound} → ((x : List ℤ × List ℕ) → Q x → R (zs ++ x .0, b ++ x .1)) → Gives Q f → Gives R (in-front zs b f)
 in-front-gives zs b g nothing = nothing
 in-front-gives zs b g (gives {x} q) = gives (g x q)
 
-on-ok-gives : {W A : Type 0} {Q : List ℤ × List ℕ → Type 0} (o : Answer W A) {f : A → Found} → ((a : A) → o ≡ ok a → Gives Q (f a)) → Gives Q (on-ok o f)
+on-ok-gives : {W A : Type 0} {Q : List ℤ × List ℕ → Type 0} (o : Answer W A) {f : A → BlockFound} → ((a : A) → o ≡ ok a → Gives Q (f a)) → Gives Q (on-ok o f)
 on-ok-gives (ok a) g = g a refl
 on-ok-gives (refused w) g = nothing
 
@@ -335,5 +335,5 @@ module _ (h : Header) (d : ℕ) where
   -- no second block stands there
   pub stands-once : {u : List ℕ} {zs zs′ : List ℤ} {b b′ : List ℕ} → Stands h d u zs b → Stands h d u zs′ b′ → (zs ≡ zs′) × (b ≡ b′)
   stands-once {u} {zs} {zs′} {b} {b′} s s′ =
-      let e : _≡_ {A = Found} (some (zs, b)) (some (zs′, b′)) = sym (stands-found h d s) ∙ stands-found h d s′ in
-      (ap (λ (f : Found). elim f [ none ↦ [] | some x ↦ x .0 ]) e, ap (λ (f : Found). elim f [ none ↦ [] | some x ↦ x .1 ]) e)
+      let e : _≡_ {A = BlockFound} (some (zs, b)) (some (zs′, b′)) = sym (stands-found h d s) ∙ stands-found h d s′ in
+      (ap (λ (f : BlockFound). elim f [ none ↦ [] | some x ↦ x .0 ]) e, ap (λ (f : BlockFound). elim f [ none ↦ [] | some x ↦ x .1 ]) e)

@@ -19,7 +19,9 @@ use Rattle.layout.specs.Layout.{Exponent, per-map}
 use Rattle.reading.specs.Maps.{kind?}
 use Rattle.areas.specs.Events as event
 use Rattle.areas.specs.Events.{Event}
-use Rattle.areas.specs.Stores.{is, before, place, put-values, first-of, put-exponent, Inside, scan}
+pub use Rattle.areas.proofs.FirstLaws.{first-in}
+use Rattle.areas.specs.Stores.{is, put-values, put-exponent, Inside, scan}
+use Rattle.areas.specs.Places.{before, place, first-of}
 use Rattle.areas.proofs.Sorted.{is-self}
 use Rattle.index.specs.Stands.{Stands}
 use Rattle.index.specs.Made.{put-starts}
@@ -76,11 +78,6 @@ kind-apart Rms Height s x y h h′ n e = omega arith
 kind-apart Height Tec s x y h h′ n e = omega arith
 kind-apart Height Rms s x y h h′ n e = omega arith
 kind-apart Height Height s x y h h′ n e = n refl
-
-pub first-in : (k : Kind) (s x : ℕ) → x < s → first-of k s + x < 3 * s
-first-in Tec s x h = omega arith
-first-in Rms s x h = omega arith
-first-in Height s x h = omega arith
 
 is-not : (k k′ : Kind) → ¬ (k′ ≡ k) → is k k′ ≡ false
 is-not Tec Tec n = absurd (n refl)

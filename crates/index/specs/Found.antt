@@ -36,20 +36,20 @@ agrees? h d v =
     (×-dec (int? (v .1 .1 .1 .0) (h .grid .longitudes .step)) (height? h d (v .1 .1 .1 .1 .0))))))
 
 -- ---- values and lines
-abbrev pub Found : Type 0
-Found = Option (List ℤ × List ℕ)
+abbrev pub BlockFound : Type 0
+BlockFound = Option (List ℤ × List ℕ)
 
 -- values and bytes in front of what is found
-abbrev pub in-front : List ℤ → List ℕ → Found → Found
+abbrev pub in-front : List ℤ → List ℕ → BlockFound → BlockFound
 in-front zs b none = none
 in-front zs b (some x) = some (zs ++ x .0, b ++ x .1)
 
-abbrev pub on-ok : {W A : Type 0} → Answer W A → (A → Found) → Found
+abbrev pub on-ok : {W A : Type 0} → Answer W A → (A → BlockFound) → BlockFound
 on-ok (ok a) f = f a
 on-ok (refused w) f = none
 
 -- the next c values, up to the last one's line without its end
-unfoldable pub values-at : (c : ℕ) → List Cut → Found
+unfoldable pub values-at : (c : ℕ) → List Cut → BlockFound
 values-at c [] = none
 values-at c (l ∷ ls) =
     pick (clean? (l .0))
@@ -58,7 +58,7 @@ values-at c (l ∷ ls) =
     none
 
 -- the block after d others of its map
-unfoldable pub block-at : (h : Header) (d : ℕ) → List Cut → Found
+unfoldable pub block-at : (h : Header) (d : ℕ) → List Cut → BlockFound
 block-at h d [] = none
 block-at h d (l ∷ ls) =
     pick (clean? (l .0))

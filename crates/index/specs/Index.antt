@@ -12,7 +12,7 @@ use Rattle.mapset.specs.Areas.{Areas, Present, blocks}
 use Rattle.mapset.specs.declared.Header.{Header}
 use Rattle.mapset.specs.Described.{FullTexts}
 use Rattle.layout.specs.Layout.{Exponent, per-map}
-use Rattle.areas.specs.Stores.{before, place, first-of}
+use Rattle.areas.specs.Places.{before, place, first-of}
 use Rattle.areas.specs.Valid.{values-in}
 use Rattle.ask_nodes.specs.Value.{kind-of}
 use Rattle.index.specs.Stands.{Stands}

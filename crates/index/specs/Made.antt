@@ -15,7 +15,7 @@ use Rattle.reading.specs.Fields.{label}
 use Rattle.areas.specs.Flat.{areas}
 use Rattle.areas.specs.Events as event
 use Rattle.areas.specs.Events.{Event}
-use Rattle.areas.specs.Stores.{before, first-of}
+use Rattle.areas.specs.Places.{before, first-of}
 use Rattle.areas.specs.Scan.{by-label, exponent-in, events}
 use Rattle.read_lines.specs.Cuts.{Cut, cuts}
 use Rattle.index.specs.Found.{clean?, blank?}

@@ -157,7 +157,7 @@ module _ (at done column spot : ℕ) where
 
 module _ (t : List ℕ) (at c end to : ℕ) (h : Holds t at c end to) where
   -- a value of the row, where it stands in the text
-  pub field-reads : (k : ℕ) → k < on-row c → Reads t (at + k * 5) (getD (h .have) k (pos 0))
+  field-reads : (k : ℕ) → k < on-row c → Reads t (at + k * 5) (getD (h .have) k (pos 0))
   field-reads k l =
       let u : List ℕ = drop at t in
       let n : ℕ = end - at in
@@ -177,7 +177,7 @@ module _ (t : List ℕ) (at c end to : ℕ) (h : Holds t at c end to) where
         five = ap (λ j. readField I (take j (drop (at + k * 5) t))) q ∙ ap (readField I) (sym o) ∙ ap (λ j. readField I (take j (drop (k * 5) (take n u)))) (sym p) ∙ field-whole (take n u) k (room (take n u) k (ap isNumber f)) ∙ f;
       }
 
-  pub row-size : length (h .have) ≡ on-row c
+  row-size : length (h .have) ≡ on-row c
   row-size =
       let a = h .starts in
       let b = h .ends in
@@ -243,7 +243,7 @@ module _ {t : List ℕ} {from c column at left spot : ℕ} (g : Going t from c c
 
   module _ (end to : ℕ) (h : Holds t at left end to) where
     -- the column is passed already, or it is on this row
-    pub spot-reads : (s : ℕ) → s ≡ spot-of at (c - left) column spot → column < c - left + on-row left → Reads t s (getD (g .have ++ h .have) column (pos 0))
+    spot-reads : (s : ℕ) → s ≡ spot-of at (c - left) column spot → column < c - left + on-row left → Reads t s (getD (g .have ++ h .have) column (pos 0))
     unfolding spot-of
     spot-reads s e l = by (decLe (c - left) column)
       where

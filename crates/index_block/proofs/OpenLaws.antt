@@ -34,9 +34,9 @@ use Rattle.maps_agree.specs.Agreement.{differing}
 use Rattle.read_lines.specs.Cuts.{Cut, cuts}
 use Rattle.read_lines.specs.Lines as L
 use Rattle.read_lines.specs.declared.Line.the-variants as line
-use Rattle.index.specs.Found.{clean?, agrees?, Found, in-front, on-ok, values-at, block-at}
+use Rattle.index.specs.Found.{clean?, agrees?, BlockFound, in-front, on-ok, values-at, block-at}
 use Rattle.index.proofs.FoundLaws.{opening-found, named-full, firsts, cuts-split, first-rowless}
-use Rattle.index_block.specs.Hits.{between, values-from, At, Hits, Opening, block-from}
+use Rattle.index_block.specs.Hits.{between, values-from, At, Hits, OpensAs, block-from}
 use Rattle.index_block.specs.declared.Hit.{Hit}
 use Rattle.index_block.specs.declared.Hit.the-variants as hit
 use Rattle.index_block.proofs.HitLaws.{between-join}
@@ -140,12 +140,12 @@ module _ (h : Header) (d left : ℕ) (u : d < per-map h) (e : left ≡ per-map h
 -- ---- the line
 
 module _ (h : Header) (d : ℕ) (l : List ℕ) where
-  pub unnamed : truth (same (drop 60 (pad l)) (name block)) ≡ false → Opening h d l false
+  pub unnamed : truth (same (drop 60 (pad l)) (name block)) ≡ false → OpensAs h d l false
   unfolding block-at
   unnamed f e cs =
       pick-elim (λ x. x ≡ none) (clean? l) (λ _. pick-no (same (drop 60 (pad l)) (name block)) _ _ (truth-false (same (drop 60 (pad l)) (name block)) f)) (λ _. refl)
 
-  pub ill-formed : {w : Fault} → refused w ≡ fields block (pad l) → Opening h d l false
+  pub ill-formed : {w : Fault} → refused w ≡ fields block (pad l) → OpensAs h d l false
   unfolding block-at
   ill-formed {w} f e cs =
       pick-elim (λ x. x ≡ none) (clean? l)
@@ -153,7 +153,7 @@ module _ (h : Header) (d : ℕ) (l : List ℕ) where
       (λ _. ap (λ o. on-ok o (λ v. pick (agrees? h d v) (in-front [] (l ++ e) (values-at (columns (h .grid)) cs)) none)) (sym f)) (λ _. refl))
       (λ _. refl)
 
-  disagreeing : (v : Vals (layout block)) → ok v ≡ fields block (pad l) → ¬ Opens h d v → Opening h d l false
+  disagreeing : (v : Vals (layout block)) → ok v ≡ fields block (pad l) → ¬ Opens h d v → OpensAs h d l false
   unfolding block-at
   disagreeing v f n e cs =
       pick-elim (λ x. x ≡ none) (clean? l)
@@ -161,7 +161,7 @@ module _ (h : Header) (d : ℕ) (l : List ℕ) where
       (λ _. ap (λ o. on-ok o (λ v. pick (agrees? h d v) (in-front [] (l ++ e) (values-at (columns (h .grid)) cs)) none)) (sym f) ∙ pick-no (agrees? h d v) _ _ n) (λ _. refl))
       (λ _. refl)
 
-  pub judged : (v : Vals (layout block)) → truth (same (drop 60 (pad l)) (name block)) ≡ true → ok v ≡ fields block (pad l) → (b : Bool) → b ≡ truth (agrees? h d v) → Opening h d l b
+  pub judged : (v : Vals (layout block)) → truth (same (drop 60 (pad l)) (name block)) ≡ true → ok v ≡ fields block (pad l) → (b : Bool) → b ≡ truth (agrees? h d v) → OpensAs h d l b
   judged v n f true e = (v, (truth-true (same (drop 60 (pad l)) (name block)) n, (sym f, truth-true (agrees? h d v) (sym e))))
   judged v n f false e = disagreeing v f (truth-false (agrees? h d v) (sym e))
 
@@ -205,20 +205,20 @@ module _ (h : Header) (d : ℕ) where
       upto : (j : ℕ) → between t at (at + j) ≡ take j (drop at t)
       upto j = let e : at + j - at ≡ j = omega arith in ap (λ i. take i (drop at t)) e
 
-      pub from-other : (b : Bool) → Opening h d (take (at + w - at) (drop at t)) b → b ≡ false → block-from h d t at ≡ none
+      pub from-other : (b : Bool) → OpensAs h d (take (at + w - at) (drop at t)) b → b ≡ false → block-from h d t at ≡ none
       from-other b o e =
-          let q : Opening h d (take w (drop at t)) false = subst (λ x. Opening h d x false) (upto w) (subst (Opening h d (take (at + w - at) (drop at t))) e o) in
+          let q : OpensAs h d (take w (drop at t)) false = subst (λ x. OpensAs h d x false) (upto w) (subst (OpensAs h d (take (at + w - at) (drop at t))) e o) in
           ap (block-at h d) (s .starts .cut) ∙ q (s .starts .end) (cuts (drop next (drop at t)))
 
-      from-opening : (b : Bool) → Opening h d (take (at + w - at) (drop at t)) b → b ≡ true
+      from-opening : (b : Bool) → OpensAs h d (take (at + w - at) (drop at t)) b → b ≡ true
           → block-from h d t at ≡ in-front [] (between t at (at + next)) (values-from t (at + next) (columns (h .grid)))
       from-opening b o e =
-          let q : Opening h d (take w (drop at t)) true = subst (λ x. Opening h d x true) (upto w) (subst (Opening h d (take (at + w - at) (drop at t))) e o) in
+          let q : OpensAs h d (take w (drop at t)) true = subst (λ x. OpensAs h d x true) (upto w) (subst (OpensAs h d (take (at + w - at) (drop at t))) e o) in
           ap (block-at h d) (s .starts .cut)
           ∙ opening-found h d (take w (drop at t)) (s .starts .end) (cuts (drop next (drop at t))) (q .0) (s .clean) (q .1 .0) (q .1 .1 .0) ∙ pick-yes (agrees? h d (q .0)) _ _ (q .1 .1 .1)
           ∙ (λ i. in-front [] ((sym (s .starts .whole) ∙ sym (upto next)) i) (values-at (columns (h .grid)) (cuts (drop-drop next at t i))))
 
-      hits-front : (column from : ℕ) (g f : Found) → at ≤ from → f ≡ in-front [] (between t at from) g → (r : Hit) → Hits t from column g r → Hits t at column f r
+      hits-front : (column from : ℕ) (g f : BlockFound) → at ≤ from → f ≡ in-front [] (between t at from) g → (r : Hit) → Hits t from column g r → Hits t at column f r
       hits-front column from g f l e (hit.At en spot) k =
           let a = k .ahead in
           record {
@@ -230,7 +230,7 @@ module _ (h : Header) (d : ℕ) where
           }
       hits-front column from g f l e hit.Nothing k = e ∙ ap (in-front [] (between t at from)) k
 
-      pub from-row : (column c : ℕ) → c ≡ columns (h .grid) → (b : Bool) → Opening h d (take (at + w - at) (drop at t)) b → b ≡ true → (r : Hit)
+      pub from-row : (column c : ℕ) → c ≡ columns (h .grid) → (b : Bool) → OpensAs h d (take (at + w - at) (drop at t)) b → b ≡ true → (r : Hit)
           → Hits t (at + next) column (values-from t (at + next) c) r → Hits t at column (block-from h d t at) r
       from-row column c z b o e r k =
           hits-front column (at + next) (values-from t (at + next) c) (block-from h d t at) (omega arith)
@@ -238,5 +238,5 @@ module _ (h : Header) (d : ℕ) where
 
 -- ---- what is hit, where it is told
 
-pub hits-as : (t : List ℕ) (at column : ℕ) (f : Found) (r o : Hit) → Hits t at column f r → r ≡ o → Hits t at column f o
+pub hits-as : (t : List ℕ) (at column : ℕ) (f : BlockFound) (r o : Hit) → Hits t at column f r → r ≡ o → Hits t at column f o
 hits-as t at column f r o h e = subst (Hits t at column f) e h

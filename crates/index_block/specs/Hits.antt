@@ -19,7 +19,7 @@ use Rattle.layout.specs.Layout.{Opens}
 use Rattle.reading.specs.Fields.{fields, cells}
 use Rattle.reading.specs.Maps.{on-row}
 use Rattle.read_lines.specs.Cuts.{Cut, cuts}
-use Rattle.index.specs.Found.{Found, in-front, values-at, block-at}
+use Rattle.index.specs.Found.{BlockFound, in-front, values-at, block-at}
 use Rattle.index_block.specs.declared.Step.{Step}
 use Rattle.index_block.specs.declared.Step.the-variants.{Skip, Row, Nothing}
 use Rattle.index_block.specs.declared.Hit.{Hit}
@@ -30,7 +30,7 @@ abbrev pub between : List ℕ → ℕ → ℕ → List ℕ
 between t a b = take (b - a) (drop a t)
 
 -- the next c values from a line's start
-abbrev pub values-from : List ℕ → (at c : ℕ) → Found
+abbrev pub values-from : List ℕ → (at c : ℕ) → BlockFound
 values-from t at c = values-at c (cuts (drop at t))
 
 -- a blank line, up to `to`
@@ -65,24 +65,24 @@ pub record Reads (t : List ℕ) (spot : ℕ) (z : ℤ) : Type 0 where
   pub five : readField I (between t spot (spot + 5)) ≡ Number z
 
 -- the values are found: the last one's line ends at `end`, and the one in a column stands at `spot`
-pub record At (t : List ℕ) (from column end spot : ℕ) (f : Found) : Type 0 where
+pub record At (t : List ℕ) (from column end spot : ℕ) (f : BlockFound) : Type 0 where
   pub ahead : from ≤ end
   pub within : end ≤ length t
   pub have : List ℤ
   pub found : f ≡ some (have, between t from end)
   pub reads : Reads t spot (getD have column (pos 0))
 
-abbrev pub Hits : List ℕ → (from column : ℕ) → Found → Hit → Type 0
+abbrev pub Hits : List ℕ → (from column : ℕ) → BlockFound → Hit → Type 0
 Hits t from column f (hit.At end spot) = At t from column end spot f
 Hits t from column f hit.Nothing = f ≡ none
 
 -- ---- the opening line
 
 -- a line opens the block after d others of its map, or no block is found that starts with it
-abbrev pub Opening : Header → (d : ℕ) → List ℕ → Bool → Type 0
-Opening h d l true = (v : Vals (layout block)) × ((drop 60 (pad l) ≡ name block) × ((fields block (pad l) ≡ ok v) × Opens h d v))
-Opening h d l false = (e : List ℕ) (cs : List Cut) → block-at h d ((l, e) ∷ cs) ≡ none
+abbrev pub OpensAs : Header → (d : ℕ) → List ℕ → Bool → Type 0
+OpensAs h d l true = (v : Vals (layout block)) × ((drop 60 (pad l) ≡ name block) × ((fields block (pad l) ≡ ok v) × Opens h d v))
+OpensAs h d l false = (e : List ℕ) (cs : List Cut) → block-at h d ((l, e) ∷ cs) ≡ none
 
 -- the block that is found at a position
-abbrev pub block-from : Header → (d : ℕ) → List ℕ → (at : ℕ) → Found
+abbrev pub block-from : Header → (d : ℕ) → List ℕ → (at : ℕ) → BlockFound
 block-from h d t at = block-at h d (cuts (drop at t))

@@ -11,7 +11,7 @@ ghost use Rattle.layout.specs.Text.{pad};
 ghost use Rattle.layout.specs.Labels.{name, block};
 ghost use Rattle.layout.specs.Layout.{per-map};
 ghost use Rattle.index.specs.Found.{agrees?};
-ghost use Rattle.index_block.specs.Hits.{values-from, block-from, spot-of, Stepped, Hits, Opening as OpensAs};
+ghost use Rattle.index_block.specs.Hits.{values-from, block-from, spot-of, Stepped, Hits, OpensAs};
 use maps_agree::grid;
 use maps_records::Opening;
 use mapset::Header;

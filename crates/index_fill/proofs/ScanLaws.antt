@@ -18,7 +18,7 @@ use Rattle.reading.specs.Fields.{lookup, label}
 use Rattle.reading.proofs.RecordLaws.{known-maps}
 use Rattle.areas.specs.Events as event
 use Rattle.areas.specs.Scan.{Now, Turn, at-first, values-ahead, turn, brought}
-use Rattle.areas.specs.Stores.{first-of, put-exponent, put-mark, Inside}
+use Rattle.areas.specs.Stores.{put-exponent, put-mark, Inside}
 use Rattle.areas.proofs.ListLaws.{fill-length}
 use Rattle.read_lines.specs.Lines.{Skips, Rows}
 use Rattle.read_lines.proofs.Parts.{skip-in, row-in}
@@ -254,15 +254,6 @@ ahead (valued x a w e z d k q) = a
 ahead (taken x a w e z d k) = a
 
 -- ---- the stores by themselves
-
-pub entry-tec : (k : Kind) (s x p : ℕ) → k ≡ Tec → p ≡ x → p ≡ first-of k s + x
-entry-tec k s x p e h = rw e (omega arith)
-
-pub entry-rms : (k : Kind) (s x p : ℕ) → k ≡ Rms → p ≡ x → s + p ≡ first-of k s + x
-entry-rms k s x p e h = rw e (omega arith)
-
-pub entry-height : (k : Kind) (s x p : ℕ) → k ≡ Height → p ≡ x → s + s + p ≡ first-of k s + x
-entry-height k s x p e h = rw e (omega arith)
 
 pub kept-as : (n B : ℕ) (ev ev′ : Event) (l : Entries) → ev ≡ ev′ → Kept n B ev l → Kept n B ev′ l
 kept-as n B ev ev′ l e k = subst (λ v. Kept n B v l) e k

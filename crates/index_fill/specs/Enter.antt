@@ -10,7 +10,8 @@ use Rattle.mapset.specs.declared.Kind.{Kind}
 use Rattle.layout.specs.Layout.{plain, aux, mode}
 use Rattle.areas.specs.Events as event
 use Rattle.areas.specs.Scan.{at-first, brought}
-use Rattle.areas.specs.Stores.{before, first-of, put-exponent, with-mark, put-mark, Inside, scan, fill}
+use Rattle.areas.specs.Stores.{put-exponent, with-mark, put-mark, Inside, scan, fill}
+use Rattle.areas.specs.Places.{before, first-of}
 use Rattle.index.specs.Index.{Entries, entries}
 use Rattle.index.specs.Made.{Placed, placed-from, just-rows, opened, maps-of, put-starts}
 use Rattle.read_events.specs.Brings.{due, Takes}
@@ -45,11 +46,18 @@ opens (Epoch i e) at = []
 opens (Marked k i) at = []
 opens (Block k i b e) at = at ∷ []
 
+-- nothing is brought; the next line starts at `next`, and d values come first there
+abbrev pub nothing-at : (next d : ℕ) → State → Step
+nothing-at next d s = record { at = next; due = d; event = Nothing; state = s }
+
 -- the next turn, where c values come first: lines that hand on nothing are passed, a row of values, or a row is taken
 pub data Turned (t : List ℕ) (at c : ℕ) (s : State) (C : ℕ) (r : Step) : Type 0 where
-  passed : at < r .at → r .at ≤ length t → placed-from t at ≡ placed-from t (r .at) → r .due ≡ c → r .event ≡ Nothing → r .state ≡ s → Turned t at c s C r
-  valued : (x : List ℕ) → at < r .at → r .at ≤ length t → placed-from t at ≡ (at, x) ∷ placed-from t (r .at) → 0 < c → r .due ≡ c - 16 → r .event ≡ Nothing → r .state ≡ s → Turned t at c s C r
-  taken : (x : List ℕ) → at < r .at → r .at ≤ length t → placed-from t at ≡ (at, x) ∷ placed-from t (r .at) → c ≡ 0 → r .due ≡ due C (r .event) → Takes s x (r .event) (r .state) → Turned t at c s C r
+  passed : at < r .at → r .at ≤ length t → placed-from t at ≡ placed-from t (r .at)
+      → r .due ≡ c → r .event ≡ Nothing → r .state ≡ s → Turned t at c s C r
+  valued : (x : List ℕ) → at < r .at → r .at ≤ length t → placed-from t at ≡ (at, x) ∷ placed-from t (r .at)
+      → 0 < c → r .due ≡ c - 16 → r .event ≡ Nothing → r .state ≡ s → Turned t at c s C r
+  taken : (x : List ℕ) → at < r .at → r .at ≤ length t → placed-from t at ≡ (at, x) ∷ placed-from t (r .at)
+      → c ≡ 0 → r .due ≡ due C (r .event) → Takes s x (r .event) (r .state) → Turned t at c s C r
 
 -- ---- the stores
 

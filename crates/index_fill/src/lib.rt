@@ -4,11 +4,12 @@ ghost use Prim.Native.Nat.{_+_, _-_, _*_, _<_, _≤_, _^_};
 ghost use lib.ListN.{length, replicate, set};
 ghost use Rattle.kit.specs.Answer.{All};
 ghost use Rattle.layout.specs.Text.{pad};
-ghost use Rattle.areas.specs.Stores.{first-of, before, fill};
+ghost use Rattle.areas.specs.Stores.{fill};
+ghost use Rattle.areas.specs.Places.{first-of, before};
 ghost use Rattle.index.specs.Index.{entries};
 ghost use Rattle.index.specs.Made.{placed-from};
 ghost use Rattle.read_events.specs.Brings.{due};
-ghost use Rattle.index_fill.specs.Enter.{Passes, Walks, Begins, Kept, enters, Turned, Steady, entered-from, Entered, entered, cleared};
+ghost use Rattle.index_fill.specs.Enter.{Passes, Walks, Begins, Kept, enters, nothing-at, Turned, Steady, entered-from, Entered, entered, cleared};
 use mapset::Kind;
 use mapset::Size;
 use read_events::Event;
@@ -151,38 +152,30 @@ fn due_of(event: Event, columns: usize) -> usize
     }
 }
 
+// A line that brings nothing.
+fn passed(next: usize, due: usize, s: State) -> Step
+    ensures { λ r. ⌜ r ≡ nothing-at next due s ⌝ }
+{
+    Step {
+        at: next,
+        due,
+        event: Event::Nothing,
+        state: s,
+    }
+}
+
 // A row of a block's values is passed: the text is accepted.
 fn step_at(text: &[u8], at: usize, values: usize, s: State, columns: usize) -> Step
     requires { ⌜ (at < length (now text)) × ((s .tecs < 9223372036854775808) × (s .done < 9223372036854775808)) ⌝ }
     ensures { λ r. ⌜ Turned (now (text .entry)) at values s columns r ⌝ }
 {
     match read_lines::line_in(&text[at..]) {
-        Line::Over => Step {
-            at: text.len(),
-            due: values,
-            event: Event::Nothing,
-            state: s,
-        },
-        Line::Bad(_, _) => Step {
-            at: text.len(),
-            due: values,
-            event: Event::Nothing,
-            state: s,
-        },
-        Line::Skip(next) => Step {
-            at: at + next,
-            due: values,
-            event: Event::Nothing,
-            state: s,
-        },
+        Line::Over => passed(text.len(), values, s),
+        Line::Bad(_, _) => passed(text.len(), values, s),
+        Line::Skip(next) => passed(at + next, values, s),
         Line::Row(width, next) => {
             if 0 < values {
-                return Step {
-                    at: at + next,
-                    due: less_16(values),
-                    event: Event::Nothing,
-                    state: s,
-                };
+                return passed(at + next, less_16(values), s);
             }
             let e = at + width;
             let b = read_events::brought_by(s, &text[at..e]);
@@ -200,25 +193,11 @@ fn step_at(text: &[u8], at: usize, values: usize, s: State, columns: usize) -> S
 
 // ---- The stores
 
-// The place of a block's entry.
-fn entry_of(kind: Kind, i: usize, b: usize, size: Size) -> usize
-    requires { ⌜ (before (size .blocks) i b < size .maps * size .blocks) × (3 * (size .maps * size .blocks) < 9223372036854775808) ⌝ }
-    ensures { λ r. ⌜ r ≡ first-of kind (size .maps * size .blocks) + before (size .blocks) i b ⌝ }
-{
-    let all = size.maps * size.blocks;
-    let p = read_stores::block_place(i, b, size.blocks);
-    match kind {
-        Kind::Tec => p,
-        Kind::Rms => all + p,
-        Kind::Height => all + all + p,
-    }
-}
-
 fn put_position(kind: Kind, i: usize, b: usize, at: usize, size: Size, positions: &mut [u64])
     requires { ⌜ (before (size .blocks) i b < size .maps * size .blocks) × (3 * (size .maps * size .blocks) ≤ length (now positions)) ⌝ }
     ensures { λ _. ⌜ now (positions .exit) ≡ set (now (positions .entry)) (first-of kind (size .maps * size .blocks) + before (size .blocks) i b) at ⌝ }
 {
-    let p = entry_of(kind, i, b, size);
+    let p = read_stores::entry_of(kind, i, b, size);
     positions[p] = at as u64;
 }
 
@@ -261,7 +240,8 @@ fn scan(
 )
     requires { ⌜ (from ≤ length (now text)) × Steady (size .maps) (size .blocks) (size .columns) exponent (placed-from (now text) from) (entries (now positions) (now exponents) (now marks)) ⌝ }
     ensures { λ _. ⌜ entries (now (positions .exit)) (now (exponents .exit)) (now (marks .exit))
-        ≡ entered-from (size .maps) (size .blocks) (size .columns) exponent (placed-from (now (text .entry)) from) (entries (now (positions .entry)) (now (exponents .entry)) (now (marks .entry))) ⌝ }
+        ≡ entered-from (size .maps) (size .blocks) (size .columns) exponent (placed-from (now (text .entry)) from)
+        (entries (now (positions .entry)) (now (exponents .entry)) (now (marks .entry))) ⌝ }
 {
     let mut s = State {
         kind: Kind::Tec,

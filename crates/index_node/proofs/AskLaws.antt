@@ -20,11 +20,11 @@ use Rattle.forms.specs.declared.Field.the-variants.{Number}
 use Rattle.mapset.specs.Areas.{Present, blocks}
 use Rattle.mapset.specs.Grid.{layers, rows, columns, Limits}
 use Rattle.mapset.specs.Sound.{HeaderSays}
-use Rattle.mapset.specs.SoundDecided.{header-groups, groups-header, from-zero, to-three}
+use Rattle.mapset.proofs.Groups.{header-groups, groups-header, from-zero, to-three}
 use Rattle.mapset.specs.declared.Header.{Header}
 use Rattle.mapset.specs.Described.{FullTexts}
 use Rattle.layout.specs.Layout.{Exponent, per-map}
-use Rattle.areas.specs.Stores.{before, first-of}
+use Rattle.areas.specs.Places.{before, first-of}
 use Rattle.ask_nodes.specs.Value.{kind-of}
 use Rattle.index.specs.Index.{Index, Fit, Node, Inside, entries, index, node, done, entry, given, stop, go, position, exponent}
 use Rattle.index.proofs.FoundLaws.{stands-found, found-stands}

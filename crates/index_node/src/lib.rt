@@ -6,7 +6,7 @@ ghost use Rattle.mapset.specs.Described.{full};
 ghost use Rattle.mapset.specs.Areas.{blocks};
 ghost use Rattle.mapset.specs.Grid.{rows, columns, Limits};
 ghost use Rattle.layout.specs.Layout.{per-map};
-ghost use Rattle.areas.specs.Stores.{before, first-of};
+ghost use Rattle.areas.specs.Places.{before, first-of};
 ghost use Rattle.ask_nodes.specs.Value.{kind-of};
 ghost use Rattle.index.specs.Index.{entries, index, node, Fit};
 ghost use Rattle.index_node.specs.Told.{InGrid, Inside as InText, Numbers, Finds, told-part, Bounded, HandsBack};
@@ -141,7 +141,9 @@ pub fn find_node(
     row: u64,
     column: u64,
 ) -> Reply
-    ensures { λ r. ⌜ Finds (index header (full texts (now (descriptions .entry))) (entries (now (positions .entry)) (now (exponents .entry)) (now (marks .entry)))) (now (text .entry)) (node kind map layer row column) r ⌝ }
+    ensures { λ r. ⌜ Finds (index header (full texts (now (descriptions .entry)))
+        (entries (now (positions .entry)) (now (exponents .entry)) (now (marks .entry))))
+        (now (text .entry)) (node kind map layer row column) r ⌝ }
 {
     if 3 <= kind {
         return Reply::Refused(Why::Unknown);
@@ -192,7 +194,9 @@ pub fn find_block<'a>(
     row: u64,
     column: u64,
 ) -> &'a [u8]
-    ensures { λ r. ⌜ HandsBack (index header (full texts (now (descriptions .entry))) (entries (now (positions .entry)) (now (exponents .entry)) (now (marks .entry)))) (now (text .entry)) (node kind map layer row column) (now r) ⌝ }
+    ensures { λ r. ⌜ HandsBack (index header (full texts (now (descriptions .entry)))
+        (entries (now (positions .entry)) (now (exponents .entry)) (now (marks .entry))))
+        (now (text .entry)) (node kind map layer row column) (now r) ⌝ }
 {
     let reply = find_node(
         text,

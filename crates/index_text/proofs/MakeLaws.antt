@@ -23,7 +23,9 @@ use Rattle.reading.proofs.Exact.{made-read}
 use Rattle.areas.specs.Flat.{areas}
 use Rattle.areas.specs.Events as event
 use Rattle.areas.specs.Scan.{at-first, brought, events}
-use Rattle.areas.specs.Stores.{before, first-of, put-exponent, put-mark, Inside, scan, fill, scanned, cleared as all-cleared, fronts as all-fronts, lengths}
+use Rattle.areas.specs.Stores.{put-exponent, put-mark, Inside, scan, fill, scanned, cleared as all-cleared, lengths}
+use Rattle.areas.specs.Places.{before, first-of}
+use Rattle.areas.specs.Fronts.{fronts as all-fronts}
 use Rattle.areas.proofs.Needs.{needs}
 use Rattle.areas.proofs.Made.{rows-formed, made-formed}
 use Rattle.areas.proofs.Scanned.{scan-leaves, scan-stays}
@@ -103,7 +105,7 @@ module _ {m : MapSet} {rs : List (List ℕ)} (r : Rows m rs) (t : List ℕ) (x :
   unfolding scanned all-cleared all-fronts
   marks-are = ap (λ (a : Areas). a .marks) (scan-leaves r lent room)
 
-  pub all-entered : entered n B C t l ≡ fronts (entries-of m t) l
+  all-entered : entered n B C t l ≡ fronts (entries-of m t) l
   unfolding entered-by
   all-entered =
       ap (λ es. entered-by n B es os (cleared n B l)) brought-is ∙ (λ i. entries (positions-are i) (exponents-are i) (marks-are i))

@@ -49,7 +49,7 @@ pub record Given (m : MapSet) (t : List ℕ) (l : Entries) (h : Header) (r : Rea
   pub entries : l′ ≡ fronts (entries-of m t) l
 
 module _ (t : List ℕ) (l : Entries) (r : ReadOut) (l′ : Entries) (c : Indexes t l r l′) (m : MapSet) (k : Makes m t) (h : Header) (a : r .answer ≡ Accepted h) where
-  pub given-index : Given m t l h r l′
+  given-index : Given m t l h r l′
   unfolding made-of with-room
   given-index = by (first-short 1 (needed-and-lent (entries-of m t) l)) (c ∙ ap (λ x. made-of x t l) (read-made k))
     where

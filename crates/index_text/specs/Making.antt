@@ -12,14 +12,14 @@ use Rattle.reading.specs.Feed.{Why}
 use Rattle.reading.specs.Read.{read}
 use Rattle.read_needs.specs.Needs.{first-short}
 use Rattle.read_judge.specs.Scanned.{set-of}
-use Rattle.read_outcome.specs.Outcome.{Told, accepted, at-place, eleven, told, no-texts, texts-in}
+use Rattle.read_outcome.specs.Outcome.{ToldReading, accepted, at-place, eleven, told, no-texts, texts-in}
 use Rattle.read_outcome.specs.declared.ReadOut.{ReadOut}
 use Rattle.index.specs.Index.{Entries}
 use Rattle.index.specs.Made.{entries-of, fronts}
 
 -- what is answered, the texts beside it, and what is then in the areas
 pub record Made : Type 0 where
-  pub told : Told
+  pub told : ToldReading
   pub texts : FullTexts
   pub entries : Entries
 

@@ -10,27 +10,27 @@ use mapset::Header;
 use mapset::Size;
 use mapset::Texts;
 use read_judge::Judged;
-use read_needs::Room;
+use read_needs::LentRoom;
 use read_outcome::ReadOut;
 use read_outcome::Reading;
 use read_outcome::Reason;
 
 // Each area holds what it needs; or the first that does not: positions, exponents, marks.
-fn room_for(size: Size, positions: usize, exponents: usize, marks: usize) -> Room
+fn room_for(size: Size, positions: usize, exponents: usize, marks: usize) -> LentRoom
     requires { ⌜ size .maps * size .blocks ≤ 2000000 ⌝ }
     ensures { λ r. ⌜ fit r ≡ first-short 1 (pairs (size .maps) (size .blocks) positions exponents marks) ⌝ }
 {
     let all = 3 * (size.maps * size.blocks);
     if positions < all {
-        return Room::Short(1, all as u64);
+        return LentRoom::Short(1, all as u64);
     }
     if exponents < all {
-        return Room::Short(2, all as u64);
+        return LentRoom::Short(2, all as u64);
     }
     if marks < size.maps {
-        return Room::Short(3, size.maps as u64);
+        return LentRoom::Short(3, size.maps as u64);
     }
-    Room::Enough
+    LentRoom::Enough
 }
 
 // The index of a text that is accepted, if each area is long enough.
@@ -49,8 +49,11 @@ fn store(
 {
     let size = read_needs::size_of(header);
     match room_for(size, positions.len(), exponents.len(), marks.len()) {
-        Room::Short(area, elements) => read_outcome::refused(Reason::AreaTooShort(area, elements)),
-        Room::Enough => {
+        LentRoom::Short(area, elements) => read_outcome::refused(Reason::AreaTooShort(
+            area,
+            elements,
+        )),
+        LentRoom::Enough => {
             index_fill::enter_all(text, size, positions, exponents, marks);
             ReadOut {
                 answer: Reading::Accepted(header),

@@ -41,7 +41,9 @@ pub fn indexed_node(
     row: u64,
     column: u64,
 ) -> Reply
-    ensures outcome { λ r. ⌜ Finds (index header (full texts (now (descriptions .entry))) (entries (now (positions .entry)) (now (exponents .entry)) (now (marks .entry)))) (now (text .entry)) (node kind map layer row column) r ⌝ }
+    ensures outcome { λ r. ⌜ Finds (index header (full texts (now (descriptions .entry)))
+        (entries (now (positions .entry)) (now (exponents .entry)) (now (marks .entry))))
+        (now (text .entry)) (node kind map layer row column) r ⌝ }
 {
     index_node::find_node(
         text,
@@ -74,7 +76,9 @@ pub fn indexed_block<'a>(
     row: u64,
     column: u64,
 ) -> &'a [u8]
-    ensures outcome { λ r. ⌜ HandsBack (index header (full texts (now (descriptions .entry))) (entries (now (positions .entry)) (now (exponents .entry)) (now (marks .entry)))) (now (text .entry)) (node kind map layer row column) (now r) ⌝ }
+    ensures outcome { λ r. ⌜ HandsBack (index header (full texts (now (descriptions .entry)))
+        (entries (now (positions .entry)) (now (exponents .entry)) (now (marks .entry))))
+        (now (text .entry)) (node kind map layer row column) (now r) ⌝ }
 {
     index_node::find_block(
         text,

@@ -39,7 +39,8 @@ pub fn join(
     epochs: &mut [u64],
     marks: &mut [u8],
 ) -> Joining
-    ensures outcome { λ r. ⌜ comes r (full ltexts (now (ldescriptions .entry))) (six (now (tec .exit)) (now (rms .exit)) (now (height .exit)) (now (exponents .exit)) (now (epochs .exit)) (now (marks .exit)))
+    ensures outcome { λ r. ⌜ comes r (full ltexts (now (ldescriptions .entry)))
+        (six (now (tec .exit)) (now (rms .exit)) (now (height .exit)) (now (exponents .exit)) (now (epochs .exit)) (now (marks .exit)))
         ≡ came (join-into (lent-of early (full etexts (now (edescriptions .entry)))
         (six (now (atec .entry)) (now (arms .entry)) (now (aheight .entry)) (now (aexponents .entry)) (now (aepochs .entry)) (now (amarks .entry))))
         (lent-of late (full ltexts (now (ldescriptions .entry)))

@@ -1,4 +1,5 @@
-// The public functions: reading, writing, asking, explaining, delays, joining, the week, the index and a text's biases; and an epoch moved, for other languages. Each answers on every input, and asks nothing of its caller.
+// The public functions: reading, writing, asking, explaining, delays, joining, the week, the index and a text's biases; and an epoch moved, for other languages.
+// Each answers on every input, and asks nothing of its caller.
 pub mod asking;
 pub mod biases;
 pub mod delays;

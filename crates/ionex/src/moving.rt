@@ -1,8 +1,8 @@
 // An epoch moved by seconds, as other languages ask for it.
 ghost use Rattle.calendar.specs.Calendar.{toldWhen, The};
 ghost use Rattle.c_answers.specs.MoveExported.{Moves, MoveCrosses};
+use calendar::DateFound;
 use calendar::Epoch;
-use calendar::Found;
 use calendar::When;
 
 // A second for a second: the date of the one, moved, is the date of the other.
@@ -10,10 +10,10 @@ fn moved_second(second: u64, by: i64) -> When
     ensures outcome { λ r. ⌜ The (Moves second by) (toldWhen r) ⌝ }
 {
     match Epoch::at_second(second) {
-        Found::Refused => When::Refused,
-        Found::Date(from) => match from.moved(by) {
-            Found::Refused => When::Refused,
-            Found::Date(to) => to.seconds(),
+        DateFound::Refused => When::Refused,
+        DateFound::Date(from) => match from.moved(by) {
+            DateFound::Refused => When::Refused,
+            DateFound::Date(to) => to.seconds(),
         },
     }
 }

@@ -18,8 +18,10 @@ pub fn read(
     epochs: &mut [u64],
     marks: &mut [u8],
 ) -> ReadOut
-    ensures outcome { λ r. ⌜ comes r (six (now (tec .exit)) (now (rms .exit)) (now (height .exit)) (now (exponents .exit)) (now (epochs .exit)) (now (marks .exit)))
-        ≡ outcome (now (text .entry)) (six (now (tec .entry)) (now (rms .entry)) (now (height .entry)) (now (exponents .entry)) (now (epochs .entry)) (now (marks .entry))) ⌝ }
+    ensures outcome { λ r. ⌜ comes r
+        (six (now (tec .exit)) (now (rms .exit)) (now (height .exit)) (now (exponents .exit)) (now (epochs .exit)) (now (marks .exit)))
+        ≡ outcome (now (text .entry))
+        (six (now (tec .entry)) (now (rms .entry)) (now (height .entry)) (now (exponents .entry)) (now (epochs .entry)) (now (marks .entry))) ⌝ }
 {
     read_text::read_text(text, tec, rms, height, exponents, epochs, marks)
 }

@@ -7,8 +7,8 @@ use Rattle.kit.specs.Answer.{Answer, ok, refused, need, bind}
 use Rattle.mapset.specs.declared.Grid.{Grid}
 use Rattle.mapset.specs.Grid.{layers, rows, columns}
 use Rattle.mapset.specs.MapSet.{MapSet}
-use Rattle.join.specs.FormedDecided.{formed?}
-use Rattle.join.specs.Join.{count, joined, InLimits, MayJoin, alike?, meet?, in-limits?, join, Agree, both-given, both-refused}
+use Rattle.join.specs.Join.{count, joined, InLimits, MayJoin, join, Agree, both-given, both-refused}
+use Rattle.join.proofs.Exactly.{Joins, not-formed, not-alike, not-met, too-many, given as may-join, join-exactly}
 use Rattle.join.proofs.JoinedFormed.{some-maps, joined-formed}
 use Rattle.join.proofs.Same.{counts, joined-either}
 
@@ -96,15 +96,15 @@ module _ {W A : Type 0} where
   agree f g e (denied n) (given q) = absurd (n (g q))
   agree f g e (denied n) (denied m) = both-refused
 
-pub join-judges : (a b : MapSet) → Judges (MayJoin a b) (joined a b) (join a b)
-unfolding join
-join-judges a b =
-    need-judges (formed? a) 31 (λ m. m .earlier) (λ p.
-    need-judges (formed? b) 31 (λ m. m .later) (λ q.
-    need-judges (alike? (a .header) (b .header)) 40 (λ m. m .alike) (λ r.
-    need-judges (meet? (a .header) (b .header)) 41 (λ m. m .meet) (λ s.
-    need-judges (in-limits? (count (a .header) (b .header)) (b .header .grid)) 42 (λ m. m .limits) (λ t.
-    given (record { earlier = p; later = q; alike = r; meet = s; limits = t }))))))
+join-judges : (a b : MapSet) → Judges (MayJoin a b) (joined a b) (join a b)
+join-judges a b = by (join-exactly a b)
+  where
+    by : {o : Answer ℕ MapSet} → Joins a b o → Judges (MayJoin a b) (joined a b) o
+    by (not-formed n) = denied (λ m. n (m .earlier, m .later))
+    by (not-alike p q n) = denied (λ m. n (m .alike))
+    by (not-met p q r n) = denied (λ m. n (m .meet))
+    by (too-many p q r s n) = denied (λ m. n (m .limits))
+    by (may-join m) = given m
 
 pub either-way : (a b c : MapSet) → Agree (bind (join a b) (λ ab. join ab c)) (bind (join b c) (λ bc. join a bc))
 either-way a b c =

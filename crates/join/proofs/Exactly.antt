@@ -17,6 +17,12 @@ pub data Joins (a b : MapSet) : Answer ℕ MapSet → Type 0 where
   given : MayJoin a b → Joins a b (ok (joined a b))
 
 module _ (a b : MapSet) where
+  -- after 31 and 40 comes 41, and 42 last
+  meet-before-limits : Formed a → Formed b → Alike (a .header) (b .header)
+      → join a b ≡ need (meet? (a .header) (b .header)) 41 (need (in-limits? (count (a .header) (b .header)) (b .header .grid)) 42 (ok (joined a b)))
+  unfolding join
+  meet-before-limits p q r = need-yes (formed? a) _ _ p ∙ need-yes (formed? b) _ _ q ∙ need-yes (alike? (a .header) (b .header)) _ _ r
+
   pub join-once : {o : Answer ℕ MapSet} → Joins a b o → join a b ≡ o
   unfolding join
   join-once (not-formed n) = first (formed? a)
@@ -25,14 +31,11 @@ module _ (a b : MapSet) where
       first (yes p) = need-yes (formed? a) _ _ p ∙ need-no (formed? b) _ _ (λ q. n (p, q))
       first (no p) = need-no (formed? a) _ _ p
   join-once (not-alike p q n) = need-yes (formed? a) _ _ p ∙ need-yes (formed? b) _ _ q ∙ need-no (alike? (a .header) (b .header)) _ _ n
-  join-once (not-met p q r n) =
-      need-yes (formed? a) _ _ p ∙ need-yes (formed? b) _ _ q ∙ need-yes (alike? (a .header) (b .header)) _ _ r ∙ need-no (meet? (a .header) (b .header)) _ _ n
-  join-once (too-many p q r s n) =
-      need-yes (formed? a) _ _ p ∙ need-yes (formed? b) _ _ q ∙ need-yes (alike? (a .header) (b .header)) _ _ r
-      ∙ need-yes (meet? (a .header) (b .header)) _ _ s ∙ need-no (in-limits? (count (a .header) (b .header)) (b .header .grid)) _ _ n
+  join-once (not-met p q r n) = meet-before-limits p q r ∙ need-no (meet? (a .header) (b .header)) _ _ n
+  join-once (too-many p q r s n) = meet-before-limits p q r ∙ need-yes (meet? (a .header) (b .header)) _ _ s ∙ need-no (in-limits? (count (a .header) (b .header)) (b .header .grid)) _ _ n
   join-once (given m) =
-      need-yes (formed? a) _ _ (m .earlier) ∙ need-yes (formed? b) _ _ (m .later) ∙ need-yes (alike? (a .header) (b .header)) _ _ (m .alike)
-      ∙ need-yes (meet? (a .header) (b .header)) _ _ (m .meet) ∙ need-yes (in-limits? (count (a .header) (b .header)) (b .header .grid)) _ _ (m .limits)
+      meet-before-limits (m .earlier) (m .later) (m .alike) ∙ need-yes (meet? (a .header) (b .header)) _ _ (m .meet)
+      ∙ need-yes (in-limits? (count (a .header) (b .header)) (b .header .grid)) _ _ (m .limits)
 
   pub join-exactly : Joins a b (join a b)
   unfolding join need

@@ -32,6 +32,12 @@ module _ (x y : Lent) where
     given : MayLent x y → LentJoins (ok (joined (meaning x) (meaning y)))
 
 module _ (x y : Lent) where
+  -- after 31 and 40 comes 41, and 42 last
+  meet-before-limits : IsValid x → IsValid y → Alike (x .header) (y .header)
+      → lent-join x y ≡ need (meet? (x .header) (y .header)) (because 41) (need (in-limits? (count (x .header) (y .header)) (y .header .grid)) (because 42) (ok (joined (meaning x) (meaning y))))
+  unfolding lent-join
+  meet-before-limits p q r = need-yes (is-valid? x) _ _ p ∙ need-yes (is-valid? y) _ _ q ∙ need-yes (alike? (x .header) (y .header)) _ _ r
+
   pub lent-once : {o : Answer Why MapSet} → LentJoins x y o → lent-join x y ≡ o
   unfolding lent-join
   lent-once (not-valid n) = first (is-valid? x)
@@ -40,14 +46,11 @@ module _ (x y : Lent) where
       first (yes p) = need-yes (is-valid? x) _ _ p ∙ need-no (is-valid? y) _ _ (λ q. n (p, q))
       first (no p) = need-no (is-valid? x) _ _ p
   lent-once (not-alike p q n) = need-yes (is-valid? x) _ _ p ∙ need-yes (is-valid? y) _ _ q ∙ need-no (alike? (x .header) (y .header)) _ _ n
-  lent-once (not-met p q r n) =
-      need-yes (is-valid? x) _ _ p ∙ need-yes (is-valid? y) _ _ q ∙ need-yes (alike? (x .header) (y .header)) _ _ r ∙ need-no (meet? (x .header) (y .header)) _ _ n
-  lent-once (too-many p q r s n) =
-      need-yes (is-valid? x) _ _ p ∙ need-yes (is-valid? y) _ _ q ∙ need-yes (alike? (x .header) (y .header)) _ _ r
-      ∙ need-yes (meet? (x .header) (y .header)) _ _ s ∙ need-no (in-limits? (count (x .header) (y .header)) (y .header .grid)) _ _ n
+  lent-once (not-met p q r n) = meet-before-limits p q r ∙ need-no (meet? (x .header) (y .header)) _ _ n
+  lent-once (too-many p q r s n) = meet-before-limits p q r ∙ need-yes (meet? (x .header) (y .header)) _ _ s ∙ need-no (in-limits? (count (x .header) (y .header)) (y .header .grid)) _ _ n
   lent-once (given m) =
-      need-yes (is-valid? x) _ _ (m .earlier) ∙ need-yes (is-valid? y) _ _ (m .later) ∙ need-yes (alike? (x .header) (y .header)) _ _ (m .join .alike)
-      ∙ need-yes (meet? (x .header) (y .header)) _ _ (m .join .meet) ∙ need-yes (in-limits? (count (x .header) (y .header)) (y .header .grid)) _ _ (m .join .limits)
+      meet-before-limits (m .earlier) (m .later) (m .join .alike) ∙ need-yes (meet? (x .header) (y .header)) _ _ (m .join .meet)
+      ∙ need-yes (in-limits? (count (x .header) (y .header)) (y .header .grid)) _ _ (m .join .limits)
 
   pub lent-exactly : LentJoins x y (lent-join x y)
   unfolding lent-join need

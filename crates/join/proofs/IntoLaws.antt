@@ -14,7 +14,7 @@ use Rattle.mapset.specs.declared.Kind.the-variants.{Rms, Height}
 use Rattle.mapset.specs.Grid.{columns}
 use Rattle.mapset.specs.MapSet.{MapSet}
 use Rattle.mapset.specs.Areas.{Areas, nowhere?, values, value-need}
-use Rattle.mapset.specs.SoundDecided.{header-groups}
+use Rattle.mapset.proofs.Groups.{header-groups}
 use Rattle.mapset.proofs.SoundLaws.{few-values, few-blocks}
 use Rattle.layout.specs.Layout.{per-map}
 use Rattle.areas.specs.Flat.{areas}

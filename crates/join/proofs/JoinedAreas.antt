@@ -14,7 +14,7 @@ use Rattle.kit.specs.Answer.{All, pick}
 use Rattle.kit.proofs.AnswerLaws.{pick-yes, pick-no}
 use Rattle.kit.proofs.ListLaws.{all-take}
 use Rattle.mapset.specs.declared.Kind.{Kind}
-use Rattle.mapset.specs.declared.Kind.the-variants.{Rms, Height}
+use Rattle.mapset.specs.declared.Kind.the-variants.{Tec, Rms, Height}
 use Rattle.mapset.specs.Grid.{layers, rows, columns}
 use Rattle.mapset.specs.MapSet.{Block, OtherMap, Maps, MapSet}
 use Rattle.mapset.specs.Areas.{Present, Nowhere, nowhere?, blocks, values}
@@ -31,7 +31,7 @@ use Rattle.areas.proofs.Nested.{tec-third, rms-third, height-third}
 use Rattle.join.specs.Join.{header, upto, move, others, maps, joined, MayJoin}
 use Rattle.join.proofs.Same.{upto-in, upto-out}
 use Rattle.join.proofs.JoinedFormed.{map-take, rising-moved, joined-formed}
-use Rattle.join.specs.Beside.{beside}
+use Rattle.join.specs.Beside.{exponents-beside, beside}
 
 -- ---- lists of maps one after the other
 
@@ -208,6 +208,25 @@ module _ (m n B C : ℕ) (a b : Maps) (f : MapsRules m B C a) (g : MapsRules n B
   few : m - 1 ≤ m
   few = omega arith
 
+  -- the exponents of each kind
+  tec-exponents : exponents-of (tec-blocks (maps (m - 1) a b)) ≡ exponents-beside m n B C (areas-of m B C a) (areas-of n B C b) Tec
+  unfolding areas-of
+  tec-exponents =
+      ap exponents-of (tec-both (m - 1) m n B C a b few f g) ∙ exponents-both B C (m - 1) (tec-blocks a) (tec-rules m B C a f) (tec-enough (m - 1) m n B C a b few f g) (tec-blocks b)
+      ∙ (λ i. take ((m - 1) * B) (sym (tec-third m B C a f) i) ++ sym (tec-third n B C b g) i)
+
+  rms-exponents : exponents-of (reads B C (slots (m - 1 + n) (needs.others Rms (maps (m - 1) a b)))) ≡ exponents-beside m n B C (areas-of m B C a) (areas-of n B C b) Rms
+  unfolding areas-of
+  rms-exponents =
+      kind-exponents-both (m - 1) m n B C a b few f g Rms tt refl (f .rms) (g .rms) (j .rms)
+      ∙ (λ i. take ((m - 1) * B) (sym (rms-third m B C a f) i) ++ sym (rms-third n B C b g) i)
+
+  height-exponents : exponents-of (reads B C (slots (m - 1 + n) (needs.others Height (maps (m - 1) a b)))) ≡ exponents-beside m n B C (areas-of m B C a) (areas-of n B C b) Height
+  unfolding areas-of
+  height-exponents =
+      kind-exponents-both (m - 1) m n B C a b few f g Height tt refl (f .height) (g .height) (j .height)
+      ∙ (λ i. take ((m - 1) * B) (sym (height-third m B C a f) i) ++ sym (height-third n B C b g) i)
+
   areas-both : areas-of (m - 1 + n) B C (maps (m - 1) a b) ≡ beside m n B C (areas-of m B C a) (areas-of n B C b)
   unfolding areas-of beside
   areas-both =
@@ -215,11 +234,7 @@ module _ (m n B C : ℕ) (a b : Maps) (f : MapsRules m B C a) (g : MapsRules n B
         tec = (ap values-of (tec-both (m - 1) m n B C a b few f g) ∙ values-both B C (m - 1) (tec-blocks a) (tec-rules m B C a f) (tec-enough (m - 1) m n B C a b few f g) (tec-blocks b)) i;
         rms = kind-values-both (m - 1) m n B C a b few f g Rms tt refl (f .rms) (g .rms) (j .rms) i;
         height = kind-values-both (m - 1) m n B C a b few f g Height tt refl (f .height) (g .height) (j .height) i;
-        exponents =
-            (ap exponents-of (tec-both (m - 1) m n B C a b few f g) ∙ exponents-both B C (m - 1) (tec-blocks a) (tec-rules m B C a f) (tec-enough (m - 1) m n B C a b few f g) (tec-blocks b)
-            ∙ (λ i. take ((m - 1) * B) (sym (tec-third m B C a f) i) ++ sym (tec-third n B C b g) i)) i
-            ++ ((kind-exponents-both (m - 1) m n B C a b few f g Rms tt refl (f .rms) (g .rms) (j .rms) ∙ (λ i. take ((m - 1) * B) (sym (rms-third m B C a f) i) ++ sym (rms-third n B C b g) i)) i
-            ++ (kind-exponents-both (m - 1) m n B C a b few f g Height tt refl (f .height) (g .height) (j .height) ∙ (λ i. take ((m - 1) * B) (sym (height-third m B C a f) i) ++ sym (height-third n B C b g) i)) i);
+        exponents = tec-exponents i ++ (rms-exponents i ++ height-exponents i);
         epochs = (map-append (λ t. t .epoch) (take (m - 1) (a .tec)) (b .tec) ∙ ap (λ r. r ++ map (λ t. t .epoch) (b .tec)) (map-take (λ t. t .epoch) (m - 1) (a .tec))) i;
         marks = marks-both (m - 1) m n B C a b few f g i;
       }

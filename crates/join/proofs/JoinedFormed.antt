@@ -4,7 +4,8 @@ use mathlib.Core.Logic.{_⊎_, inl, inr, ⊎-elim}
 use mathlib.Core.List.{List, [], _∷_, _++_, map}
 use Prim.Native.Nat.{ℕ, zero, suc, _+_, _-_, _≤_}
 use native.Mathlib.Omega.{arith}
-use native.Mathlib.Decide.{decLe}
+use native.Mathlib.Decide.{ℕ-discrete, decLe}
+use Rattle.kit.specs.Answer.{pick, ⊎-dec}
 use lib.ListN.{length, take, length-append, length-map}
 use lib.Seq.{length-take-le}
 use Rattle.kit.proofs.AnswerLaws.{pick-elim}
@@ -12,13 +13,37 @@ use Rattle.kit.proofs.ListLaws.{all-append, all-take}
 use Rattle.mapset.specs.declared.Header.{Header}
 use Rattle.mapset.specs.Grid.{columns}
 use Rattle.mapset.specs.Header.{HeaderRules}
-use Rattle.mapset.specs.MapSet.{OtherMap, Maps, MapSet}
+use Rattle.mapset.specs.MapSet.{TecMap, OtherMap, Maps, MapSet}
 use Rattle.mapset.specs.Areas.{Follows, Run, EpochRules}
-use Rattle.mapset.specs.SoundDecided.{header-groups, groups-header}
+use Rattle.mapset.proofs.Groups.{header-groups, groups-header}
 use Rattle.layout.specs.Layout.{per-map}
 use Rattle.areas.specs.Formed.{MapRules, Rising, MapsRules, Formed}
 use Rattle.areas.proofs.ListLaws.{map-append}
 use Rattle.join.specs.Join.{stay, count, interval, header, upto, move, others, maps, joined, Meet, MayJoin}
+
+-- ---- examples
+
+-- INTERVAL is kept when both are equal, and otherwise 0, also where one of them is
+intervals : (interval 900 900 ≡ 900) × (interval 3600 900 ≡ 0) × (interval 0 900 ≡ 0)
+unfolding pick ⊎-dec ℕ-discrete
+intervals = (refl, refl, refl)
+
+abbrev tec-at : ℕ → TecMap
+tec-at e = record { epoch = e; blocks = [] }
+
+abbrev other-of : ℕ → OtherMap
+other-of i = record { of = i; blocks = [] }
+
+-- of the maps 1 and 2 of a set and the same of a later one, whose map 1 has an epoch of its own, the shared map is the later set's, with its RMS map, which is none here
+abbrev shared : Maps
+shared = maps 1 (record { tec = tec-at 0 ∷ tec-at 1 ∷ []; rms = other-of 1 ∷ other-of 2 ∷ []; height = [] }) (record { tec = tec-at 10 ∷ tec-at 11 ∷ []; rms = other-of 2 ∷ []; height = [] })
+
+shared-later : shared .tec ≡ tec-at 0 ∷ tec-at 10 ∷ tec-at 11 ∷ []
+shared-later = refl
+
+shared-rms : shared .rms ≡ other-of 1 ∷ other-of 3 ∷ []
+unfolding pick decLe
+shared-rms = refl
 
 -- ---- the header
 
@@ -92,7 +117,7 @@ map-take f (suc k) (x ∷ l) = ap (λ r. f x ∷ r) (map-take f k l)
 -- ---- RMS and height maps
 
 module _ (B C : ℕ) where
-  pub rising-from : (n l k : ℕ) (xs : List OtherMap) → l ≤ k → Rising n B C k xs → Rising n B C l xs
+  rising-from : (n l k : ℕ) (xs : List OtherMap) → l ≤ k → Rising n B C k xs → Rising n B C l xs
   rising-from n l k [] h r = tt
   rising-from n l k (x ∷ xs) h r = (omega (arith, r .0), r .1, r .2, r .3)
 

@@ -11,13 +11,13 @@ use Rattle.kit.specs.Integer.{int?, le?, lt?, between?}
 use Rattle.kit.specs.Range.{within?}
 use Rattle.kit.specs.Truth.{dec-by}
 use Rattle.mapset.specs.declared.System.{System}
-use Rattle.mapset.specs.Described.{end-to-end, described}
+use Rattle.mapset.specs.Lines.{end-to-end, described}
 use Rattle.mapset.specs.Decisions.{×₃-dec, ×₄-dec, end?, step?, multiple?, together?, limits?, dimension?, follows?}
-use Rattle.mapset.specs.Sound.{version?, printable?, written?, lines?, texts?, times?, model?, axis?, grid?, count?, system?, systems?, header?, run?}
+use Rattle.mapset.specs.SoundDecided.{written?, axis?, records?, fillers?, header-rules?, run?, epoch-rules?}
 use Rattle.mapset.specs.MapSet.{Block, TecMap, OtherMap, MapSet}
 use Rattle.layout.specs.Layout.{exponent?}
 use Rattle.areas.specs.ValidDecided.{value?}
-use Rattle.join.specs.FormedDecided.{block-rules?, map-rules?, rising?, maps-rules?, epoch-rules?, formed?}
+use Rattle.join.specs.FormedDecided.{block-rules?, map-rules?, rising?, maps-rules?, formed?}
 use Rattle.join.specs.Join.{alike?, meet?, in-limits?, join}
 use Rattle.join.specs.Join as J
 
@@ -69,7 +69,7 @@ abbrev tuesday : MapSet
 tuesday = a-set (line-of 84 ∷ line-of 85 ∷ []) 63710 900 3600 4500 2 (tec-at 3600 3 ∷ tec-at 4500 4 ∷ []) (rms-of 2 14 ∷ [])
 
 pub two-days : join monday tuesday ≡ ok (a-set (line-of 84 ∷ line-of 85 ∷ []) 63710 0 0 4500 3 (tec-at 0 1 ∷ tec-at 3600 3 ∷ tec-at 4500 4 ∷ []) (rms-of 1 11 ∷ rms-of 3 14 ∷ []))
-unfolding join need pick ×-dec ⊎-dec ¬-dec all-dec ℕ-discrete decLe decLt int? le? lt? between? within? dec-by ×₃-dec ×₄-dec end? step? multiple? together? limits? dimension? follows? version? printable? written? lines? described end-to-end texts? times? model? axis? grid? count? system? systems? header? run? exponent? value? block-rules? map-rules? rising? maps-rules? epoch-rules? formed? alike? meet? in-limits? J.axis? J.grid?
+unfolding join need pick ×-dec ⊎-dec ¬-dec all-dec ℕ-discrete decLe decLt int? le? lt? between? within? dec-by ×₃-dec ×₄-dec end? step? multiple? together? limits? dimension? follows? written? described end-to-end axis? header-rules? records? fillers? run? exponent? value? block-rules? map-rules? rising? maps-rules? epoch-rules? formed? alike? meet? in-limits? J.axis? J.grid?
 two-days = refl
 
 abbrev other-radius : MapSet
@@ -79,9 +79,9 @@ abbrev late : MapSet
 late = a-set [] 63710 900 9000 9000 1 (tec-at 9000 5 ∷ []) []
 
 pub leftwards-40 : bind (join other-radius tuesday) (λ ab. join ab late) ≡ refused 40
-unfolding bind join need pick ×-dec ⊎-dec ¬-dec all-dec ℕ-discrete decLe decLt int? le? lt? between? within? dec-by ×₃-dec ×₄-dec end? step? multiple? together? limits? dimension? follows? version? printable? written? lines? described end-to-end texts? times? model? axis? grid? count? system? systems? header? run? exponent? value? block-rules? map-rules? rising? maps-rules? epoch-rules? formed? alike? meet? in-limits? J.axis? J.grid?
+unfolding bind join need pick ×-dec ⊎-dec ¬-dec all-dec ℕ-discrete decLe decLt int? le? lt? between? within? dec-by ×₃-dec ×₄-dec end? step? multiple? together? limits? dimension? follows? written? described end-to-end axis? header-rules? records? fillers? run? exponent? value? block-rules? map-rules? rising? maps-rules? epoch-rules? formed? alike? meet? in-limits? J.axis? J.grid?
 leftwards-40 = refl
 
 pub rightwards-41 : bind (join tuesday late) (λ bc. join other-radius bc) ≡ refused 41
-unfolding bind join need pick ×-dec ⊎-dec ¬-dec all-dec ℕ-discrete decLe decLt int? le? lt? between? within? dec-by ×₃-dec ×₄-dec end? step? multiple? together? limits? dimension? follows? version? printable? written? lines? described end-to-end texts? times? model? axis? grid? count? system? systems? header? run? exponent? value? block-rules? map-rules? rising? maps-rules? epoch-rules? formed? alike? meet? in-limits? J.axis? J.grid?
+unfolding bind join need pick ×-dec ⊎-dec ¬-dec all-dec ℕ-discrete decLe decLt int? le? lt? between? within? dec-by ×₃-dec ×₄-dec end? step? multiple? together? limits? dimension? follows? written? described end-to-end axis? header-rules? records? fillers? run? exponent? value? block-rules? map-rules? rising? maps-rules? epoch-rules? formed? alike? meet? in-limits? J.axis? J.grid?
 rightwards-41 = refl

@@ -8,7 +8,7 @@ use Rattle.mapset.specs.MapSet.{MapSet}
 use Rattle.mapset.specs.Areas.{Areas}
 use Rattle.mapset.specs.SoundDecided.{sound?}
 use Rattle.areas.specs.Flat.{areas}
-use Rattle.areas.specs.Stores.{fronts}
+use Rattle.areas.specs.Fronts.{fronts}
 use Rattle.areas.specs.Valid.{Valid}
 use Rattle.areas.specs.ValidDecided.{valid?}
 use Rattle.areas.specs.Nesting.{nested}

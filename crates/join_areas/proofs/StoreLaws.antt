@@ -19,12 +19,12 @@ use Rattle.mapset.specs.declared.Kind.the-variants.{Tec, Rms, Height}
 use Rattle.mapset.specs.Grid.{Limits, layers, rows, columns}
 use Rattle.mapset.specs.MapSet.{MapSet}
 use Rattle.mapset.specs.Areas.{Areas, Present, Nowhere, nowhere?, values, value-need, blocks, Room}
-use Rattle.mapset.specs.SoundDecided.{header-groups}
+use Rattle.mapset.proofs.Groups.{header-groups}
 use Rattle.mapset.proofs.SoundLaws.{few-values, few-blocks}
 use Rattle.areas.specs.Flat.{areas}
 use Rattle.areas.specs.Formed.{Formed}
 use Rattle.areas.specs.Nest.{third}
-use Rattle.areas.specs.Stores.{fronts}
+use Rattle.areas.specs.Fronts.{fronts}
 use Rattle.areas.specs.Valid.{needed}
 use Rattle.areas.proofs.Needs.{needs}
 use Rattle.read_needs.specs.Needs.{lengths, needed-and-lent, first-short, pairs, needs-of}

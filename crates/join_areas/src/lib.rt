@@ -12,8 +12,8 @@ use mapset::Kind;
 use mapset::Texts;
 use mapset::Times;
 use read_needs::Elements;
+use read_needs::LentRoom;
 use read_needs::Others;
-use read_needs::Room;
 
 // 31, 40, 41 and 42 of document 02; and 11, with the area and the elements it needs.
 pub enum Refusal {
@@ -99,9 +99,15 @@ fn fill_all(
     epochs: &mut [u64],
     marks: &mut [u8],
 )
-    requires { ⌜ Fillable m n blocks columns (six (now atec) (now arms) (now aheight) (now aexponents) (now aepochs) (now amarks)) (six (now btec) (now brms) (now bheight) (now bexponents) (now bepochs) (now bmarks)) (six (now tec) (now rms) (now height) (now exponents) (now epochs) (now marks)) ⌝ }
+    requires { ⌜ Fillable m n blocks columns
+        (six (now atec) (now arms) (now aheight) (now aexponents) (now aepochs) (now amarks))
+        (six (now btec) (now brms) (now bheight) (now bexponents) (now bepochs) (now bmarks))
+        (six (now tec) (now rms) (now height) (now exponents) (now epochs) (now marks)) ⌝ }
     ensures { λ _. ⌜ six (now (tec .exit)) (now (rms .exit)) (now (height .exit)) (now (exponents .exit)) (now (epochs .exit)) (now (marks .exit))
-        ≡ all-beside m n blocks columns (six (now (atec .entry)) (now (arms .entry)) (now (aheight .entry)) (now (aexponents .entry)) (now (aepochs .entry)) (now (amarks .entry))) (six (now (btec .entry)) (now (brms .entry)) (now (bheight .entry)) (now (bexponents .entry)) (now (bepochs .entry)) (now (bmarks .entry))) (six (now (tec .entry)) (now (rms .entry)) (now (height .entry)) (now (exponents .entry)) (now (epochs .entry)) (now (marks .entry))) ⌝ }
+        ≡ all-beside m n blocks columns
+        (six (now (atec .entry)) (now (arms .entry)) (now (aheight .entry)) (now (aexponents .entry)) (now (aepochs .entry)) (now (amarks .entry)))
+        (six (now (btec .entry)) (now (brms .entry)) (now (bheight .entry)) (now (bexponents .entry)) (now (bepochs .entry)) (now (bmarks .entry)))
+        (six (now (tec .entry)) (now (rms .entry)) (now (height .entry)) (now (exponents .entry)) (now (epochs .entry)) (now (marks .entry))) ⌝ }
 {
     let k = m - 1;
     let width = blocks * columns;
@@ -159,9 +165,15 @@ fn store(
     epochs: &mut [u64],
     marks: &mut [u8],
 ) -> Joining
-    requires { ⌜ Ready early late (six (now atec) (now arms) (now aheight) (now aexponents) (now aepochs) (now amarks)) (six (now btec) (now brms) (now bheight) (now bexponents) (now bepochs) (now bmarks)) ⌝ }
-    ensures { λ r. ⌜ puts r (six (now (tec .exit)) (now (rms .exit)) (now (height .exit)) (now (exponents .exit)) (now (epochs .exit)) (now (marks .exit)))
-        ≡ stored early late (six (now (atec .entry)) (now (arms .entry)) (now (aheight .entry)) (now (aexponents .entry)) (now (aepochs .entry)) (now (amarks .entry))) (six (now (btec .entry)) (now (brms .entry)) (now (bheight .entry)) (now (bexponents .entry)) (now (bepochs .entry)) (now (bmarks .entry))) (six (now (tec .entry)) (now (rms .entry)) (now (height .entry)) (now (exponents .entry)) (now (epochs .entry)) (now (marks .entry))) ⌝ }
+    requires { ⌜ Ready early late
+        (six (now atec) (now arms) (now aheight) (now aexponents) (now aepochs) (now amarks))
+        (six (now btec) (now brms) (now bheight) (now bexponents) (now bepochs) (now bmarks)) ⌝ }
+    ensures { λ r. ⌜ puts r
+        (six (now (tec .exit)) (now (rms .exit)) (now (height .exit)) (now (exponents .exit)) (now (epochs .exit)) (now (marks .exit)))
+        ≡ stored early late
+        (six (now (atec .entry)) (now (arms .entry)) (now (aheight .entry)) (now (aexponents .entry)) (now (aepochs .entry)) (now (amarks .entry)))
+        (six (now (btec .entry)) (now (brms .entry)) (now (bheight .entry)) (now (bexponents .entry)) (now (bepochs .entry)) (now (bmarks .entry)))
+        (six (now (tec .entry)) (now (rms .entry)) (now (height .entry)) (now (exponents .entry)) (now (epochs .entry)) (now (marks .entry))) ⌝ }
 {
     let header = join_head::joined_header(early, late);
     let size = read_needs::size_of(header);
@@ -178,8 +190,8 @@ fn store(
         marks: marks.len(),
     };
     match read_needs::room_for(need, lent) {
-        Room::Short(area, elements) => Joining::Refused(Refusal::AreaTooShort(area, elements)),
-        Room::Enough => {
+        LentRoom::Short(area, elements) => Joining::Refused(Refusal::AreaTooShort(area, elements)),
+        LentRoom::Enough => {
             fill_all(
                 m,
                 n,
@@ -230,7 +242,11 @@ fn judged(
     bepochs: &[u64],
     bmarks: &[u8],
 ) -> Verdict
-    ensures { λ r. ⌜ Said (lent-of early (full etexts (now (edescriptions .entry))) (six (now (atec .entry)) (now (arms .entry)) (now (aheight .entry)) (now (aexponents .entry)) (now (aepochs .entry)) (now (amarks .entry)))) (lent-of late (full ltexts (now (ldescriptions .entry))) (six (now (btec .entry)) (now (brms .entry)) (now (bheight .entry)) (now (bexponents .entry)) (now (bepochs .entry)) (now (bmarks .entry)))) r ⌝ }
+    ensures { λ r. ⌜ Said (lent-of early (full etexts (now (edescriptions .entry)))
+        (six (now (atec .entry)) (now (arms .entry)) (now (aheight .entry)) (now (aexponents .entry)) (now (aepochs .entry)) (now (amarks .entry))))
+        (lent-of late (full ltexts (now (ldescriptions .entry)))
+        (six (now (btec .entry)) (now (brms .entry)) (now (bheight .entry)) (now (bexponents .entry)) (now (bepochs .entry)) (now (bmarks .entry))))
+        r ⌝ }
 {
     if !valid::valid(
         early,
@@ -297,8 +313,14 @@ pub fn join_sets(
     epochs: &mut [u64],
     marks: &mut [u8],
 ) -> Joining
-    ensures { λ r. ⌜ comes r (full ltexts (now (ldescriptions .entry))) (six (now (tec .exit)) (now (rms .exit)) (now (height .exit)) (now (exponents .exit)) (now (epochs .exit)) (now (marks .exit)))
-        ≡ came (join-into (lent-of early (full etexts (now (edescriptions .entry))) (six (now (atec .entry)) (now (arms .entry)) (now (aheight .entry)) (now (aexponents .entry)) (now (aepochs .entry)) (now (amarks .entry)))) (lent-of late (full ltexts (now (ldescriptions .entry))) (six (now (btec .entry)) (now (brms .entry)) (now (bheight .entry)) (now (bexponents .entry)) (now (bepochs .entry)) (now (bmarks .entry)))) (six (now (tec .entry)) (now (rms .entry)) (now (height .entry)) (now (exponents .entry)) (now (epochs .entry)) (now (marks .entry)))) (six (now (tec .entry)) (now (rms .entry)) (now (height .entry)) (now (exponents .entry)) (now (epochs .entry)) (now (marks .entry))) ⌝ }
+    ensures { λ r. ⌜ comes r (full ltexts (now (ldescriptions .entry)))
+        (six (now (tec .exit)) (now (rms .exit)) (now (height .exit)) (now (exponents .exit)) (now (epochs .exit)) (now (marks .exit)))
+        ≡ came (join-into (lent-of early (full etexts (now (edescriptions .entry)))
+        (six (now (atec .entry)) (now (arms .entry)) (now (aheight .entry)) (now (aexponents .entry)) (now (aepochs .entry)) (now (amarks .entry))))
+        (lent-of late (full ltexts (now (ldescriptions .entry)))
+        (six (now (btec .entry)) (now (brms .entry)) (now (bheight .entry)) (now (bexponents .entry)) (now (bepochs .entry)) (now (bmarks .entry))))
+        (six (now (tec .entry)) (now (rms .entry)) (now (height .entry)) (now (exponents .entry)) (now (epochs .entry)) (now (marks .entry))))
+        (six (now (tec .entry)) (now (rms .entry)) (now (height .entry)) (now (exponents .entry)) (now (epochs .entry)) (now (marks .entry))) ⌝ }
 {
     match judged(
         early,

@@ -14,7 +14,7 @@ use Rattle.mapset.specs.Sound.{Runs}
 use Rattle.mapset.specs.declared.Kind.the-variants.{Rms, Height}
 use Rattle.mapset.specs.declared.Grid.{Grid}
 use Rattle.mapset.specs.declared.Header.{Header}
-use Rattle.mapset.specs.SoundDecided.{run-below}
+use Rattle.mapset.proofs.Groups.{run-below}
 use Rattle.areas.specs.Flat.{areas-of, areas}
 use Rattle.areas.specs.Formed.{Formed}
 use Rattle.areas.specs.Valid.{needed}

@@ -16,9 +16,9 @@ use Rattle.mapset.specs.declared.Kind.{Kind}
 use Rattle.mapset.specs.declared.Kind.the-variants.{Tec, Rms, Height}
 use Rattle.mapset.specs.declared.Header.{Header}
 use Rattle.mapset.specs.Described.{FullTexts}
-use Rattle.mapset.specs.SoundDecided.{marked}
+use Rattle.mapset.proofs.Groups.{marked}
 use Rattle.areas.specs.Flat.{areas-of, areas}
-use Rattle.areas.specs.Stores.{fronts}
+use Rattle.areas.specs.Fronts.{fronts}
 use Rattle.areas.specs.Valid.{needed, Valid}
 use Rattle.areas.specs.Formed.{Formed}
 use Rattle.areas.specs.Nesting.{nested}
@@ -101,7 +101,7 @@ module _ (h : Header) (t : FullTexts) (a : Areas) (v : Valid h t a) where
     staying : (w : Weighed) → w ≡ later 0 w
     staying w = let o : w .map ≡ 0 + w .map = omega arith in λ i. record { weight = w .weight; map = o i; row = w .row; column = w .column }
 
-    pub ask-short : (r : Told) → Answers long r → Answers short r
+    ask-short : (r : Told) → Answers long r → Answers short r
     ask-short =
         asked-of-whole (h .grid) h h t t a (needed h a) kind method layer lat lon second n 0 (record {
           sound = v .sound;
@@ -119,7 +119,7 @@ module _ (h : Header) (t : FullTexts) (a : Areas) (v : Valid h t a) where
           agrees = λ k l w s. sym (value-needed k l w s) ∙ ap (λ y. value (layout h kind layer) (area (kind-of kind) (needed h a)) (needed h a .exponents) (needed h a .marks) y) (staying w);
         })
 
-    pub ask-long : (r : Told) → Answers short r → Answers long r
+    ask-long : (r : Told) → Answers short r → Answers long r
     ask-long =
         asked-of-whole (h .grid) h h t t (needed h a) a kind method layer lat lon second n 0 (record {
           sound = sound-needed;

@@ -7,8 +7,8 @@ use native.Mathlib.Omega.{arith}
 use native.Mathlib.Decide.{decLt, decLe}
 use lib.ListN.{length, take, getD, length-append}
 use lib.Seq.{length-take-le, getD-append-add, getD-take}
-use Rattle.ask_spans.specs.Time.{epoch, gap, NearestMap, shared, Uses, nearest, between, last}
-use Rattle.ask_spans.specs.Spans.{Regular, Close}
+use Rattle.ask_spans.specs.Time.{epoch, gap, NearestMap, shared, Uses, nearest, between, last, Close}
+use Rattle.ask_spans.specs.Spans.{Regular}
 use Rattle.ask_spans.specs.declared.Shares.{Shares}
 use Rattle.ask_spans.proofs.TimeLaws.{rises-past}
 

@@ -8,19 +8,18 @@ use native.Mathlib.Omega.{arith}
 use lib.IntN.{ℤ}
 use Rattle.kit.specs.Answer.{All, pick}
 use Rattle.kit.proofs.ListLaws.{all-turn}
-use Rattle.mapset.specs.Grid.{layers, rows, columns}
+use Rattle.mapset.specs.Grid.{layers}
 use Rattle.mapset.specs.Areas.{Areas, Sound}
 use Rattle.mapset.specs.declared.Grid.{Grid}
 use Rattle.mapset.specs.declared.Header.{Header}
 use Rattle.mapset.specs.Described.{FullTexts}
-use Rattle.ask_cells.specs.Place.{InCell}
 use Rattle.ask_cells.specs.declared.Cell.{Cell}
 use Rattle.ask_spans.specs.Time.{epoch, Uses}
 use Rattle.ask_spans.specs.declared.Shares.{Shares}
 use Rattle.ask_nodes.specs.Value.{kind-of}
 use Rattle.ask_nodes.specs.declared.Weighed.{Weighed}
 use Rattle.ask_sums.specs.Mean.{left, right, next-left, next-right, by-column, corners, spread}
-use Rattle.ask.specs.Sun.{in-time, unit-of, lon-at, CellAt, Cells}
+use Rattle.ask.specs.Sun.{in-time, CellAt, Cells}
 use Rattle.ask.specs.Ask.{Question, Told, stop, go, epochs, Served, InTime, area, shape, question, Answers}
 use Rattle.ask.proofs.Standing.{Stands, Light, spread-stand}
 use Rattle.join_ask.proofs.Terms.{later, Agrees, like-terms, like-answer}

@@ -7,12 +7,11 @@ use native.Mathlib.Nat.{zero-mul}
 use lib.IntN.{ℤ, pos, negsuc, negℤ, _+ℤ_, _*ℤ_}
 use Rattle.kit.specs.Answer.{All}
 use Rattle.mapset.specs.declared.Kind.{Kind}
-use Rattle.ask_nodes.specs.Value.{value}
+use Rattle.ask_nodes.specs.Value.{value, or-zero}
 use Rattle.ask_sums.specs.Mean.{Term, IsSome, Valued, weighted, weight, terms}
 use Rattle.ask.specs.Ask.{Told, Guard, stop, go, Rounded}
 use Rattle.ask_nodes.specs.declared.Weighed.{Weighed}
 use Rattle.ask_nodes.specs.declared.Shape.{Shape}
-use Rattle.ask_nodes.specs.Nodes.{or-zero}
 
 -- the same weight, and the same value unless that is 0
 abbrev pub Like : Term → Term → Type 0

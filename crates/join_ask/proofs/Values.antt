@@ -14,7 +14,7 @@ use Rattle.kit.proofs.AnswerLaws.{pick-no, pick-elim}
 use Rattle.mapset.specs.Areas.{Areas, Present, Nowhere, present?, nowhere?}
 use Rattle.mapset.specs.declared.Kind.{Kind}
 use Rattle.mapset.specs.declared.Kind.the-variants.{Tec, Rms, Height}
-use Rattle.mapset.specs.SoundDecided.{marked}
+use Rattle.mapset.proofs.Groups.{marked}
 use Rattle.areas.specs.Nest.{third}
 use Rattle.areas.proofs.Unnested.{Sixfold, third-length, thirds-back}
 use Rattle.ask_nodes.specs.Value.{is-value?, thousandths, worth, kind-of, block, number-at, exponent-at, value}

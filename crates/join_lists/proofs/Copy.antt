@@ -12,7 +12,7 @@ use Rattle.kit.specs.Lists.{front}
 use Rattle.mapset.specs.declared.Kind.{Kind}
 use Rattle.mapset.specs.declared.Kind.the-variants.{Tec, Rms, Height}
 use Rattle.areas.specs.Nest.{third}
-use Rattle.areas.specs.Stores.{first-of}
+use Rattle.areas.specs.Places.{first-of}
 use Rattle.join_lists.specs.Lists.{or-absent, third-of-two, thirds-of-two}
 
 -- after j turns
@@ -46,7 +46,7 @@ same-at (suc n) (suc j) v z h = same-at n j v z (omega arith)
 -- ---- copies one behind the other
 module _ {A : Type 0} where
   -- y behind x
-  pub front-more : (x y l : List A) (at n : ℕ) → at ≡ length x → n ≡ length y → length x + length y ≤ length l → paste (front x l) at y n ≡ front (x ++ y) l
+  front-more : (x y l : List A) (at n : ℕ) → at ≡ length x → n ≡ length y → length x + length y ≤ length l → paste (front x l) at y n ≡ front (x ++ y) l
   front-more x y l at n p q h =
       let t : take at (front x l) ≡ x = take-at x (drop (length x) l) at (sym p) in
       let d : drop (length x) (front x l) ≡ drop (length x) l = drop-at x (drop (length x) l) (length x) refl in
@@ -57,7 +57,7 @@ module _ {A : Type 0} where
       ap (λ i. drop i (front x l)) s ∙ sym (drop-drop (length y) (length x) (front x l)) ∙ ap (drop (length y)) d ∙ drop-drop (length y) (length x) l ∙ ap (λ i. drop i l) (sym r) in
       λ i. (t i ++ a i) ++ k i
 
-  pub front-length : (x l : List A) → length x ≤ length l → length (front x l) ≡ length l
+  front-length : (x l : List A) → length x ≤ length l → length (front x l) ≡ length l
   front-length [] l h = refl
   front-length (y ∷ x) [] h = absurd (omega arith)
   front-length (y ∷ x) (z ∷ l) h = ap suc (front-length x l (omega arith))
@@ -84,7 +84,7 @@ module _ {A : Type 0} where
   two-copies x y l m n p q h =
       ap (λ d. paste d m y n) (front-more [] x l 0 m refl p (omega arith)) ∙ front-more x y l m n p q (omega arith)
 
-  pub three-copies : (x y z l : List A) (n : ℕ) → n ≡ length x → n ≡ length y → n ≡ length z → 3 * n ≤ length l
+  three-copies : (x y z l : List A) (n : ℕ) → n ≡ length x → n ≡ length y → n ≡ length z → 3 * n ≤ length l
       → paste (paste (paste l 0 x n) n y n) (n + n) z n ≡ front (x ++ (y ++ z)) l
   three-copies x y z l n p q r h =
       let b : n + n ≡ length (x ++ y) = omega (arith, length-append x y) in

@@ -31,17 +31,6 @@ fn copy_u64(src: &[u64], out: &mut [u64], at: usize)
     }
 }
 
-fn copy_u8(src: &[u8], out: &mut [u8], at: usize)
-    requires { ⌜ at + length (now src) ≤ length (now out) ⌝ }
-    ensures { λ _. ⌜ now (out .exit) ≡ paste (now (out .entry)) at (now (src .entry)) (length (now (src .entry))) ⌝ }
-{
-    let mut j = 0;
-    while j < src.len() {
-        out[at + j] = src[j];
-        j += 1;
-    }
-}
-
 // So many values of maps that are not there.
 fn put_absent(n: usize, out: &mut [i32], at: usize)
     requires { ⌜ at + n ≤ length (now out) ⌝ }
@@ -124,6 +113,6 @@ pub fn join_marks(a: &[u8], b: &[u8], out: &mut [u8])
     requires { ⌜ length (now a) + length (now b) ≤ length (now out) ⌝ }
     ensures { λ _. ⌜ now (out .exit) ≡ front (now (a .entry) ++ now (b .entry)) (now (out .entry)) ⌝ }
 {
-    copy_u8(a, out, 0);
-    copy_u8(b, out, a.len());
+    kit::copy_at(a, out, 0);
+    kit::copy_at(b, out, a.len());
 }

@@ -1,11 +1,8 @@
--- Laws of signed numbers: equal bits, and the size of a product.
+-- A law of signed numbers: equal bits.
 use mathlib.Core.Path.{_≡_, ap, _∙_}
-use Prim.Native.Nat.{ℕ, _*_, _≤_, _<_, _^_}
-use native.Mathlib.Nat.{mul-le-mul, le-of-lt}
 use native.Mathlib.Decide.{ℕ-discrete}
-use native.Mathlib.Omega.{arith}
 use lib.Dec.{eqb}
-use lib.IntN.{ℤ, natAbs}
+use lib.IntN.{ℤ}
 use mir.Syntax.{Width}
 use mir.Val.{SFits, ofZ}
 use mir.Facts.{toZ-ofZ}
@@ -19,6 +16,3 @@ pub same-bits : (w : Width) (x y : ℤ) → SFits w x → SFits w y → eqb (ofZ
 same-bits w x y f g =
     eq-tells (ofZ w x) (ofZ w y)
     ∙ truth-same (ℕ-discrete (ofZ w x) (ofZ w y)) (int? x y) (λ e. from-bits w x (ofZ w y) f e ∙ toZ-ofZ g) (λ e. ap (ofZ w) e)
-
-pub scaled-small : (i : ℕ) (v : ℤ) → i < 2 ^ 31 → natAbs v ≤ 2 ^ 31 → i * natAbs v ≤ 2 ^ 62
-scaled-small i v h k = let m : i * natAbs v ≤ 2 ^ 31 * 2 ^ 31 = mul-le-mul (le-of-lt h) k in omega arith

@@ -6,3 +6,5 @@ pub mod TruthLaws
 pub mod IntegerLaws
 pub mod Parts
 pub mod Order
+pub mod LesserLaws
+pub mod SetLaws

@@ -18,7 +18,7 @@ module _ (a b : ℕ) where
   sub-by true y n = let h : a < b = y tt in (omega arith, omega arith)
   sub-by false y n = let h : b ≤ a = n tt in (omega arith, omega arith)
 
-  pub sub-parts : (up (subℕ a b) ≡ a - b) × (dn (subℕ a b) ≡ b - a)
+  sub-parts : (up (subℕ a b) ≡ a - b) × (dn (subℕ a b) ≡ b - a)
   sub-parts = sub-by (ltb a b) (ltb→lt a b) (nltb→le a b)
 
 -- the sum

@@ -1,9 +1,9 @@
--- Ranges of naturals.
+-- Ranges of naturals, and the lesser of two.
 use mathlib.Core.List.{List}
 use Prim.Native.Nat.{ℕ, _≤_}
-use native.Mathlib.Decide.{decLe}
+use native.Mathlib.Decide.{decLe, decLt}
 use lib.IntN.{ℤ, pos, negsuc}
-use Rattle.kit.specs.Answer.{×-dec, All}
+use Rattle.kit.specs.Answer.{×-dec, All, pick}
 
 -- x is from low to high
 abbrev pub Within : ℕ → ℕ → ℕ → Type 0
@@ -11,6 +11,9 @@ Within low high x = (low ≤ x) × (x ≤ high)
 
 unfoldable pub within? : (low high x : ℕ) → Dec (Within low high x)
 within? low high x = ×-dec (decLe low x) (decLe x high)
+
+unfoldable pub lesser : ℕ → ℕ → ℕ
+lesser a b = pick (decLt a b) a b
 
 -- each byte from 32 to 126
 abbrev pub Printable : List ℕ → Type 0

@@ -1,9 +1,12 @@
 ghost use mathlib.Core.Path.{_≡_};
 ghost use mathlib.Core.Bool.{cond};
-ghost use Prim.Native.Nat.{_<_, _^_};
+ghost use Prim.Native.Nat.{_+_, _<_, _≤_, _^_};
 ghost use lib.IntN.{pos, negℤ, natAbs};
+ghost use lib.ListN.{length};
+ghost use lib.Seq.{sets};
 ghost use lib.Signed.{ltZ};
 ghost use Rattle.kit.specs.Integer.{int?, between?};
+ghost use Rattle.kit.specs.Range.{lesser as lesser-of};
 ghost use Rattle.kit.specs.Truth.{truth};
 
 pub mod wide;
@@ -31,6 +34,16 @@ pub fn with_sign(below: bool, m: u64) -> i64
     if below { 0 - (m as i64) } else { m as i64 }
 }
 
+// The smaller of two lengths.
+pub fn lesser(a: usize, b: usize) -> usize
+    ensures { λ r. ⌜ r ≡ lesser-of a b ⌝ }
+{
+    if a < b {
+        return a;
+    }
+    b
+}
+
 // ---- Numbers as a text holds them
 
 pub fn less(x: i32, y: i32) -> bool
@@ -56,4 +69,18 @@ pub fn between(low: i32, high: i32, x: i32) -> bool
     ensures { λ r. ⌜ r ≡ truth (between? low high x) ⌝ }
 {
     wide::between(low as i64, high as i64, x as i64)
+}
+
+// ---- Bytes
+
+// Bytes into an area, from a position on.
+pub fn copy_at(from: &[u8], out: &mut [u8], at: usize)
+    requires { ⌜ at + length (now from) ≤ length (now out) ⌝ }
+    ensures { λ _. ⌜ now (out .exit) ≡ sets (now (out .entry)) at (now (from .entry)) ⌝ }
+{
+    let mut i = 0;
+    while i < from.len() {
+        out[at + i] = from[i];
+        i += 1;
+    }
 }

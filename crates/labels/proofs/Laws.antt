@@ -15,7 +15,7 @@ use Rattle.layout.specs.Labels.{name}
 use Rattle.layout.specs.Names.{holds, place-of, names, number-of}
 
 -- one column more
-pub holds-next : (s : List ℕ) (a : ℕ) (l : List ℕ) (j : ℕ) → j < length l → holds s (a + j) (drop j l) ≡ (eqb (getD s (a + j) 32) (getD l j 0) && holds s (a + (j + 1)) (drop (j + 1) l))
+holds-next : (s : List ℕ) (a : ℕ) (l : List ℕ) (j : ℕ) → j < length l → holds s (a + j) (drop j l) ≡ (eqb (getD s (a + j) 32) (getD l j 0) && holds s (a + (j + 1)) (drop (j + 1) l))
 holds-next s a l j h = rw (drop-cons l j 0) (rw (add-one, add-suc))
 
 pub place-of-next : (s : List ℕ) (a : ℕ) (ls : List (List ℕ)) (k : ℕ) → k < length ls → holds s a (getD ls k []) ≡ false → place-of s a (drop k ls) ≡ suc (place-of s a (drop (k + 1) ls))

@@ -7,7 +7,7 @@ ghost use Rattle.layout.specs.Labels.{letters};
 ghost use Rattle.layout.specs.Names.{holds, number-of};
 ghost use Rattle.reading.specs.Head.{place};
 ghost use Rattle.labels.specs.Letters.{if-below};
-ghost use Rattle.labels.specs.Found.{Found};
+ghost use Rattle.labels.specs.Found.{LabelFound};
 
 // The label that opens a block, as nearly all labels of a file do, and two that may stand between blocks.
 const OPENING: [u8; 20] = *b"LAT/LON1/LON2/DLON/H";
@@ -191,7 +191,7 @@ fn search(line: &[u8]) -> usize
 
 // A label that a file may have many of, known by its first letter; 32 where it is another.
 fn frequent(line: &[u8]) -> usize
-    ensures { λ r. ⌜ Found (now (line .entry)) r ⌝ }
+    ensures { λ r. ⌜ LabelFound (now (line .entry)) r ⌝ }
 {
     let first = fields::byte_at(line, 60);
     if first == b'L' {

@@ -15,7 +15,7 @@ abbrev pub every : (List ℕ → Bool) → List (List ℕ) → Bool
 every f [] = true
 every f (l ∷ ls) = f l && every f ls
 
-pub every-at : (f : List ℕ → Bool) (ls : List (List ℕ)) → T (every f ls) → (k : ℕ) → k < length ls → T (f (getD ls k []))
+every-at : (f : List ℕ → Bool) (ls : List (List ℕ)) → T (every f ls) → (k : ℕ) → k < length ls → T (f (getD ls k []))
 every-at f [] t k h = absurd (not-suc-le-zero h)
 every-at f (l ∷ ls) t zero h = and-left (f l) (every f ls) t
 every-at f (l ∷ ls) t (suc k) h = every-at f ls (and-right (f l) (every f ls) t) k (le-of-suc-le-suc h)

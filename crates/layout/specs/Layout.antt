@@ -15,13 +15,15 @@ use Rattle.mapset.specs.declared.Kind.the-variants.{Tec, Rms, Height}
 use Rattle.mapset.specs.declared.Axis.{Axis}
 use Rattle.mapset.specs.declared.Header.{Header}
 use Rattle.mapset.specs.Grid.{Line, layers, rows, columns, Limits}
-use Rattle.mapset.specs.Described.{lines-in}
-use Rattle.mapset.specs.Header.{Content, count, tenths, epoch as an-epoch, axis, program, mapping, observables, system as a-system, Said, number, along, words, counts, Accepts, says, VersionRules, Fillers, Dimension, DescriptionRules}
+use Rattle.mapset.specs.Lines.{lines-in}
+use Rattle.mapset.specs.Header.{Content, count, tenths, epoch as an-epoch, axis, program, mapping, observables, system as a-system}
+use Rattle.mapset.specs.Header.{Said, number, along, words, counts, Accepts, says, VersionRules, Fillers, Dimension, DescriptionRules}
 use Rattle.mapset.specs.Areas.{Follows}
 use Rattle.mapset.specs.MapSet.{Block, TecMap, OtherMap, Maps, MapSet}
 use Rattle.layout.specs.Text.{Ended, Laid}
 use Rattle.layout.specs.Records.{Vals, ValueRows}
-use Rattle.layout.specs.Labels.{version, description, comment, system, exponent, aux-start, aux-end, header-end, epoch, block, file-end, head, start, end, name, items, content, layout, codes, letters, Rec}
+use Rattle.layout.specs.Labels.{version, description, comment, system, exponent, aux-start, aux-end, header-end, epoch, block, file-end}
+use Rattle.layout.specs.Labels.{head, start, end, name, items, content, layout, codes, letters, Rec}
 
 -- ---- 01, 'Maps'
 

@@ -76,11 +76,11 @@ told-front q p zs (ok w) = refl
 told-front q p zs (refused w) = refl
 
 module _ (h : Header) (q : Place) (p : Force) (t : List ℕ) (at n c : ℕ) where
-  pub after-good : {at′ n′ : ℕ} → Done t at n c at′ n′ → from h q p c t at n ≡ from h q p 0 t at′ n′
+  after-good : {at′ n′ : ℕ} → Done t at n c at′ n′ → from h q p c t at n ≡ from h q p 0 t at′ n′
   unfolding bind
   after-good d = ap (told-after q p) (run-values h q p c (feed (suc n) (split (drop at t))) ∙ ap (resumed h q p) (d .on)) ∙ told-front q p (d .have) _
 
-  pub after-refused : {k l col : ℕ} → values (feed (suc n) (split (drop at t))) c ≡ refused (why k l col) → from h q p c t at n ≡ Wrong k l col
+  after-refused : {k l col : ℕ} → values (feed (suc n) (split (drop at t))) c ≡ refused (why k l col) → from h q p c t at n ≡ Wrong k l col
   unfolding told-after bind
   after-refused e = ap (told-after q p) (run-values h q p c (feed (suc n) (split (drop at t))) ∙ ap (resumed h q p) e)
 

@@ -76,7 +76,7 @@ module _ (line : List ℕ) (fits : length line ≤ 80) (k : ℕ) (is : k ≡ num
 -- ---- the step
 
 module _ (h : Header) (q : Place) (p : Force) (r : List ℕ) where
-  abbrev pub by-role : Role → Step q
+  abbrev by-role : Role → Step q
   by-role R.Comment = loose q (stays q p)
   by-role R.Exponent = on-exponent q p r
   by-role (R.Start k) = on-start h q p k r

@@ -36,7 +36,7 @@ one-is line fits = read-is line fits (layout exponent) (omega arith)
 
 -- ---- nothing but blanks
 
-pub nothing-is : (line : List ℕ) → length line ≤ 80 → fields file-end (pad line) ≡ unless (blank-to line 0 60) (ok tt)
+nothing-is : (line : List ℕ) → length line ≤ 80 → fields file-end (pad line) ≡ unless (blank-to line 0 60) (ok tt)
 unfolding fields blank-to
 nothing-is line fits = read-is line fits (X 60 ∷ []) (omega arith)
 
@@ -80,7 +80,7 @@ five-by Nowhere (Number a) (Number b) (Number c) (Number u) Bad g = refl
 five-by Nowhere (Number a) (Number b) (Number c) (Number u) (Number v) (At n) = refl
 five-by Nowhere (Number a) (Number b) (Number c) (Number u) (Number v) Nowhere = refl
 
-pub opening-is : (line : List ℕ) → length line ≤ 80 → fields block (pad line)
+opening-is : (line : List ℕ) → length line ≤ 80 → fields block (pad line)
     ≡ unless (blank-to line 0 2) (numbers-of (threeAt form.F1 line 2) (readField form.F1 (columns line 20 6)) (readField form.F1 (columns line 26 6)) (blank-to line 32 60))
 unfolding fields blank-to threeAt
 opening-is line fits =

@@ -9,11 +9,7 @@ ghost use Rattle.layout.specs.Labels as L;
 ghost use Rattle.reading.specs.Fields as R;
 ghost use Rattle.reading.specs.Maps.{date, on-date};
 ghost use Rattle.reading.specs.Fields.{blank-to};
-ghost use Rattle.maps_records.specs.Records.{told-one, told-dated, told-opening, one-of, numbers-of};
-ghost use Rattle.forms.specs.Form.{F1};
-ghost use Rattle.forms.specs.Read.{readField};
-ghost use Rattle.forms.specs.Columns.{columns};
-ghost use Rattle.forms.specs.Rows.{threeAt};
+ghost use Rattle.maps_records.specs.Records.{told-one, told-dated, told-opening, one-of, opening-numbers};
 use calendar::Taken;
 use forms::Field;
 use forms::Found;
@@ -87,7 +83,7 @@ pub fn epoch_in(line: &[u8]) -> Dated
 }
 
 fn numbers_in(line: &[u8]) -> Opening
-    ensures { λ r. ⌜ told-opening r ≡ numbers-of (threeAt F1 (now (line .entry)) 2) (readField F1 (columns (now (line .entry)) 20 6)) (readField F1 (columns (now (line .entry)) 26 6)) (blank-to (now (line .entry)) 32 60) ⌝ }
+    ensures { λ r. ⌜ told-opening r ≡ opening-numbers (now (line .entry)) ⌝ }
 {
     match fields::three_numbers(line, 2, 1) {
         Triple::Amiss(column) => Opening::Wrong(column as u64),

@@ -3,12 +3,13 @@ use mathlib.Core.Path.{_≡_, refl, sym, ap, _∙_}
 use mathlib.Core.List.{List, [], _∷_, _++_, append-assoc}
 use Prim.Native.Nat.{ℕ, zero, suc, _+_, _*_, _-_, _≤_}
 use native.Mathlib.Omega.{arith}
-use lib.ListN.{length, take, drop, replicate, length-append, length-take, length-drop, length-replicate, take-append-drop}
+use lib.ListN.{length, take, drop, replicate, length-append, length-drop, length-replicate, take-append-drop}
 use lib.Seq.{take-at, drop-at, drop-drop, length-take-le}
 use Rattle.kit.specs.Answer.{All}
 use Rattle.kit.specs.Range.{Within}
 use Rattle.kit.proofs.ListLaws.{all-append, all-take, all-drop, all-replicate}
-use Rattle.mapset.specs.Described.{most-lines, line-width, lines-width, lines-in, end-to-end, described}
+use Rattle.mapset.specs.Described.{most-lines, line-width, lines-width}
+use Rattle.mapset.specs.Lines.{lines-in, end-to-end, described}
 use Rattle.mapset.specs.Header.{Written, DescriptionRules}
 
 -- ---- numbers of lines and bytes
@@ -17,12 +18,12 @@ unfolding lines-in
 lines-length zero bs = refl
 lines-length (suc n) bs = ap suc (lines-length n (drop line-width bs))
 
-pub ends-length : (ds : List (List ℕ)) → All (Written line-width) ds → length (end-to-end ds) ≡ line-width * length ds
+ends-length : (ds : List (List ℕ)) → All (Written line-width) ds → length (end-to-end ds) ≡ line-width * length ds
 unfolding end-to-end
 ends-length [] w = refl
 ends-length (d ∷ ds) w = simp length-append (omega (arith, w .0 .0, ends-length ds (w .1)))
 
-pub ends-printable : (ds : List (List ℕ)) → All (Written line-width) ds → All (Within 32 126) (end-to-end ds)
+ends-printable : (ds : List (List ℕ)) → All (Written line-width) ds → All (Within 32 126) (end-to-end ds)
 unfolding end-to-end
 ends-printable [] w = tt
 ends-printable (d ∷ ds) w = all-append (Within 32 126) d (end-to-end ds) (w .0 .1) (ends-printable ds (w .1))
@@ -54,7 +55,7 @@ described-rules ds few w =
     }
 
 -- ---- bytes, then lines, then bytes
-pub lines-written : (n : ℕ) (bs : List ℕ) → line-width * n ≤ length bs → All (Within 32 126) bs → All (Written line-width) (lines-in n bs)
+lines-written : (n : ℕ) (bs : List ℕ) → line-width * n ≤ length bs → All (Within 32 126) bs → All (Written line-width) (lines-in n bs)
 unfolding lines-in
 lines-written zero bs h p = tt
 lines-written (suc n) bs h p =

@@ -1,3 +1,4 @@
 pub mod DescribedLaws
 pub mod JudgedLaws
 pub mod SoundLaws
+pub mod Groups

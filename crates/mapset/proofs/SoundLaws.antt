@@ -18,7 +18,8 @@ use Rattle.mapset.specs.Grid.{Line, Limits, nodes, layers, rows, columns
 use Rattle.mapset.specs.Areas.{Follows}
 use Rattle.mapset.specs.Judged.{judged}
 use Rattle.mapset.proofs.JudgedLaws.{fine, rules}
-use Rattle.mapset.specs.Sound.{StartsAt, printable?, written?, axis?, runs?, starts?}
+use Rattle.mapset.specs.Sound.{StartsAt, runs?, starts?}
+use Rattle.mapset.specs.SoundDecided.{written?, axis?}
 use Rattle.mapset.specs.declared.Axis.{Axis}
 use Rattle.mapset.specs.declared.Grid.{Grid}
 use Rattle.mapset.specs.declared.axes.Judged.{Judged}
@@ -71,5 +72,5 @@ module _ (n : ℕ) (g : Grid) (l : Limits n g) where
 
 -- ---- a text whose length is its field's
 pub written : (w : ℕ) (t : List ℕ) {b : Bool} → length t ≡ w → b ≡ truth (all-dec (within? 32 126) t) → b ≡ truth (written? w t)
-unfolding written? printable?
+unfolding written?
 written w t l e = e ∙ truth-same (all-dec (within? 32 126) t) (written? w t) (λ a. (l, a)) (λ h. h .1)

@@ -46,6 +46,12 @@ Nowhere k ms = All (λ m. ¬ Present k m) ms
 unfoldable pub nowhere? : (k : Kind) (ms : List ℕ) → Dec (Nowhere k ms)
 nowhere? k ms = all-dec (λ m. ¬-dec (present? k m)) ms
 
+-- ---- a kind's number: as many kinds stand before it in the area of exponents
+abbrev pub kind-number : Kind → ℕ
+kind-number Tec = 0
+kind-number Rms = 1
+kind-number Height = 2
+
 -- ---- needs
 abbrev pub blocks : Header → ℕ
 blocks h = h .times .maps * (layers (h .grid) * rows (h .grid))

@@ -1,7 +1,6 @@
--- 02, Ask 1: the DESCRIPTION lines of a header, up to 20 of 60 columns, in file order; and all texts of a header with them.
-use mathlib.Core.List.{List, [], _∷_, _++_}
-use Prim.Native.Nat.{ℕ, zero, suc, _-_}
-use lib.ListN.{length, take, drop, replicate}
+-- 02, Ask 1: the DESCRIPTION lines of a header, up to 20 of 60 columns; and all texts of a header with them.
+use mathlib.Core.List.{List}
+use Prim.Native.Nat.{ℕ}
 use Rattle.mapset.specs.declared.Texts.{Texts}
 
 -- how many lines, their columns, and the bytes that hold them
@@ -14,20 +13,6 @@ line-width = 60
 abbrev pub lines-width : ℕ
 lines-width = 1200
 
--- the first n lines in the bytes
-unfoldable pub lines-in : ℕ → List ℕ → List (List ℕ)
-lines-in zero bs = []
-lines-in (suc n) bs = take line-width bs ∷ lines-in n (drop line-width bs)
-
--- lines one behind the other
-unfoldable pub end-to-end : List (List ℕ) → List ℕ
-end-to-end [] = []
-end-to-end (d ∷ ds) = d ++ end-to-end ds
-
--- and then blanks up to 1,200
-unfoldable pub described : List (List ℕ) → List ℕ
-described ds = end-to-end ds ++ replicate (lines-width - length (end-to-end ds)) 32
-
 -- ---- all texts of a header: PGM / RUN BY / DATE, MAPPING FUNCTION, OBSERVABLES USED, and the bytes of the DESCRIPTION lines
 pub record FullTexts : Type 0 where
   pub program : List ℕ
@@ -39,7 +24,3 @@ pub record FullTexts : Type 0 where
 
 abbrev pub full : Texts → List ℕ → FullTexts
 full t bs = record { program = t .program; agency = t .agency; date = t .date; mapping = t .mapping; observables = t .observables; descriptions = bs }
-
--- the bytes of no line
-unfoldable pub no-lines : List ℕ
-no-lines = replicate lines-width 32

@@ -9,7 +9,7 @@ use lib.ListN.{length, drop}
 use lib.IntN.{pos}
 use Rattle.kit.specs.Answer.{All}
 use Rattle.kit.specs.Range.{Within}
-use Rattle.calendar.specs.Calendar.{end}
+use Rattle.calendar.specs.End.{end}
 use Rattle.mapset.specs.Grid.{Line, heights, latitudes, longitudes, AxisRules, Limits}
 use Rattle.mapset.specs.declared.Axis.{Axis}
 use Rattle.mapset.specs.declared.Version.{Version}

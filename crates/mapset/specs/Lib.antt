@@ -1,10 +1,11 @@
 pub mod Grid
 pub mod Described
+pub mod Lines
 pub mod Header
 pub mod MapSet
 pub mod Areas
 pub mod Decisions
 pub mod Judged
-pub mod Sound
 pub mod Said
 pub mod SoundDecided
+pub mod Sound

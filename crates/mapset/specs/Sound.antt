@@ -1,4 +1,4 @@
--- Header, area lengths, epochs and marks judged: the rules of Header and Areas in the groups in which code looks at them, as decisions.
+-- The rules of Header and Areas in the groups in which code looks at them, as decisions. No public contract needs them.
 use mathlib.Core.Path.{_≡_}
 use mathlib.Core.Bool.{Bool, true, false}
 use mathlib.Core.List.{List, [], _∷_}
@@ -6,15 +6,14 @@ use Prim.Native.Nat.{ℕ, _*_, _≤_, _<_}
 use native.Mathlib.Decide.{ℕ-discrete, decLe, decLt}
 use lib.ListN.{length, take, drop}
 use Rattle.kit.specs.Answer.{All, all-dec, ×-dec}
-use Rattle.kit.specs.Range.{Within, within?, Printable}
-use Rattle.kit.specs.Truth.{dec-by}
-use Rattle.calendar.specs.Calendar.{end}
-use Rattle.mapset.specs.Grid.{Line, heights, latitudes, longitudes, AxisRules, Limits}
+use Rattle.kit.specs.Range.{Within, within?}
+use Rattle.calendar.specs.End.{end}
+use Rattle.mapset.specs.Grid.{heights, latitudes, longitudes, AxisRules, Limits}
 use Rattle.mapset.specs.Header.{Written, TakesCode, Dimension}
 use Rattle.mapset.specs.Areas.{Areas, blocks, values, value-need, Run}
 use Rattle.mapset.specs.declared.Kind.the-variants as K
-use Rattle.mapset.specs.Decisions.{end?, step?, together?, takes-code?, dimension?, limits?, follows?}
-use Rattle.mapset.specs.declared.Axis.{Axis}
+use Rattle.mapset.specs.Decisions.{takes-code?, dimension?, limits?}
+use Rattle.mapset.specs.SoundDecided.{written?, axis?, run?}
 use Rattle.mapset.specs.declared.Grid.{Grid}
 use Rattle.mapset.specs.declared.Version.{Version}
 use Rattle.mapset.specs.declared.Times.{Times}
@@ -35,7 +34,7 @@ abbrev pub LinesSay : ℕ → List ℕ → Type 0
 LinesSay n bs = (n ≤ most-lines) × (Written lines-width bs × All (λ b. b ≡ 32) (drop (line-width * n) bs))
 
 -- with n DESCRIPTION lines
-abbrev pub TextsSay : ℕ → FullTexts → Type 0
+abbrev TextsSay : ℕ → FullTexts → Type 0
 TextsSay n t =
     Written 20 (t .program) × (Written 20 (t .agency) × (Written 20 (t .date) × (Written 4 (t .mapping) × (Written 60 (t .observables)
     × LinesSay n (t .descriptions)))))
@@ -46,7 +45,7 @@ TimesSay t = (t .first < end) × ((t .last < end) × (Within 0 21600 (t .interva
 abbrev pub ModelSays : Model → Type 0
 ModelSays m = Within 0 900 (m .cutoff) × (Within 10000 999999 (m .radius) × Within 2 3 (m .dimension))
 
-abbrev pub GridSays : Grid → Type 0
+abbrev GridSays : Grid → Type 0
 GridSays g = AxisRules heights (g .heights) × (AxisRules latitudes (g .latitudes) × AxisRules longitudes (g .longitudes))
 
 -- a count of a starred record: in its range where the record stands, 0 where it does not
@@ -70,12 +69,6 @@ HeaderSays h t =
 unfoldable pub version? : (v : Version) → Dec (VersionSays v)
 version? v = ×-dec (within? 10 11 (v .tenths)) (×-dec (ℕ-discrete (v .kind) 73) (takes-code? (v .tenths) (v .code)))
 
-unfoldable pub printable? : (t : List ℕ) → Dec (Printable t)
-printable? t = all-dec (within? 32 126) t
-
-unfoldable pub written? : (w : ℕ) (t : List ℕ) → Dec (Written w t)
-written? w t = ×-dec (ℕ-discrete (length t) w) (printable? t)
-
 unfoldable pub lines? : (n : ℕ) (bs : List ℕ) → Dec (LinesSay n bs)
 lines? n bs = ×-dec (decLe n most-lines) (×-dec (written? lines-width bs) (all-dec (λ b. ℕ-discrete b 32) (drop (line-width * n) bs)))
 
@@ -89,12 +82,6 @@ times? t = ×-dec (decLt (t .first) end) (×-dec (decLt (t .last) end) (×-dec (
 
 unfoldable pub model? : (m : Model) → Dec (ModelSays m)
 model? m = ×-dec (within? 0 900 (m .cutoff)) (×-dec (within? 10000 999999 (m .radius)) (within? 2 3 (m .dimension)))
-
-unfoldable pub axis? : (l : Line) (a : Axis) → Dec (AxisRules l a)
-unfolding dec-by ×-dec
-axis? l a =
-    dec-by (λ h. record { first = h .0; last = h .1 .0; step = h .1 .1 .0; together = h .1 .1 .1 }) (λ r. (r .first, (r .last, (r .step, r .together))))
-    (×-dec (end? l (a .first)) (×-dec (end? l (a .last)) (×-dec (step? l (a .step)) (together? l a))))
 
 unfoldable pub grid? : (g : Grid) → Dec (GridSays g)
 grid? g = ×-dec (axis? heights (g .heights)) (×-dec (axis? latitudes (g .latitudes)) (axis? longitudes (g .longitudes)))
@@ -130,10 +117,6 @@ StartsAt first (e ∷ es) = e ≡ first
 abbrev pub EpochsSay : Times → List ℕ → Type 0
 EpochsSay t es = StartsAt (t .first) es × Runs (t .interval) (t .last) es
 
-unfoldable pub run? : (interval last e : ℕ) (es : List ℕ) → Dec (Run interval last e es)
-run? interval last e [] = ℕ-discrete e last
-run? interval last e (f ∷ es) = ×-dec (follows? interval e f) (run? interval last f es)
-
 unfoldable pub runs? : (interval last : ℕ) (es : List ℕ) → Dec (Runs interval last es)
 runs? interval last [] = no (λ e. e)
 runs? interval last (e ∷ es) = run? interval last e es
@@ -167,9 +150,3 @@ SoundSays h t a =
     HeaderSays h t × ((h .times .maps ≤ length (a .epochs)) × ((h .times .maps ≤ length (a .marks))
     × (EpochsSay (h .times) (take (h .times .maps) (a .epochs)) × (All (Within 0 3) (take (h .times .maps) (a .marks))
     × LengthsSay h (take (h .times .maps) (a .marks)) (lengths a)))))
-
-unfoldable pub sound-says? : (h : Header) (t : FullTexts) (a : Areas) → Dec (SoundSays h t a)
-sound-says? h t a =
-    ×-dec (header? h t) (×-dec (decLe (h .times .maps) (length (a .epochs))) (×-dec (decLe (h .times .maps) (length (a .marks)))
-    (×-dec (epochs? (h .times) (take (h .times .maps) (a .epochs))) (×-dec (marks? (take (h .times .maps) (a .marks)))
-    (lengths? h (take (h .times .maps) (a .marks)) (lengths a))))))

@@ -1,220 +1,165 @@
--- The groups of Sound hold exactly when `Sound` of Areas holds.
+-- `Sound` of Areas is decided, clause by clause. The types say all.
 use mathlib.Core.Bool.{Bool, true, false}
-use mathlib.Core.Logic.{inl, inr}
 use mathlib.Core.List.{List, [], _∷_}
-use mathlib.Core.Option.{Option, some}
-use Prim.Native.Nat.{ℕ, suc, _≤_, _<_, zero}
-use native.Mathlib.Omega.{arith}
-use lib.ListN.{length, take, getD}
-use Rattle.kit.specs.Answer.{All}
-use Rattle.kit.specs.Range.{Within}
+use mathlib.Core.Option.{Option, none, some}
+use Prim.Native.Nat.{ℕ, _*_, _<_}
+use native.Mathlib.Decide.{ℕ-discrete, decLe, decLt}
+use lib.ListN.{length, take, drop}
+use Rattle.kit.specs.Answer.{×-dec, all-dec}
+use Rattle.kit.specs.Range.{Within, within?}
 use Rattle.kit.specs.Truth.{dec-by}
-use Rattle.calendar.specs.Calendar.{end}
+use Rattle.calendar.specs.End.{end}
 use Rattle.mapset.specs.Grid.{Line, AxisRules}
-use Rattle.mapset.specs.Header.{Content, count, tenths, epoch, axis, program, mapping, observables, system, Said, number, along, words, counts, Written, Accepts, a-count, a-tenths, a-epoch, a-axis, a-program, a-mapping, a-observables, a-system, if-stands, Filled, TakesCode, Stand, stand-end, stand-some, stand-none, HeaderRules}
-use Rattle.mapset.specs.Areas.{Areas, EpochRules, Sound, Run, Present, Nowhere}
-use Rattle.mapset.specs.Sound.{Count, HeaderSays, EpochsSay, SoundSays, sound-says?}
+use Rattle.mapset.specs.Header.{Content, count, tenths, epoch, axis, program, mapping, observables, system, contents, Said, number, along, words, counts}
+use Rattle.mapset.specs.Header.{Written, Accepts, a-count, a-tenths, a-epoch, a-axis, a-program, a-mapping, a-observables, a-system, if-stands, says}
+use Rattle.mapset.specs.Header.{Filled, SystemFilled, Fillers, VersionRules, Stand, stand-end, stand-some, stand-none, DescriptionRules, HeaderRules}
+use Rattle.mapset.specs.Areas.{Areas, blocks, values, value-need, Room, Run, EpochRules, Sound}
+use Rattle.mapset.specs.Decisions.{×₃-dec, end?, step?, together?, takes-code?, dimension?, limits?, follows?}
+use Rattle.mapset.specs.Described.{most-lines, line-width, lines-width, FullTexts}
 use Rattle.mapset.specs.declared.Axis.{Axis}
+use Rattle.mapset.specs.declared.Version.{Version}
+use Rattle.mapset.specs.declared.System.{System}
 use Rattle.mapset.specs.declared.Header.{Header}
-use Rattle.mapset.specs.Described.{FullTexts}
-use Rattle.mapset.specs.declared.Kind.{Kind}
+use Rattle.mapset.specs.declared.Kind.the-variants as K
 
--- a code that a version takes is one of the list's eleven
-pub takes-known : {v c : ℕ} → TakesCode v c → c < 11
-takes-known (inl h) = omega arith
-takes-known (inr h) = h .1
+-- ---- what is accepted of each content
+unfoldable pub written? : (w : ℕ) (t : List ℕ) → Dec (Written w t)
+written? w t = ×-dec (ℕ-discrete (length t) w) (all-dec (within? 32 126) t)
 
--- ---- what a record's content accepts, one law for each content
-took-count : {low high n : ℕ} → Accepts (count low high) (number n) → Within low high n
+unfoldable pub axis? : (l : Line) (a : Axis) → Dec (AxisRules l a)
+axis? l a =
+    dec-by (λ h. record { first = h .0; last = h .1 .0; step = h .1 .1 .0; together = h .1 .1 .1 }) (λ r. (r .first, (r .last, (r .step, r .together))))
+    (×-dec (end? l (a .first)) (×-dec (end? l (a .last)) (×-dec (step? l (a .step)) (together? l a))))
+
+pub took-count : {low high n : ℕ} → Accepts (count low high) (number n) → Within low high n
 took-count (a-count w) = w
 
-took-tenths : {low high n : ℕ} → Accepts (tenths low high) (number n) → Within low high n
+abbrev a-count? : {low high n : ℕ} → Dec (Accepts (count low high) (number n))
+a-count? {low} {high} {n} = dec-by a-count took-count (within? low high n)
+
+pub took-tenths : {low high n : ℕ} → Accepts (tenths low high) (number n) → Within low high n
 took-tenths (a-tenths w) = w
 
-took-epoch : {n : ℕ} → Accepts epoch (number n) → n < end
+abbrev a-tenths? : {low high n : ℕ} → Dec (Accepts (tenths low high) (number n))
+a-tenths? {low} {high} {n} = dec-by a-tenths took-tenths (within? low high n)
+
+pub took-epoch : {n : ℕ} → Accepts epoch (number n) → n < end
 took-epoch (a-epoch h) = h
 
-took-axis : {l : Line} {a : Axis} → Accepts (axis l) (along a) → AxisRules l a
+abbrev an-epoch? : {n : ℕ} → Dec (Accepts epoch (number n))
+an-epoch? {n} = dec-by a-epoch took-epoch (decLt n end)
+
+pub took-axis : {l : Line} {a : Axis} → Accepts (axis l) (along a) → AxisRules l a
 took-axis (a-axis r) = r
 
-took-program : {a b c : List ℕ} → Accepts program (words (a ∷ b ∷ c ∷ [])) → Written 20 a × (Written 20 b × Written 20 c)
+abbrev an-axis? : {l : Line} {a : Axis} → Dec (Accepts (axis l) (along a))
+an-axis? {l} {a} = dec-by a-axis took-axis (axis? l a)
+
+pub took-program : {a b c : List ℕ} → Accepts program (words (a ∷ b ∷ c ∷ [])) → Written 20 a × (Written 20 b × Written 20 c)
 took-program (a-program p q r) = (p, (q, r))
 
-took-mapping : {a : List ℕ} → Accepts mapping (words (a ∷ [])) → Written 4 a
+abbrev a-program? : {a b c : List ℕ} → Dec (Accepts program (words (a ∷ b ∷ c ∷ [])))
+a-program? {a} {b} {c} = dec-by (λ w. a-program (w .0) (w .1 .0) (w .1 .1)) took-program (×-dec (written? 20 a) (×-dec (written? 20 b) (written? 20 c)))
+
+pub took-mapping : {a : List ℕ} → Accepts mapping (words (a ∷ [])) → Written 4 a
 took-mapping (a-mapping p) = p
 
-took-observables : {a : List ℕ} → Accepts observables (words (a ∷ [])) → Written 60 a
+abbrev a-mapping? : {a : List ℕ} → Dec (Accepts mapping (words (a ∷ [])))
+a-mapping? {a} = dec-by a-mapping took-mapping (written? 4 a)
+
+pub took-observables : {a : List ℕ} → Accepts observables (words (a ∷ [])) → Written 60 a
 took-observables (a-observables p) = p
 
-took-system : {a b : ℕ} → Accepts system (counts a b) → Within 0 999999 a × Within 0 999999 b
+abbrev an-observables? : {a : List ℕ} → Dec (Accepts observables (words (a ∷ [])))
+an-observables? {a} = dec-by a-observables took-observables (written? 60 a)
+
+pub took-system : {a b : ℕ} → Accepts system (counts a b) → Within 0 999999 a × Within 0 999999 b
 took-system (a-system p q) = (p, q)
 
--- ---- a record taken off the list, and put on it
-here : {k : Content} {ks : List Content} {s : Said} {ss : List (Option Said)} → Stand (k ∷ ks) (some s ∷ ss) → Accepts k s × Stand ks ss
+abbrev a-system? : {a b : ℕ} → Dec (Accepts system (counts a b))
+a-system? {a} {b} = dec-by (λ w. a-system (w .0) (w .1)) took-system (×-dec (within? 0 999999 a) (within? 0 999999 b))
+
+-- ---- the records, one after the other
+pub here : {k : Content} {ks : List Content} {s : Said} {ss : List (Option Said)} → Stand (k ∷ ks) (some s ∷ ss) → Accepts k s × Stand ks ss
 here (stand-some a r) = (a, r)
 
-filled : (b : Bool) (n : ℕ) → Count b n → Filled b n
-filled true n c = tt
-filled false n c = c
+pub past : {k : Content} {ks : List Content} {ss : List (Option Said)} → Stand (k ∷ ks) (none ∷ ss) → Stand ks ss
+past (stand-none r) = r
 
-module _ {ks : List Content} {ss : List (Option Said)} where
-  count-off : (b : Bool) (n : ℕ) → Stand (count 0 999999 ∷ ks) (if-stands b (number n) ∷ ss) → Filled b n → Count b n × Stand ks ss
-  count-off true n (stand-some a r) f = (took-count a, r)
-  count-off false n (stand-none r) f = (f, r)
+module _ {k : Content} {ks : List Content} {ss : List (Option Said)} where
+  abbrev next? : {s : Said} → Dec (Accepts k s) → Dec (Stand ks ss) → Dec (Stand (k ∷ ks) (some s ∷ ss))
+  next? a r = dec-by (λ p. stand-some (p .0) (p .1)) here (×-dec a r)
 
-  count-on : (b : Bool) (n : ℕ) → Count b n → Stand ks ss → Stand (count 0 999999 ∷ ks) (if-stands b (number n) ∷ ss)
-  count-on true n c r = stand-some (a-count c) r
-  count-on false n c r = stand-none r
+  -- a starred one
+  abbrev next*? : (b : Bool) (s : Said) → Dec (Accepts k s) → Dec (Stand ks ss) → Dec (Stand (k ∷ ks) (if-stands b s ∷ ss))
+  next*? true s a r = next? a r
+  next*? false s a r = dec-by stand-none past r
 
-  system-off : (b : Bool) (m n : ℕ) → Stand (system ∷ ks) (if-stands b (counts m n) ∷ ss) → Filled b m × Filled b n → (Count b m × Count b n) × Stand ks ss
-  system-off true m n (stand-some a r) f = (took-system a, r)
-  system-off false m n (stand-none r) f = (f, r)
+abbrev next-system? : {ks : List Content} {ss : List (Option Said)} (s : System) → Dec (Stand ks ss)
+    → Dec (Stand (system ∷ ks) (if-stands (s .stands) (counts (s .stations) (s .satellites)) ∷ ss))
+next-system? s r = next*? (s .stands) (counts (s .stations) (s .satellites)) a-system? r
 
-  system-on : (b : Bool) (m n : ℕ) → Count b m × Count b n → Stand ks ss → Stand (system ∷ ks) (if-stands b (counts m n) ∷ ss)
-  system-on true m n c r = stand-some (a-system (c .0) (c .1)) r
-  system-on false m n c r = stand-none r
-
-system-filled : (b : Bool) (m n : ℕ) → Count b m × Count b n → Filled b m × Filled b n
-system-filled b m n c = (filled b m (c .0), filled b n (c .1))
+unfoldable pub records? : (h : Header) (t : FullTexts) → Dec (Stand contents (says h t))
+records? h t =
+    next? a-program? (next? an-epoch? (next? an-epoch? (next? a-count? (next? a-count? (next? a-mapping? (next? a-tenths? (next? an-observables?
+    (next*? (h .stations .stands) (number (h .stations .count)) a-count? (next*? (h .satellites .stands) (number (h .satellites .count)) a-count?
+    (next? a-tenths? (next? a-count? (next? an-axis? (next? an-axis? (next? an-axis?
+    (next-system? (h .systems .g) (next-system? (h .systems .r) (next-system? (h .systems .e) (next-system? (h .systems .c)
+    (next-system? (h .systems .j) (next-system? (h .systems .i) (next-system? (h .systems .s) (yes stand-end))))))))))))))))))))))
 
 -- ---- the header
-pub header-groups : (h : Header) (t : FullTexts) → HeaderRules h t → HeaderSays h t
-header-groups h t r =
-    let f = r .fillers in
-    let pgm = here (r .records) in
-    let first = here (pgm .1) in
-    let last = here (first .1) in
-    let interval = here (last .1) in
-    let maps = here (interval .1) in
-    let map = here (maps .1) in
-    let cutoff = here (map .1) in
-    let obs = here (cutoff .1) in
-    let sta = count-off (h .stations .stands) (h .stations .count) (obs .1) (f .stations) in
-    let sat = count-off (h .satellites .stands) (h .satellites .count) (sta .1) (f .satellites) in
-    let radius = here (sat .1) in
-    let dim = here (radius .1) in
-    let hgt = here (dim .1) in
-    let lat = here (hgt .1) in
-    let lon = here (lat .1) in
-    let y = h .systems in
-    let g = system-off (y .g .stands) (y .g .stations) (y .g .satellites) (lon .1) (f .g) in
-    let r′ = system-off (y .r .stands) (y .r .stations) (y .r .satellites) (g .1) (f .r) in
-    let e = system-off (y .e .stands) (y .e .stations) (y .e .satellites) (r′ .1) (f .e) in
-    let c = system-off (y .c .stands) (y .c .stations) (y .c .satellites) (e .1) (f .c) in
-    let j = system-off (y .j .stands) (y .j .stations) (y .j .satellites) (c .1) (f .j) in
-    let i = system-off (y .i .stands) (y .i .stations) (y .i .satellites) (j .1) (f .i) in
-    let s = system-off (y .s .stands) (y .s .stations) (y .s .satellites) (i .1) (f .s) in
-    let p = took-program (pgm .0) in (
-      (r .version .tenths, (r .version .kind, r .version .code)),
-      (
-        (p .0, (p .1 .0, (p .1 .1, (took-mapping (map .0), (took-observables (obs .0), (r .descriptions .few, (r .descriptions .written, r .descriptions .blank))))))),
-        (
-          (took-epoch (first .0), (took-epoch (last .0), (took-count (interval .0), took-count (maps .0)))),
-          (
-            (took-tenths (cutoff .0), (took-tenths (radius .0), took-count (dim .0))),
-            (
-              (took-axis (hgt .0), (took-axis (lat .0), took-axis (lon .0))),
-              (
-                sta .0,
-                (
-                  sat .0,
-                  (
-                    (g .0, (r′ .0, (e .0, (c .0, (j .0, (i .0, s .0)))))),
-                    (r .dimension, r .limits),
-                  ),
-                ),
-              ),
-            ),
-          ),
-        ),
-      ),
-    )
+abbrev filled? : (b : Bool) (n : ℕ) → Dec (Filled b n)
+filled? true n = yes tt
+filled? false n = ℕ-discrete n 0
 
-pub groups-header : (h : Header) (t : FullTexts) → HeaderSays h t → HeaderRules h t
-groups-header h t (v, (x, (m, (o, (a, (sta, (sat, ((g, (r, (e, (c, (j, (i, s)))))), (d, l))))))))) =
-    let y = h .systems in
-    record {
-      version = record { tenths = v .0; kind = v .1 .0; code = v .1 .1 };
-      records =
-          stand-some (a-program (x .0) (x .1 .0) (x .1 .1 .0))
-          (stand-some (a-epoch (m .0))
-          (stand-some (a-epoch (m .1 .0))
-          (stand-some (a-count (m .1 .1 .0))
-          (stand-some (a-count (m .1 .1 .1))
-          (stand-some (a-mapping (x .1 .1 .1 .0))
-          (stand-some (a-tenths (o .0))
-          (stand-some (a-observables (x .1 .1 .1 .1 .0))
-          (count-on (h .stations .stands) (h .stations .count) sta
-          (count-on (h .satellites .stands) (h .satellites .count) sat
-          (stand-some (a-tenths (o .1 .0))
-          (stand-some (a-count (o .1 .1))
-          (stand-some (a-axis (a .0))
-          (stand-some (a-axis (a .1 .0))
-          (stand-some (a-axis (a .1 .1))
-          (system-on (y .g .stands) (y .g .stations) (y .g .satellites) g
-          (system-on (y .r .stands) (y .r .stations) (y .r .satellites) r
-          (system-on (y .e .stands) (y .e .stations) (y .e .satellites) e
-          (system-on (y .c .stands) (y .c .stations) (y .c .satellites) c
-          (system-on (y .j .stands) (y .j .stations) (y .j .satellites) j
-          (system-on (y .i .stands) (y .i .stations) (y .i .satellites) i
-          (system-on (y .s .stands) (y .s .stations) (y .s .satellites) s
-          stand-end)))))))))))))))))))));
-      fillers = record {
-        stations = filled (h .stations .stands) (h .stations .count) sta;
-        satellites = filled (h .satellites .stands) (h .satellites .count) sat;
-        g = system-filled (y .g .stands) (y .g .stations) (y .g .satellites) g;
-        r = system-filled (y .r .stands) (y .r .stations) (y .r .satellites) r;
-        e = system-filled (y .e .stands) (y .e .stations) (y .e .satellites) e;
-        c = system-filled (y .c .stands) (y .c .stations) (y .c .satellites) c;
-        j = system-filled (y .j .stands) (y .j .stations) (y .j .satellites) j;
-        i = system-filled (y .i .stands) (y .i .stations) (y .i .satellites) i;
-        s = system-filled (y .s .stands) (y .s .stations) (y .s .satellites) s;
-      };
-      dimension = d;
-      limits = l;
-      descriptions = record { few = x .1 .1 .1 .1 .1 .0; written = x .1 .1 .1 .1 .1 .1 .0; blank = x .1 .1 .1 .1 .1 .1 .1 };
-    }
+abbrev system-filled? : (s : System) → Dec (SystemFilled s)
+system-filled? s = ×-dec (filled? (s .stands) (s .stations)) (filled? (s .stands) (s .satellites))
 
--- ---- epochs and marks
-epochs-say : (h : Header) (es : List ℕ) → EpochRules h es → EpochsSay (h .times) es
-epochs-say h [] r = absurd r
-epochs-say h (e ∷ es) r = (r .0, r .1)
+unfoldable pub fillers? : (h : Header) → Dec (Fillers h)
+fillers? h =
+    dec-by
+    (λ f. record { stations = f .0 .0; satellites = f .0 .1; g = f .0 .2; r = f .1 .0; e = f .1 .1; c = f .1 .2; j = f .2 .0; i = f .2 .1; s = f .2 .2 })
+    (λ f. ((f .stations, f .satellites, f .g), (f .r, f .e, f .c), (f .j, f .i, f .s)))
+    (×₃-dec
+    (×₃-dec (filled? (h .stations .stands) (h .stations .count)) (filled? (h .satellites .stands) (h .satellites .count)) (system-filled? (h .systems .g)))
+    (×₃-dec (system-filled? (h .systems .r)) (system-filled? (h .systems .e)) (system-filled? (h .systems .c)))
+    (×₃-dec (system-filled? (h .systems .j)) (system-filled? (h .systems .i)) (system-filled? (h .systems .s))))
 
-say-epochs : (h : Header) (es : List ℕ) → EpochsSay (h .times) es → EpochRules h es
-say-epochs h [] r = absurd (r .0)
-say-epochs h (e ∷ es) r = (r .0, r .1)
+abbrev version? : (v : Version) → Dec (VersionRules v)
+version? v =
+    dec-by (λ r. record { tenths = r .0; kind = r .1; code = r .2 }) (λ r. (r .tenths, r .kind, r .code))
+    (×₃-dec (within? 10 11 (v .tenths)) (ℕ-discrete (v .kind) 73) (takes-code? (v .tenths) (v .code)))
 
-pub run-below : (i last e : ℕ) (fs : List ℕ) → Run i last e fs → e ≤ last
-run-below i last e [] r = omega (arith, r)
-run-below i last e (f ∷ fs) r = let b = run-below i last f fs (r .1) in omega (arith, r .0 .0)
+abbrev descriptions? : (n : ℕ) (bs : List ℕ) → Dec (DescriptionRules n bs)
+descriptions? n bs =
+    dec-by (λ r. record { few = r .0; written = r .1; blank = r .2 }) (λ r. (r .few, r .written, r .blank))
+    (×₃-dec (decLe n most-lines) (written? lines-width bs) (all-dec (λ b. ℕ-discrete b 32) (drop (line-width * n) bs)))
 
-pub marked : (k : Kind) (ms : List ℕ) (i : ℕ) → i < length ms → Present k (getD ms i 0) → ¬ Nowhere k ms
-marked k [] i h p n = omega arith
-marked k (m ∷ ms) zero h p n = n .0 p
-marked k (m ∷ ms) (suc i) h p n = marked k ms i (omega arith) p (n .1)
+unfoldable pub header-rules? : (h : Header) (t : FullTexts) → Dec (HeaderRules h t)
+header-rules? h t =
+    dec-by (λ r. record { version = r .0 .0; records = r .0 .1; fillers = r .0 .2; dimension = r .1 .0; limits = r .1 .1; descriptions = r .1 .2 })
+    (λ r. ((r .version, r .records, r .fillers), (r .dimension, r .limits, r .descriptions)))
+    (×-dec (×₃-dec (version? (h .version)) (records? h t) (fillers? h))
+    (×₃-dec (dimension? (h .model .dimension) (h .grid .heights)) (limits? (h .times .maps) (h .grid)) (descriptions? (h .descriptions) (t .descriptions))))
 
-pub from-zero : (ms : List ℕ) → All (λ m. m ≤ 3) ms → All (Within 0 3) ms
-from-zero [] a = tt
-from-zero (m ∷ ms) a = ((omega arith, a .0), from-zero ms (a .1))
+-- ---- the areas
+unfoldable pub room? : (h : Header) (ms : List ℕ) (a : Areas) → Dec (Room h ms a)
+room? h ms a =
+    dec-by (λ r. record { tec = r .0 .0; rms = r .0 .1; height = r .0 .2; exponents = r .1 .0; epochs = r .1 .1; marks = r .1 .2 })
+    (λ r. ((r .tec, r .rms, r .height), (r .exponents, r .epochs, r .marks)))
+    (×-dec (×₃-dec (decLe (values h) (length (a .tec))) (decLe (value-need K.Rms h ms) (length (a .rms))) (decLe (value-need K.Height h ms) (length (a .height))))
+    (×₃-dec (decLe (3 * blocks h) (length (a .exponents))) (decLe (h .times .maps) (length (a .epochs))) (decLe (h .times .maps) (length (a .marks)))))
 
-pub to-three : (ms : List ℕ) → All (Within 0 3) ms → All (λ m. m ≤ 3) ms
-to-three [] a = tt
-to-three (m ∷ ms) a = (a .0 .1, to-three ms (a .1))
+unfoldable pub run? : (interval last e : ℕ) (es : List ℕ) → Dec (Run interval last e es)
+run? interval last e [] = ℕ-discrete e last
+run? interval last e (f ∷ es) = ×-dec (follows? interval e f) (run? interval last f es)
 
--- ---- all of it
-pub sound-groups : (h : Header) (t : FullTexts) (a : Areas) → Sound h t a → SoundSays h t a
-sound-groups h t a s =
-    (header-groups h t (s .header), (s .room .epochs, (s .room .marks, (epochs-say h (take (h .times .maps) (a .epochs)) (s .epochs), (from-zero (take (h .times .maps) (a .marks)) (s .marks), (s .room .tec, (s .room .rms, (s .room .height, s .room .exponents))))))))
-
-pub groups-sound : (h : Header) (t : FullTexts) (a : Areas) → SoundSays h t a → Sound h t a
-groups-sound h t a (r, (e, (m, (es, (ms, (p, (q, (u, x)))))))) =
-    record {
-      header = groups-header h t r;
-      room = record { tec = p; rms = q; height = u; exponents = x; epochs = e; marks = m };
-      epochs = say-epochs h (take (h .times .maps) (a .epochs)) es;
-      marks = to-three (take (h .times .maps) (a .marks)) ms;
-    }
+unfoldable pub epoch-rules? : (h : Header) (es : List ℕ) → Dec (EpochRules h es)
+epoch-rules? h [] = no (λ e. e)
+epoch-rules? h (e ∷ es) = ×-dec (ℕ-discrete e (h .times .first)) (run? (h .times .interval) (h .times .last) e es)
 
 unfoldable pub sound? : (h : Header) (t : FullTexts) (a : Areas) → Dec (Sound h t a)
-unfolding dec-by
-sound? h t a = dec-by (groups-sound h t a) (sound-groups h t a) (sound-says? h t a)
+sound? h t a =
+    dec-by (λ s. record { header = s .0 .0; room = s .0 .1; epochs = s .1 .0; marks = s .1 .1 }) (λ s. ((s .header, s .room), (s .epochs, s .marks)))
+    (×-dec (×-dec (header-rules? h t) (room? h (take (h .times .maps) (a .marks)) a))
+    (×-dec (epoch-rules? h (take (h .times .maps) (a .epochs))) (all-dec (λ m. decLe m 3) (take (h .times .maps) (a .marks)))))

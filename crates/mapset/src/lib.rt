@@ -1,9 +1,10 @@
 // The map set's header record, as document 01 lists it: each field looked at, and which starred records stand.
 // The field of a starred record that does not stand holds 0.
 ghost use mathlib.Core.Path.{_≡_};
+ghost use Prim.Native.Nat.{_*_, _<_};
 ghost use Rattle.kit.specs.Answer.{pick};
 ghost use Rattle.kit.specs.Truth.{truth};
-ghost use Rattle.mapset.specs.Areas.{present?, nowhere?};
+ghost use Rattle.mapset.specs.Areas.{present?, nowhere?, kind-number};
 ghost use Rattle.mapset.specs.Decisions.{takes-code?, follows?};
 
 pub mod axes;
@@ -155,6 +156,18 @@ pub fn need(kind: Kind, marks: &[u8], values: usize) -> usize
         return 0;
     }
     values
+}
+
+// How many blocks stand before those of a kind, where each kind has so many.
+pub fn blocks_before(kind: Kind, blocks: usize) -> usize
+    requires { ⌜ 2 * blocks < 9223372036854775808 ⌝ }
+    ensures { λ r. ⌜ r ≡ kind-number kind * blocks ⌝ }
+{
+    match kind {
+        Kind::Tec => 0,
+        Kind::Rms => blocks,
+        Kind::Height => blocks + blocks,
+    }
 }
 
 // Later than the one before by 1 to 21,600 s, and by exactly INTERVAL unless that is 0.

@@ -6,7 +6,7 @@ use lib.ListN.{length, take}
 use Rattle.forms.specs.Show.{digits}
 use Rattle.layout.specs.Labels.{bytes}
 use Rattle.areas.specs.Lists.{flat}
-use Rattle.read_outcome.specs.Outcome.{Told, accepted, at-place, eleven}
+use Rattle.read_outcome.specs.Outcome.{ToldReading, accepted, at-place, eleven}
 
 abbrev lf : List ℕ
 lf = 10 ∷ []
@@ -27,7 +27,7 @@ unfoldable pub big-line : List ℕ
 big-line = bytes "text too big" ++ lf
 
 -- of a refusal; what is accepted has no such line
-abbrev pub line-of : Told → List ℕ
+abbrev pub line-of : ToldReading → List ℕ
 line-of (accepted h) = []
 line-of (at-place k l c) = place-line k l c
 line-of (eleven a n) = area-line a n

@@ -18,19 +18,19 @@ use Rattle.reading.specs.Feed.{Why}
 use Rattle.reading.specs.Read.{read}
 use Rattle.reading.proofs.Exact.{read-made}
 use Rattle.areas.specs.Flat.{areas}
-use Rattle.areas.specs.Stores.{fronts}
+use Rattle.areas.specs.Fronts.{fronts}
 use Rattle.areas.specs.Valid.{Valid}
 use Rattle.areas.proofs.Made.{made-formed}
 use Rattle.areas.specs.Nesting.{nested}
 use Rattle.areas.proofs.ValidFormed.{nested-formed, nested-areas, areas-once, needed-fronts, fronts-valid}
-use Rattle.valid.specs.Groups.{validity}
+use Rattle.valid.specs.Validity.{validity}
 use Rattle.canonical.specs.Canon.{canon}
 use Rattle.canonical.specs.CanonOf.{canon-of}
 use Rattle.write_text.specs.Write as W
 use Rattle.write_text.specs.declared.Written.{Written}
 use Rattle.read_needs.specs.Needs.{needed-and-lent, first-short}
 use Rattle.read_needs.proofs.ShortLaws.{none-short}
-use Rattle.read_outcome.specs.Outcome.{Told, with-room, outcome-of, told-reason, told, texts-in}
+use Rattle.read_outcome.specs.Outcome.{with-room, outcome-of, told-reason, told, texts-in}
 use Rattle.read_outcome.proofs.Once.{told-once}
 use Rattle.read_text.proofs.Once.{Reads, accepts-exactly}
 use Rattle.read_outcome.specs.declared.Reason.{Reason}
@@ -42,12 +42,12 @@ use Rattle.program_text.specs.Printed.{fitted, canonical, shown, Stands,
 
 -- ---- after writing into o, which becomes o′, y is to be printed
 
-abbrev pub Due : W.Told → (o′ y : List ℕ) → Type 0
+abbrev pub Due : W.ToldWriting → (o′ y : List ℕ) → Type 0
 Due w o′ y = Stands w (length o′) × (shown w o′ ≡ y)
 
 module _ (h : Header) (t : FullTexts) (a : Areas) (o : List ℕ) where
   by-cases : (x : List ℕ) (d : Dec (Valid h t a)) (e : Dec (length x ≤ length o))
-      → let w : W.Told × List ℕ = pick d (pick e (W.done (length x), x ++ drop (length x) o) (W.refused 30 (length x ∷ []), o)) (W.refused 31 [], o) in
+      → let w : W.ToldWriting × List ℕ = pick d (pick e (W.done (length x), x ++ drop (length x) o) (W.refused 30 (length x ∷ []), o)) (W.refused 31 [], o) in
       Due (w .0) (w .1) (pick d (pick e x (need-line (length x))) unsound-line)
   unfolding pick
   by-cases x (yes v) (yes l) = (omega (arith, length-append x (drop (length x) o)), take-at x (drop (length x) o) (length x) refl)
@@ -55,10 +55,10 @@ module _ (h : Header) (t : FullTexts) (a : Areas) (o : List ℕ) where
   by-cases x (no n) (yes l) = (tt, refl)
   by-cases x (no n) (no m) = (tt, refl)
 
-  pub due : (r : Written) (o′ : List ℕ) → _≡_ {A = W.Told × List ℕ} (W.told r, o′) (W.written h t a o) → Due (W.told r) o′ (canonical (length o) h t a)
+  pub due : (r : Written) (o′ : List ℕ) → _≡_ {A = W.ToldWriting × List ℕ} (W.told r, o′) (W.written h t a o) → Due (W.told r) o′ (canonical (length o) h t a)
   unfolding W.written canonical fitted
   due r o′ w =
-      subst (λ (z : W.Told × List ℕ). Due (z .0) (z .1) (canonical (length o) h t a)) (sym w)
+      subst (λ (z : W.ToldWriting × List ℕ). Due (z .0) (z .1) (canonical (length o) h t a)) (sym w)
       (by-cases (canon-of h t a) (validity h t a) (decLe (length (canon-of h t a)) (length o)))
 
 -- ---- after reading into the program's areas

@@ -13,7 +13,7 @@ use Rattle.mapset.specs.MapSet.{MapSet}
 use Rattle.reading.specs.Feed.{Why}
 use Rattle.reading.specs.Read.{read}
 use Rattle.areas.specs.Flat.{areas}
-use Rattle.valid.specs.Groups.{validity}
+use Rattle.valid.specs.Validity.{validity}
 use Rattle.canonical.specs.Canon.{canon}
 use Rattle.canonical.specs.CanonOf.{canon-of}
 use Rattle.write_text.specs.Write as W
@@ -32,13 +32,13 @@ unfoldable pub canonical : (room : ℕ) → Header → FullTexts → Areas → L
 canonical room h t a = pick (validity h t a) (fitted room (canon-of h t a)) unsound-line
 
 -- after writing, the output then being o: what stands in front of it, or why nothing does
-abbrev pub shown : W.Told → (o : List ℕ) → List ℕ
+abbrev pub shown : W.ToldWriting → (o : List ℕ) → List ℕ
 shown (W.done n) o = take n o
 shown (W.refused k []) o = unsound-line
 shown (W.refused k (n ∷ b)) o = need-line n
 
 -- what is told to be written stands within the output
-abbrev pub Stands : W.Told → (room : ℕ) → Type 0
+abbrev pub Stands : W.ToldWriting → (room : ℕ) → Type 0
 Stands (W.done n) room = n ≤ room
 Stands (W.refused k b) room = Unit {0}
 

@@ -42,7 +42,8 @@ fn put_canonical(
     out: &mut [u8],
 ) -> usize
     requires { ⌜ 128 ≤ length (now out) ⌝ }
-    ensures { λ r. ⌜ Begins (now (out .exit)) r (canonical (length (now (out .entry))) header (full texts (now (descriptions .entry))) (six (now (tec .entry)) (now (rms .entry)) (now (height .entry)) (now (exponents .entry)) (now (epochs .entry)) (now (marks .entry)))) ⌝ }
+    ensures { λ r. ⌜ Begins (now (out .exit)) r (canonical (length (now (out .entry))) header (full texts (now (descriptions .entry)))
+        (six (now (tec .entry)) (now (rms .entry)) (now (height .entry)) (now (exponents .entry)) (now (epochs .entry)) (now (marks .entry)))) ⌝ }
 {
     let written = write_text::write_text(
         header,
@@ -71,7 +72,8 @@ fn put_answer(
     out: &mut [u8],
 ) -> usize
     requires { ⌜ 128 ≤ length (now out) ⌝ }
-    ensures { λ r. ⌜ Begins (now (out .exit)) r (answered (length (now (out .entry))) (read .answer) (texts-in read) (six (now (tec .entry)) (now (rms .entry)) (now (height .entry)) (now (exponents .entry)) (now (epochs .entry)) (now (marks .entry)))) ⌝ }
+    ensures { λ r. ⌜ Begins (now (out .exit)) r (answered (length (now (out .entry))) (read .answer) (texts-in read)
+        (six (now (tec .entry)) (now (rms .entry)) (now (height .entry)) (now (exponents .entry)) (now (epochs .entry)) (now (marks .entry)))) ⌝ }
 {
     let reading = read.answer;
     let descriptions = read.descriptions;

@@ -157,7 +157,7 @@ module _ (t : List ℕ) (at n left : ℕ) (some : 0 < left) where
       pub step-wrong : (col : ℕ) (r : Cells) → Judges r (cells 1 m (pad (take (at + w - at) (drop at t)))) → r ≡ Wrong col → values (feed (suc n) (split (drop at t))) left ≡ refused (why 6 (n + 1) col)
       step-wrong col r j e = seen ∙ rw (subst (λ (o : Cells). Judges o (cells 1 m (pad (take (at + w - at) (drop at t))))) e j, add-one) (unfold bind on-line in refl)
 
-      pub step-put : (zs : List ℤ) × (cells 1 m (pad (take (at + w - at) (drop at t))) ≡ ok zs) → Moved t at n left (at + next) (n + 1) (left - m)
+      step-put : (zs : List ℤ) × (cells 1 m (pad (take (at + w - at) (drop at t))) ≡ ok zs) → Moved t at n left (at + next) (n + 1) (left - m)
       step-put j =
           let a = h .ahead in
           let w : next ≤ length t - at = rw length-drop at (h .within) in

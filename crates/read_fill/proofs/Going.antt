@@ -17,7 +17,8 @@ use Rattle.mapset.specs.Areas.{Areas}
 use Rattle.layout.specs.Labels.{Label, version, description, comment, system, exponent, aux-start, aux-end, header-end, epoch, block, file-end, head, start, end}
 use Rattle.reading.specs.Fields.{label}
 use Rattle.areas.specs.Events as event
-use Rattle.areas.specs.Stores.{is, place, put-values, put-exponent, put-epoch, put-mark, Inside, lengths, scan, scanned}
+use Rattle.areas.specs.Stores.{is, put-values, put-exponent, put-epoch, put-mark, Inside, lengths, scan, scanned}
+use Rattle.areas.specs.Places.{place}
 use Rattle.areas.specs.Scan.{Now, Turn, at-first, values-ahead, on-epoch, turn, brought}
 use Rattle.areas.proofs.Scanned.{scanned-append}
 use Rattle.read_fill.specs.Rows.{rows-from, due-behind, Valued}

@@ -25,7 +25,8 @@ use Rattle.reading.proofs.MapLaws.{written, wrote-rows}
 use Rattle.reading.proofs.RecordLaws.{known-maps, rec-label, cells-of}
 use Rattle.reading.specs.declared.Place.the-variants.{Between}
 use Rattle.areas.specs.Flat.{areas}
-use Rattle.areas.specs.Stores.{Inside, lengths, scanned, fill, cleared, fronts}
+use Rattle.areas.specs.Stores.{Inside, lengths, scanned, fill, cleared}
+use Rattle.areas.specs.Fronts.{fronts}
 use Rattle.areas.specs.Scan.{Now, at-first, brought}
 use Rattle.areas.proofs.Needs.{needs}
 use Rattle.areas.proofs.Scanned.{maps-leave, maps-stay}

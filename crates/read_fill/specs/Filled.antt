@@ -14,7 +14,7 @@ use Rattle.reading.specs.Maps.{run}
 use Rattle.reading.specs.declared.Place.the-variants.{Between}
 use Rattle.areas.specs.Flat.{areas}
 use Rattle.areas.specs.Formed.{Formed}
-use Rattle.areas.specs.Stores.{fronts}
+use Rattle.areas.specs.Fronts.{fronts}
 
 -- with e in force, the text from END OF HEADER on is read as the maps of m: n of B blocks of C values. Its RMS and height values need r and t elements
 pub record Accepted (n B C r t : ℕ) (e : ℤ) (text : List ℕ) (m : MapSet) : Type 0 where

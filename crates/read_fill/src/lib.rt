@@ -4,13 +4,12 @@ ghost use Prim.Native.Nat.{_+_, _*_, _<_, _≤_};
 ghost use lib.ListN.{length, drop};
 ghost use lib.Seq.{sets};
 ghost use Rattle.mapset.specs.Areas.{six};
-ghost use Rattle.kit.specs.Answer.{All};
 ghost use Rattle.areas.specs.Scan.{at-first, brought, values-ahead};
-ghost use Rattle.areas.specs.Stores.{Inside, lengths, scanned};
+ghost use Rattle.areas.specs.Stores.{scanned};
 ghost use Rattle.read_events.specs.Brings.{tells, due};
 ghost use Rattle.read_fill.specs.Rows.{rows-from, Valued};
 ghost use Rattle.read_fill.specs.Filled.{Readable, Enough, Filled};
-ghost use Rattle.read_fill.specs.Scan.{Turned, Resumes, Resumed};
+ghost use Rattle.read_fill.specs.Scan.{Turned, StoresInside, Storable, Resumes, Resumed};
 use mapset::Kind;
 use mapset::Size;
 use read_events::Event;
@@ -76,8 +75,10 @@ fn store(
     epochs: &mut [u64],
     marks: &mut [u8],
 ) -> usize
-    requires { ⌜ All (Inside (size .maps) (size .blocks) (size .columns) (lengths (six (now tec) (now rms) (now height) (now exponents) (now epochs) (now marks)))) (tells event (values-ahead (size .columns) (rows-from (now text) at))) ⌝ }
-    requires { ⌜ (at ≤ length (now text)) × Valued (size .columns) (due (size .columns) event) (rows-from (now text) at) × (3 * (size .maps * size .blocks) ≤ length (now exponents)) × (size .maps ≤ length (now epochs)) × (size .maps ≤ length (now marks)) ⌝ }
+    requires { ⌜ StoresInside (size .maps) (size .blocks) (size .columns)
+        (six (now tec) (now rms) (now height) (now exponents) (now epochs) (now marks))
+        (tells event (values-ahead (size .columns) (rows-from (now text) at))) ⌝ }
+    requires { ⌜ Storable (size .maps) (size .blocks) (size .columns) (now text) at (due (size .columns) event) (now exponents) (now epochs) (now marks) ⌝ }
     ensures { λ r. ⌜ six (now (tec .exit)) (now (rms .exit)) (now (height .exit)) (now (exponents .exit)) (now (epochs .exit)) (now (marks .exit))
         ≡ scanned (size .maps) (size .blocks) (size .columns) (tells event (values-ahead (size .columns) (rows-from (now (text .entry)) at)))
         (six (now (tec .entry)) (now (rms .entry)) (now (height .entry)) (now (exponents .entry)) (now (epochs .entry)) (now (marks .entry))) ⌝ }
@@ -119,8 +120,10 @@ fn scan(
     epochs: &mut [u64],
     marks: &mut [u8],
 )
-    requires { ⌜ All (Inside (size .maps) (size .blocks) (size .columns) (lengths (six (now tec) (now rms) (now height) (now exponents) (now epochs) (now marks)))) (brought (size .columns) (at-first exponent) 0 (rows-from (now text) from)) ⌝ }
-    requires { ⌜ (from ≤ length (now text)) × Valued (size .columns) 0 (rows-from (now text) from) × (3 * (size .maps * size .blocks) ≤ length (now exponents)) × (size .maps ≤ length (now epochs)) × (size .maps ≤ length (now marks)) ⌝ }
+    requires { ⌜ StoresInside (size .maps) (size .blocks) (size .columns)
+        (six (now tec) (now rms) (now height) (now exponents) (now epochs) (now marks))
+        (brought (size .columns) (at-first exponent) 0 (rows-from (now text) from)) ⌝ }
+    requires { ⌜ Storable (size .maps) (size .blocks) (size .columns) (now text) from 0 (now exponents) (now epochs) (now marks) ⌝ }
     ensures { λ _. ⌜ six (now (tec .exit)) (now (rms .exit)) (now (height .exit)) (now (exponents .exit)) (now (epochs .exit)) (now (marks .exit))
         ≡ scanned (size .maps) (size .blocks) (size .columns) (brought (size .columns) (at-first exponent) 0 (rows-from (now (text .entry)) from))
         (six (now (tec .entry)) (now (rms .entry)) (now (height .entry)) (now (exponents .entry)) (now (epochs .entry)) (now (marks .entry))) ⌝ }

@@ -1,6 +1,7 @@
 // The first scan of a text as a whole: its header, then its maps.
 ghost use mathlib.Core.Path.{_≡_};
-ghost use Rattle.mapset.specs.Described.{full, no-lines};
+ghost use Rattle.mapset.specs.Described.{full};
+ghost use Rattle.mapset.specs.Lines.{no-lines};
 ghost use Rattle.read_judge.specs.Scanned.{Judges};
 use head::Headed;
 use head::opening;

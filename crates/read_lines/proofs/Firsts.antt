@@ -34,7 +34,7 @@ unfolding split
 split-front b t p q = pick-no (ℕ-discrete b 10) _ _ p ∙ pick-no (×-dec (ℕ-discrete b 13) (opens? 10 t)) _ _ q
 
 -- the first line of a text that has an LF
-pub split-line : (l t : List ℕ) → All (λ b. ¬ (b ≡ 10)) l → split (l ++ 10 ∷ t) ≡ chop l ∷ split t
+split-line : (l t : List ℕ) → All (λ b. ¬ (b ≡ 10)) l → split (l ++ 10 ∷ t) ≡ chop l ∷ split t
 unfolding chop front
 split-line [] t a = split-lf t
 split-line (b ∷ []) t a =
@@ -43,7 +43,7 @@ split-line (b ∷ []) t a =
 split-line (b ∷ c ∷ l) t a = split-front b (c ∷ l ++ 10 ∷ t) (a .0) (λ h. a .1 .0 (h .1)) ∙ rw (split-line (c ∷ l) t (a .1))
 
 -- the last line of a text that ends in none
-pub split-last : (b : ℕ) (l : List ℕ) → All (λ b. ¬ (b ≡ 10)) (b ∷ l) → split (b ∷ l) ≡ (b ∷ l) ∷ []
+split-last : (b : ℕ) (l : List ℕ) → All (λ b. ¬ (b ≡ 10)) (b ∷ l) → split (b ∷ l) ≡ (b ∷ l) ∷ []
 unfolding front
 split-last b [] a = split-front b [] (a .0) (λ h. absurd (h .1)) ∙ (unfold split in refl)
 split-last b (c ∷ l) a = split-front b (c ∷ l) (a .0) (λ h. a .1 .0 (h .1)) ∙ rw (split-last c l (a .1))

@@ -75,7 +75,7 @@ ending-in t w (suc zero) h e = (omega arith, omega arith)
 ending-in t w (suc (suc zero)) h e = let q = e .0 in (omega arith, omega arith)
 ending-in t w (suc (suc (suc z))) h e = absurd e
 
-pub ending-odd : (t : List ℕ) (w z : ℕ) → Ending t w z → 0 < z → ¬ Within 32 126 (getD t w 0)
+ending-odd : (t : List ℕ) (w z : ℕ) → Ending t w z → 0 < z → ¬ Within 32 126 (getD t w 0)
 ending-odd t w zero e s = absurd (omega arith)
 ending-odd t w (suc zero) e s = λ q. let x : getD t w 0 ≡ 10 = e in omega (arith, q .0)
 ending-odd t w (suc (suc zero)) e s = λ q. let x : getD t w 0 ≡ 13 = e .1 .0 in omega (arith, q .0)

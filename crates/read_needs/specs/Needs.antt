@@ -9,8 +9,8 @@ use Rattle.kit.specs.Answer.{pick}
 use Rattle.mapset.specs.Areas.{Areas}
 use Rattle.read_needs.specs.declared.Elements.{Elements}
 use Rattle.read_needs.specs.declared.Others.{Others}
-use Rattle.read_needs.specs.declared.Room.{Room}
-use Rattle.read_needs.specs.declared.Room.the-variants.{Enough, Short}
+use Rattle.read_needs.specs.declared.LentRoom.{LentRoom}
+use Rattle.read_needs.specs.declared.LentRoom.the-variants.{Enough, Short}
 
 -- the elements of each area
 abbrev pub lengths : Areas → Elements
@@ -50,6 +50,6 @@ abbrev pub needs-of : (n B C : ℕ) → Others → Elements
 needs-of n B C o =
     record { tec = n * B * C; rms = cond (o .rms) (n * B * C) 0; height = cond (o .height) (n * B * C) 0; exponents = 3 * (n * B); epochs = n; marks = n }
 
-abbrev pub fit : Room → Option (ℕ × ℕ)
+abbrev pub fit : LentRoom → Option (ℕ × ℕ)
 fit Enough = none
 fit (Short a n) = some (a, n)

@@ -26,7 +26,7 @@ pub struct Others {
 }
 
 // Each area holds what it needs; or the first that does not, counted from 1, and the elements it needs.
-pub enum Room {
+pub enum LentRoom {
     Enough,
     Short(u64, u64),
 }
@@ -70,26 +70,26 @@ pub fn needed(size: Size, some: Others) -> Elements
 }
 
 // In 01's order: TEC, RMS, height, exponents, epochs, marks.
-pub fn room_for(need: Elements, lent: Elements) -> Room
+pub fn room_for(need: Elements, lent: Elements) -> LentRoom
     ensures { λ r. ⌜ fit r ≡ first-short 1 (pairs need lent) ⌝ }
 {
     if lent.tec < need.tec {
-        return Room::Short(1, need.tec as u64);
+        return LentRoom::Short(1, need.tec as u64);
     }
     if lent.rms < need.rms {
-        return Room::Short(2, need.rms as u64);
+        return LentRoom::Short(2, need.rms as u64);
     }
     if lent.height < need.height {
-        return Room::Short(3, need.height as u64);
+        return LentRoom::Short(3, need.height as u64);
     }
     if lent.exponents < need.exponents {
-        return Room::Short(4, need.exponents as u64);
+        return LentRoom::Short(4, need.exponents as u64);
     }
     if lent.epochs < need.epochs {
-        return Room::Short(5, need.epochs as u64);
+        return LentRoom::Short(5, need.epochs as u64);
     }
     if lent.marks < need.marks {
-        return Room::Short(6, need.marks as u64);
+        return LentRoom::Short(6, need.marks as u64);
     }
-    Room::Enough
+    LentRoom::Enough
 }

@@ -7,7 +7,7 @@ use Rattle.kit.specs.Answer.{pick}
 use Rattle.kit.proofs.TruthLaws.{clash}
 use Rattle.areas.specs.Flat.{areas}
 use Rattle.read_needs.specs.Needs.{lengths}
-use Rattle.read_outcome.specs.Outcome.{Told, accepted, at-place, eleven, told-reason, told, texts-in}
+use Rattle.read_outcome.specs.Outcome.{ToldReading, accepted, at-place, eleven, told-reason, told, texts-in}
 use Rattle.read_outcome.specs.Measures.{Measures}
 use Rattle.read_outcome.specs.declared.Reason.{Reason}
 use Rattle.read_outcome.specs.declared.Reason.the-variants.{LongLine, BadByte, NotIonex, UnknownLabel, Misplaced, IllFormed, OutOfRange, Disagrees, Missing, EndsEarly, AreaTooShort}
@@ -28,7 +28,7 @@ reason k l c =
     (pick (ℕ-discrete k 7) (OutOfRange l c)
     (pick (ℕ-discrete k 8) (Disagrees l c) (pick (ℕ-discrete k 9) (Missing l c) (EndsEarly l c)))))))))
 
-abbrev back : Told → Reading
+abbrev back : ToldReading → Reading
 back (accepted h) = Accepted h
 back (at-place k l c) = Refused (reason k l c)
 back (eleven a n) = Refused (AreaTooShort a n)

@@ -4,14 +4,15 @@ use mathlib.Core.Option.{Option, none, some}
 use Prim.Native.Nat.{ℕ}
 use Rattle.kit.specs.Answer.{Answer, ok, refused}
 use Rattle.mapset.specs.declared.Header.{Header}
-use Rattle.mapset.specs.Described.{FullTexts, full, no-lines}
+use Rattle.mapset.specs.Described.{FullTexts, full}
+use Rattle.mapset.specs.Lines.{no-lines}
 use Rattle.mapset.specs.MapSet.{MapSet}
 use Rattle.mapset.specs.Areas.{Areas}
 use Rattle.reading.specs.Feed.{Why}
 use Rattle.reading.specs.Read.{read}
 use Rattle.mapset.specs.Said.{blank-texts}
 use Rattle.areas.specs.Flat.{areas}
-use Rattle.areas.specs.Stores.{fronts}
+use Rattle.areas.specs.Fronts.{fronts}
 use Rattle.read_needs.specs.Needs.{needed-and-lent, first-short}
 use Rattle.read_outcome.specs.declared.Reason.{Reason}
 use Rattle.read_outcome.specs.declared.Reason.the-variants.{LongLine, BadByte, NotIonex, UnknownLabel, Misplaced, IllFormed, OutOfRange, Disagrees, Missing, EndsEarly, AreaTooShort}
@@ -20,19 +21,19 @@ use Rattle.read_outcome.specs.declared.Reading.the-variants.{Accepted, R
 use Rattle.read_outcome.specs.declared.ReadOut.{ReadOut}
 
 -- ---- the answer: the header record; or 01's number with line and column; or 11 with the area and the elements it needs
-pub data Told : Type 0 where
-  accepted : Header → Told
-  at-place : (number line column : ℕ) → Told
-  eleven : (area need : ℕ) → Told
+pub data ToldReading : Type 0 where
+  accepted : Header → ToldReading
+  at-place : (number line column : ℕ) → ToldReading
+  eleven : (area need : ℕ) → ToldReading
 
 -- 0 for done, or 01's number
-abbrev pub told-number : Told → ℕ
+abbrev pub told-number : ToldReading → ℕ
 told-number (accepted h) = 0
 told-number (at-place k l c) = k
 told-number (eleven a n) = 11
 
 -- line and column, or area and need; nothing where the text is accepted
-abbrev pub told-place : Told → List ℕ
+abbrev pub told-place : ToldReading → List ℕ
 told-place (accepted h) = []
 told-place (at-place k l c) = l ∷ c ∷ []
 told-place (eleven a n) = a ∷ n ∷ []
@@ -43,7 +44,7 @@ no-texts = full blank-texts no-lines
 
 -- what is answered, the texts beside it, and what is then in the areas
 pub record Outcome : Type 0 where
-  pub told : Told
+  pub told : ToldReading
   pub texts : FullTexts
   pub areas : Areas
 
@@ -62,7 +63,7 @@ outcome t l = outcome-of (read t) l
 
 -- ---- what the code's answer tells
 
-abbrev pub told-reason : Reason → Told
+abbrev pub told-reason : Reason → ToldReading
 told-reason (LongLine l c) = at-place 1 l c
 told-reason (BadByte l c) = at-place 2 l c
 told-reason (NotIonex l c) = at-place 3 l c
@@ -75,7 +76,7 @@ told-reason (Missing l c) = at-place 9 l c
 told-reason (EndsEarly l c) = at-place 10 l c
 told-reason (AreaTooShort a n) = eleven a n
 
-abbrev pub told : Reading → Told
+abbrev pub told : Reading → ToldReading
 told (Accepted h) = accepted h
 told (Refused w) = told-reason w
 

@@ -3,7 +3,8 @@ ghost use mathlib.Core.Path.{_≡_};
 ghost use Prim.Native.Nat.{_+_, _-_, _*_, _<_, _≤_};
 ghost use lib.ListN.{length, set, getD, replicate};
 ghost use lib.IntN.{pos, negsuc};
-ghost use Rattle.areas.specs.Stores.{first-of, before, with-mark, fill};
+ghost use Rattle.areas.specs.Stores.{with-mark, fill};
+ghost use Rattle.areas.specs.Places.{first-of, before};
 use mapset::Kind;
 use mapset::Size;
 
@@ -21,24 +22,20 @@ pub fn block_place(i: usize, b: usize, blocks: usize) -> usize
     less_one(i) * blocks + b
 }
 
-// The exponents of the three kinds stand behind each other.
+// The place of a block among those of all kinds: the three kinds stand behind each other.
+pub fn entry_of(kind: Kind, i: usize, b: usize, size: Size) -> usize
+    requires { ⌜ (before (size .blocks) i b < size .maps * size .blocks) × (3 * (size .maps * size .blocks) < 9223372036854775808) ⌝ }
+    ensures { λ r. ⌜ r ≡ first-of kind (size .maps * size .blocks) + before (size .blocks) i b ⌝ }
+{
+    mapset::blocks_before(kind, size.maps * size.blocks) + block_place(i, b, size.blocks)
+}
+
 pub fn put_exponent(kind: Kind, i: usize, b: usize, e: i32, size: Size, exponents: &mut [i32])
     requires { ⌜ (before (size .blocks) i b < size .maps * size .blocks) × (3 * (size .maps * size .blocks) ≤ length (now exponents)) ⌝ }
     ensures { λ _. ⌜ now (exponents .exit) ≡ set (now (exponents .entry)) (first-of kind (size .maps * size .blocks) + before (size .blocks) i b) e ⌝ }
 {
-    let s = size.maps * size.blocks;
-    let p = block_place(i, b, size.blocks);
-    match kind {
-        Kind::Tec => {
-            exponents[p] = e;
-        }
-        Kind::Rms => {
-            exponents[s + p] = e;
-        }
-        Kind::Height => {
-            exponents[s + s + p] = e;
-        }
-    }
+    let p = entry_of(kind, i, b, size);
+    exponents[p] = e;
 }
 
 // A mark that says of one more kind that it is there.

@@ -20,7 +20,7 @@ use Rattle.read_outcome.specs.declared.ReadOut.{ReadOut}
 use Rattle.read_text.proofs.Once.{Reads, FirstShort, given, short-exactly}
 
 -- each area has at least so many elements
-abbrev pub AtLeast : Elements → Areas → Type 0
+abbrev AtLeast : Elements → Areas → Type 0
 AtLeast n l = All (λ x. x .0 ≤ x .1) (pairs n (lengths l))
 
 module _ (t : List ℕ) (l : Areas) (r : ReadOut) (l′ : Areas) (c : Reads t l r l′) where

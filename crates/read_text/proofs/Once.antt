@@ -17,7 +17,7 @@ use Rattle.reading.specs.Feed.{Why}
 use Rattle.reading.specs.Read.{read}
 use Rattle.reading.proofs.Exact.{read-made, made-read}
 use Rattle.areas.specs.Flat.{areas}
-use Rattle.areas.specs.Stores.{fronts}
+use Rattle.areas.specs.Fronts.{fronts}
 use Rattle.read_needs.specs.Needs.{needed-and-lent, first-short}
 use Rattle.read_needs.proofs.ShortLaws.{none-short}
 use Rattle.read_outcome.proofs.Once.{told-once, texts-once}
@@ -64,20 +64,20 @@ first-is i a n (x ∷ xs) (inl f) = pick-no (decLe (x .0) (x .1)) _ _ (λ h. ome
 first-is i a n (x ∷ xs) (inr f) = pick-yes (decLe (x .0) (x .1)) _ _ (f .0) ∙ first-is (suc i) a n xs (f .1)
 
 -- what is short, if anything is
-data Room (i : ℕ) (xs : List (ℕ × ℕ)) : Option (ℕ × ℕ) → Type 0 where
-  roomy : All (λ x. x .0 ≤ x .1) xs → Room i xs none
-  short : (a n : ℕ) → FirstShort i a n xs → Room i xs (some (a, n))
+data WhatIsShort (i : ℕ) (xs : List (ℕ × ℕ)) : Option (ℕ × ℕ) → Type 0 where
+  roomy : All (λ x. x .0 ≤ x .1) xs → WhatIsShort i xs none
+  short : (a n : ℕ) → FirstShort i a n xs → WhatIsShort i xs (some (a, n))
 
-later : {i : ℕ} {x : ℕ × ℕ} {xs : List (ℕ × ℕ)} {o : Option (ℕ × ℕ)} → x .0 ≤ x .1 → Room (suc i) xs o → Room i (x ∷ xs) o
+later : {i : ℕ} {x : ℕ × ℕ} {xs : List (ℕ × ℕ)} {o : Option (ℕ × ℕ)} → x .0 ≤ x .1 → WhatIsShort (suc i) xs o → WhatIsShort i (x ∷ xs) o
 later h (roomy a) = roomy (h, a)
 later h (short a n f) = short a n (inr (h, f))
 
-room : (i : ℕ) (xs : List (ℕ × ℕ)) → Room i xs (first-short i xs)
+room : (i : ℕ) (xs : List (ℕ × ℕ)) → WhatIsShort i xs (first-short i xs)
 unfolding first-short pick
 room i [] = roomy tt
 room i (x ∷ xs) = by (decLe (x .0) (x .1)) (room (suc i) xs)
   where
-    by : (d : Dec (x .0 ≤ x .1)) → Room (suc i) xs (first-short (suc i) xs) → Room i (x ∷ xs) (pick d (first-short (suc i) xs) (some (i, x .0)))
+    by : (d : Dec (x .0 ≤ x .1)) → WhatIsShort (suc i) xs (first-short (suc i) xs) → WhatIsShort i (x ∷ xs) (pick d (first-short (suc i) xs) (some (i, x .0)))
     by (yes p) r = later p r
     by (no n) r = short i (x .0) (inl (omega arith, (refl, refl)))
 
@@ -88,7 +88,7 @@ data Outcomes (t : List ℕ) (l : Areas) : Outcome → Type 0 where
   too-short : (m : MapSet) (a n : ℕ) → Makes m t → FirstShort 1 a n (needed-and-lent (areas m) l) → Outcomes t l (with-room m l (some (a, n)))
   not-made : (w : Why) → Outcomes t l (outcome-of (refused w) l)
 
-from-room : (t : List ℕ) (l : Areas) (m : MapSet) → Makes m t → (o : Option (ℕ × ℕ)) → Room 1 (needed-and-lent (areas m) l) o → Outcomes t l (with-room m l o)
+from-room : (t : List ℕ) (l : Areas) (m : MapSet) → Makes m t → (o : Option (ℕ × ℕ)) → WhatIsShort 1 (needed-and-lent (areas m) l) o → Outcomes t l (with-room m l o)
 from-room t l m k o (roomy a) = stored m k a
 from-room t l m k o (short a n f) = too-short m a n k f
 

@@ -13,11 +13,11 @@ use Rattle.mapset.specs.declared.Descriptions.{Descriptions}
 use Rattle.mapset.specs.Areas.{Areas}
 use Rattle.reading.proofs.Vectors.{lines, two-faults, eight-before-seven, small-text, small-set, small-read, two-text, two-set, two-read}
 use Rattle.areas.specs.Flat.{areas-of, areas}
-use Rattle.areas.specs.Stores.{fronts}
+use Rattle.areas.specs.Fronts.{fronts}
 use Rattle.read_needs.specs.Needs.{first-short}
 use Rattle.read_outcome.specs.Measures.{Measures}
 use Rattle.read_outcome.proofs.Once.{needs-once}
-use Rattle.read_outcome.specs.Outcome.{Told, accepted, at-place, eleven, with-room, outcome-of, outcome}
+use Rattle.read_outcome.specs.Outcome.{ToldReading, accepted, at-place, eleven, with-room, outcome-of, outcome}
 use Rattle.read_text.proofs.Once.{Reads, not-accepted}
 use Rattle.read_outcome.specs.declared.Measured.{Measured}
 use Rattle.read_outcome.specs.declared.Measured.the-variants.{Needs}
@@ -69,7 +69,7 @@ not-constant h x y g f l′ l″ c d =
     let q : accepted h ≡ accepted (two-set .header) = ap (λ o. o .told) (d ∙ two-comes) in
     let e : _≡_ {A = ℕ} 1 2 = ap maps-of (sym p ∙ q) in omega arith
   where
-    maps-of : Told → ℕ
+    maps-of : ToldReading → ℕ
     maps-of (accepted h) = h .times .maps
     maps-of (at-place k l c) = 0
     maps-of (eleven a n) = 0

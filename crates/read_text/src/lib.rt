@@ -9,8 +9,8 @@ use mapset::Header;
 use mapset::Texts;
 use read_judge::Judged;
 use read_needs::Elements;
+use read_needs::LentRoom;
 use read_needs::Others;
-use read_needs::Room;
 use read_outcome::ReadOut;
 use read_outcome::Reading;
 use read_outcome::Reason;
@@ -32,8 +32,10 @@ fn store(
     marks: &mut [u8],
 ) -> ReadOut
     requires { ⌜ Accepts (now text) (full texts (now lines)) header exponent at some ⌝ }
-    ensures { λ r. ⌜ comes r (six (now (tec .exit)) (now (rms .exit)) (now (height .exit)) (now (exponents .exit)) (now (epochs .exit)) (now (marks .exit)))
-        ≡ outcome (now (text .entry)) (six (now (tec .entry)) (now (rms .entry)) (now (height .entry)) (now (exponents .entry)) (now (epochs .entry)) (now (marks .entry))) ⌝ }
+    ensures { λ r. ⌜ comes r
+        (six (now (tec .exit)) (now (rms .exit)) (now (height .exit)) (now (exponents .exit)) (now (epochs .exit)) (now (marks .exit)))
+        ≡ outcome (now (text .entry))
+        (six (now (tec .entry)) (now (rms .entry)) (now (height .entry)) (now (exponents .entry)) (now (epochs .entry)) (now (marks .entry))) ⌝ }
 {
     let size = read_needs::size_of(header);
     let need = read_needs::needed(size, some);
@@ -46,8 +48,11 @@ fn store(
         marks: marks.len(),
     };
     match read_needs::room_for(need, lent) {
-        Room::Short(area, elements) => read_outcome::refused(Reason::AreaTooShort(area, elements)),
-        Room::Enough => {
+        LentRoom::Short(area, elements) => read_outcome::refused(Reason::AreaTooShort(
+            area,
+            elements,
+        )),
+        LentRoom::Enough => {
             read_fill::fill_maps(
                 text,
                 at,
@@ -81,8 +86,10 @@ pub fn read_text(
     epochs: &mut [u64],
     marks: &mut [u8],
 ) -> ReadOut
-    ensures { λ r. ⌜ comes r (six (now (tec .exit)) (now (rms .exit)) (now (height .exit)) (now (exponents .exit)) (now (epochs .exit)) (now (marks .exit)))
-        ≡ outcome (now (text .entry)) (six (now (tec .entry)) (now (rms .entry)) (now (height .entry)) (now (exponents .entry)) (now (epochs .entry)) (now (marks .entry))) ⌝ }
+    ensures { λ r. ⌜ comes r
+        (six (now (tec .exit)) (now (rms .exit)) (now (height .exit)) (now (exponents .exit)) (now (epochs .exit)) (now (marks .exit)))
+        ≡ outcome (now (text .entry))
+        (six (now (tec .entry)) (now (rms .entry)) (now (height .entry)) (now (exponents .entry)) (now (epochs .entry)) (now (marks .entry))) ⌝ }
 {
     let mut lines = [b' '; 1200];
     let scan = read_judge::judge(text, &mut lines);

@@ -1,6 +1,6 @@
 -- The fast way to store a row that has no minus: by pairs of digits.
-use mathlib.Core.Path.{_≡_, refl, sym, ap, _∙_}
-use mathlib.Core.Bool.{Bool, true, false, _&&_, _||_}
+use mathlib.Core.Path.{_≡_, sym, ap, _∙_}
+use mathlib.Core.Bool.{Bool, true, false, _&&_}
 use mathlib.Core.Logic.{_⊎_, inl, inr, ⊎-elim}
 use mathlib.Core.List.{List, [], _∷_}
 use Prim.Native.Nat.{ℕ, zero, suc, _+_, _-_, _*_, _≤_, _<_}
@@ -28,7 +28,7 @@ use Rattle.read_values.proofs.ValueLaws.{field-whole, okay-at}
 
 -- ---- a byte
 
-pub bare-is : (b : ℕ) → bare b ≡ true → (b ≡ 32) ⊎ Digit b
+bare-is : (b : ℕ) → bare b ≡ true → (b ≡ 32) ⊎ Digit b
 bare-is b e = ⊎-elim (λ p. inl (eqb-true b 32 p)) (λ p. inr (true-digit b p)) (or-true (eqb b 32) (isDigit b) e)
 
 bare-shown : (b : ℕ) → bare b ≡ true → Within 32 126 b

@@ -71,7 +71,7 @@ module _ (l : List ℕ) (m k : ℕ) (fits : length l ≤ 80) (most : m ≤ 16) (
       let b : k * 5 + 5 ≡ (k + 1) * 5 = omega arith in
       rw left (rw (a, drop-drop, b, field-of l k fits (omega arith)))
 
-  pub passed-with : (z : ℤ) → value-field l k ≡ Number z → Passed l m (k + 1)
+  passed-with : (z : ℤ) → value-field l k ≡ Number z → Passed l m (k + 1)
   passed-with z e =
       let s : cells (k * 5 + 1) (m - k) (drop (k * 5) (pad l)) ≡ amap (λ zs. z ∷ zs) (cells ((k + 1) * 5 + 1) (m - (k + 1)) (drop ((k + 1) * 5) (pad l))) =
       step ∙ rw e (unfold number in refl) in
@@ -153,7 +153,7 @@ is-number : (f : Field) → (f ≡ Bad → ⊥) → true ≡ isNumber f
 is-number (Number z) n = refl
 is-number Bad n = absurd (n refl)
 
-pub not-okay : {W A : Type 0} {w : W} (x : Answer W A) → Okay x → x ≡ refused w → ⊥
+not-okay : {W A : Type 0} {w : W} (x : Answer W A) → Okay x → x ≡ refused w → ⊥
 not-okay (ok a) h e = clash (cc)
 not-okay (refused w) h e = h
 

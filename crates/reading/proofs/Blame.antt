@@ -1,13 +1,15 @@
 -- Which numbers and columns a row can be refused with: 3 or 6 where the version record is due, and 4 to 9 after it.
-use mathlib.Core.Path.{_≡_}
+use mathlib.Core.Path.{_≡_, refl}
+use mathlib.Core.Logic.{inl, inr}
 use lib.Dec.{T}
 use native.Mathlib.Omega.{arith}
 use mathlib.Core.Option.{Option, none, some}
-use Prim.Native.Nat.{ℕ, zero, suc, _+_, _≤_}
+use native.Mathlib.Decide.{ℕ-discrete}
+use Prim.Native.Nat.{ℕ, zero, suc, _+_, _≤_, _<_}
 use mathlib.Core.List.{List, [], _∷_}
-use lib.ListN.{take, drop}
+use lib.ListN.{length, take, drop}
 use lib.IntN.{ℤ}
-use Rattle.kit.specs.Answer.{Answer, ok, refused, need, bind, amap, get, pick}
+use Rattle.kit.specs.Answer.{All, Answer, ok, refused, need, bind, amap, get, pick}
 use Rattle.kit.proofs.AnswerLaws.{pick-elim}
 use Rattle.calendar.specs.Calendar.{Number as DateNumber, within, numbers, second, first, wrongAt, dated}
 use Rattle.calendar.specs.declared.Field.the-variants as K
@@ -25,13 +27,13 @@ use Rattle.layout.specs.Records.{Item, I, F, D, X, A, U, Vals}
 use Rattle.layout.specs.Labels.{Label, version, description, comment, system, exponent, aux-start, aux-end, header-end, epoch, block, file-end, head, start, end, items, content, layout}
 use Rattle.layout.specs.Layout.{Force, Slots, Lines, Mode, plain, aux, Date}
 use Rattle.reading.specs.Feed.{Fault, fault}
-use Rattle.reading.specs.Fields.{number, blank, scan, fields, cells}
+use Rattle.reading.specs.Fields.{number, blanks, blank, scan, fields, cells}
 use Rattle.reading.specs.Maps.{Step, date, on-date, loose, on-comment, on-exponent, start-tec, start-other, start-map, on-start, end-map, on-end, epoch-tec, epoch-other, on-epoch, open-block, on-block, on-file, taken, step}
 use Rattle.reading.specs.Head.{meant, once, on-description, on-system, on-end as on-header-end, at-head, head-step}
 use Rattle.reading.specs.Read.{versioned, version-of}
 use Rattle.reading.specs.declared.Place.{Place}
 use Rattle.reading.specs.declared.Place.the-variants.{Ended, Between, Early, Inside}
-use Rattle.reading.specs.Refusals.{among, Later, four, five, six, seven, eight, nine, First, three, six-first}
+use Rattle.reading.specs.Refusals.{among, Checks, Later, four, five, six, six-value, seven, eight, nine, First, three, six-first}
 
 -- if it is refused, P holds of the reason
 pub data Blames {W A : Type 0} (P : W → Type 0) : Answer W A → Type 0 where
@@ -46,6 +48,11 @@ module _ {W A : Type 0} {P : W → Type 0} where
   unfolding need
   need-blames (yes q) w p b = b
   need-blames (no n) w p b = b-no p
+
+  unless-blames : {Q : Type 0} (d : Dec Q) (w : W) {x : Answer W A} → (¬ Q → P w) → Blames P x → Blames P (need d w x)
+  unfolding need
+  unless-blames (yes q) w p b = b
+  unless-blames (no n) w p b = b-no (p n)
 
   pick-blames : {Q : Type 0} (d : Dec Q) {x y : Answer W A} → Blames P x → Blames P y → Blames P (pick d x y)
   unfolding pick
@@ -74,45 +81,59 @@ blames-map f (b-no p) = b-no (f _ p)
 pub not-ten : {f : Fault} → Later f → ¬ (f .number ≡ 10)
 not-ten four e = omega arith
 not-ten five e = omega arith
-not-ten (six h) e = omega arith
+not-ten (six l h) e = omega arith
+not-ten (six-value h) e = omega arith
 not-ten (seven t) e = omega arith
 not-ten (eight t) e = omega arith
 not-ten nine e = omega arith
 
 -- ---- 6: a field or an X column
 
-module _ {A : Type 0} {P : Fault → Type 0} (at : (c : ℕ) → 1 ≤ c → P (fault 6 c)) where
-  number-blames : (o : Field) (c : ℕ) {f : ℤ → Answer Fault A} → 1 ≤ c → ((z : ℤ) → Blames P (f z)) → Blames P (number o c f)
+take-short : (w : ℕ) (bs : List ℕ) → length (take w bs) ≤ w
+take-short zero [] = omega arith
+take-short zero (b ∷ bs) = omega arith
+take-short (suc w) [] = omega arith
+take-short (suc w) (b ∷ bs) = omega (arith, take-short w bs)
+
+-- not all of them are blank
+blanks-less : (bs : List ℕ) → ¬ All (λ b. b ≡ 32) bs → blanks bs < length bs
+unfolding blanks
+blanks-less [] n = absurd (n tt)
+blanks-less (b ∷ bs) n = pick-elim (λ (k : ℕ). k < suc (length bs)) (ℕ-discrete b 32) (λ e. omega (arith, blanks-less bs (λ a. n (e, a)))) (λ _. omega arith)
+
+module _ {A : Type 0} {P : Fault → Type 0} where
+  number-blames : (o : Field) (c : ℕ) {f : ℤ → Answer Fault A} → P (fault 6 c) → ((z : ℤ) → Blames P (f z)) → Blames P (number o c f)
   unfolding number
   number-blames (Number z) c k h = h z
-  number-blames Bad c k h = b-no (at c k)
+  number-blames Bad c k h = b-no k
 
-  blank-blames : (bs : List ℕ) (c : ℕ) {x : Answer Fault A} → 1 ≤ c → Blames P x → Blames P (blank bs c x)
+  blank-blames : (bs : List ℕ) (c : ℕ) {x : Answer Fault A} → ((i : ℕ) → i < length bs → P (fault 6 (c + i))) → Blames P x → Blames P (blank bs c x)
   unfolding blank
-  blank-blames bs c k b = need-blames _ _ (at _ (omega arith)) b
+  blank-blames bs c k b = unless-blames _ _ (λ n. k (blanks bs) (blanks-less bs n)) b
 
-module _ {P : Fault → Type 0} (at : (c : ℕ) → 1 ≤ c → P (fault 6 c)) where
-  scan-blames : (c : ℕ) (is : List Item) (bs : List ℕ) → 1 ≤ c → Blames P (scan c is bs)
+module _ {P : Fault → Type 0} where
+  scan-blames : (c : ℕ) (is : List Item) (bs : List ℕ) → ((x : ℕ) → Checks c is x → P (fault 6 x)) → Blames P (scan c is bs)
   unfolding scan
   scan-blames c [] bs k = b-ok
-  scan-blames c (I w ∷ is) bs k = number-blames at _ c k (λ z. amap-blames _ (scan-blames (c + w) is (drop w bs) (omega arith)))
-  scan-blames c (F w ∷ is) bs k = number-blames at _ c k (λ z. amap-blames _ (scan-blames (c + w) is (drop w bs) (omega arith)))
-  scan-blames c (D w ∷ is) bs k = number-blames at _ c k (λ z. amap-blames _ (scan-blames (c + w) is (drop w bs) (omega arith)))
-  scan-blames c (X w ∷ is) bs k = blank-blames at _ c k (scan-blames (c + w) is (drop w bs) (omega arith))
-  scan-blames c (A w ∷ is) bs k = amap-blames _ (scan-blames (c + w) is (drop w bs) (omega arith))
-  scan-blames c (U w ∷ is) bs k = scan-blames (c + w) is (drop w bs) (omega arith)
+  scan-blames c (I w ∷ is) bs k = number-blames _ c (k c (inl refl)) (λ z. amap-blames _ (scan-blames (c + w) is (drop w bs) (λ x h. k x (inr h))))
+  scan-blames c (F w ∷ is) bs k = number-blames _ c (k c (inl refl)) (λ z. amap-blames _ (scan-blames (c + w) is (drop w bs) (λ x h. k x (inr h))))
+  scan-blames c (D w ∷ is) bs k = number-blames _ c (k c (inl refl)) (λ z. amap-blames _ (scan-blames (c + w) is (drop w bs) (λ x h. k x (inr h))))
+  scan-blames c (X w ∷ is) bs k =
+      blank-blames (take w bs) c (λ i h. k (c + i) (inl (omega arith, omega (arith, take-short w bs)))) (scan-blames (c + w) is (drop w bs) (λ x h. k x (inr h)))
+  scan-blames c (A w ∷ is) bs k = amap-blames _ (scan-blames (c + w) is (drop w bs) k)
+  scan-blames c (U w ∷ is) bs k = scan-blames (c + w) is (drop w bs) k
 
-  fields-blame : (l : Label) (r : List ℕ) → Blames P (fields l r)
+  fields-blame : (l : Label) (r : List ℕ) → ((x : ℕ) → Checks 1 (layout l) x → P (fault 6 x)) → Blames P (fields l r)
   unfolding fields
-  fields-blame l r = scan-blames 1 (layout l) (take 60 r) (omega arith)
+  fields-blame l r k = scan-blames 1 (layout l) (take 60 r) k
 
 in-fields : (l : Label) (r : List ℕ) → Blames Later (fields l r)
-in-fields l r = fields-blame (λ c k. six k) l r
+in-fields l r = fields-blame l r (λ x h. six l h)
 
 pub cells-blame : (c m : ℕ) (bs : List ℕ) → 1 ≤ c → Blames Later (cells c m bs)
 unfolding cells
-cells-blame c zero bs k = blank-blames (λ c k. six k) bs c k b-ok
-cells-blame c (suc m) bs k = number-blames (λ c k. six k) _ c k (λ z. amap-blames _ (cells-blame (c + 5) m (drop 5 bs) (omega arith)))
+cells-blame c zero bs k = blank-blames bs c (λ i h. six-value (omega arith)) b-ok
+cells-blame c (suc m) bs k = number-blames _ c (six-value k) (λ z. amap-blames _ (cells-blame (c + 5) m (drop 5 bs) (omega arith)))
 
 -- ---- 7: the fields of a date
 abbrev InDate : Taken → Type 0
@@ -262,5 +283,5 @@ module _ (c : Version) (e : ℤ) (got : Slots) (ds : Lines) (r : List ℕ) where
 pub version-blames : (r : List ℕ) → Blames First (version-of r)
 unfolding version-of versioned
 version-blames r =
-    need-blames _ _ (three tt) (bind-blames (fields-blame (λ c k. six-first k) version r) (λ v.
+    need-blames _ _ (three tt) (bind-blames (fields-blame version r (λ x h. six-first h)) (λ v.
     need-blames _ _ (three tt) (need-blames _ _ (three tt) (get-blames _ _ (three tt) (λ c. need-blames _ _ (three tt) b-ok)))))

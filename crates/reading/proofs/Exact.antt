@@ -13,8 +13,9 @@ use Rattle.kit.proofs.AnswerLaws.{need-yes, Yields, y-ok, y-no, yields, need-yi
 use Rattle.kit.proofs.ListLaws.{below}
 use Rattle.kit.specs.Range.{Natural, Within}
 use Rattle.mapset.specs.declared.Version.{Version}
+use Rattle.mapset.specs.Decisions.{takes-code?}
 use Rattle.mapset.specs.Header.{Said, VersionRules, says}
-use Rattle.mapset.specs.SoundDecided.{takes-known}
+use Rattle.mapset.proofs.Groups.{takes-known}
 use Rattle.mapset.specs.MapSet.{MapSet}
 use Rattle.layout.specs.Labels.{version, codes, Rec}
 use Rattle.layout.specs.Layout.{plain, Rows, rows-of, Makes, makes}
@@ -42,7 +43,7 @@ version-made : (v : Version) {r : List ℕ} → VersionRules v → VersionRow v 
 unfolding version-of versioned bind get
 version-made v w x =
     need-yes _ _ _ (rec-name x)
-    ∙ rw (rec-fields x) (need-yes _ _ _ (w .tenths) ∙ need-yes _ _ _ refl ∙ rw (place-code (v .code) (takes-known (w .code))) (need-yes _ _ _ (w .code) ∙ ap ok (λ i. record { tenths = v .tenths; kind = sym (w .kind) i; code = v .code })))
+    ∙ rw (rec-fields x) (need-yes _ _ _ (w .tenths) ∙ need-yes _ _ _ refl ∙ rw (place-code (v .code) (takes-known (w .code))) (need-yes (takes-code? (v .tenths) (v .code)) _ _ (w .code) ∙ ap ok (λ i. record { tenths = v .tenths; kind = sym (w .kind) i; code = v .code })))
 
 -- a version in the range, as a natural
 in-range : (z : ℤ) → Natural 10 11 z → Within 10 11 (natAbs z) × (z ≡ pos (natAbs z))

@@ -119,7 +119,7 @@ abbrev pub Joins : MapSet → Slots → Slots → Type 0
 Joins m got left = Joined got left (says (m .header) (m .texts))
 
 -- the DESCRIPTION lines that were got, and then those that are left
-abbrev pub LinesOf : MapSet → Lines → Lines → Type 0
+abbrev LinesOf : MapSet → Lines → Lines → Type 0
 LinesOf m ds ls = ds ++ ls ≡ lines-left (m .header) (m .texts)
 
 once-of : (e : ℤ) (got : Slots) (ds : Lines) (i : ℕ) (s : Said) → getD got i none ≡ none → once e got ds i (ok s) ≡ ok (more plain e (set got i (some s)) ds)
@@ -193,7 +193,7 @@ pub record Headed (c : Version) (a : Mode) (e : ℤ) (got : Slots) (ds : Lines) 
   pub heads : Heads m a e left later rows
 
 -- what is left before a row, by what is left after it
-abbrev pub Earlier : Mode → ℤ → Slots → Lines → List ℕ → Mode → ℤ → Slots → Lines → Type 0
+abbrev Earlier : Mode → ℤ → Slots → Lines → List ℕ → Mode → ℤ → Slots → Lines → Type 0
 Earlier a e got ds r a′ e′ got′ ds′ =
     (m : MapSet) (left′ : Slots) (ls′ : Lines) (rs : List (List ℕ)) → Joins m got′ left′ → LinesOf m ds′ ls′ → Heads m a′ e′ left′ ls′ rs
     → (left : Slots) × (ls : Lines) × Joins m got left × LinesOf m ds ls × Heads m a e left ls (r ∷ rs)

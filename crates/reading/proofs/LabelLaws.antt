@@ -79,7 +79,7 @@ module _ (s : List ℕ) where
   unfolding placed
   placed-no n ns e = pick-no (same s n) 0 (suc (placed s ns)) e
 
-  pub placed-name : (ns : List (List ℕ)) → placed s ns < length ns → s ≡ getD ns (placed s ns) []
+  placed-name : (ns : List (List ℕ)) → placed s ns < length ns → s ≡ getD ns (placed s ns) []
   placed-name [] h = absurd (omega arith)
   placed-name (n ∷ ns) h = by (same s n) (placed-name ns)
     where

@@ -11,7 +11,7 @@ use Rattle.kit.proofs.ListLaws.{all-append}
 use Rattle.kit.specs.Range.{Within, within?, Printable}
 use Rattle.forms.specs.Columns.{Blank}
 use Rattle.layout.specs.Text.{Ended, none, last, lf, crlf, Clean, pad, Laid, blank, line}
-use Rattle.reading.specs.Feed.{Why, front, LineOpens, opens?, split, Feed, over, bad, row, feed}
+use Rattle.reading.specs.Feed.{Why, why, bad-column, front, LineOpens, opens?, split, Feed, over, bad, row, feed}
 
 -- ---- text and lines
 
@@ -74,15 +74,21 @@ pub data Carries : Feed → List (List ℕ) → Type 0 where
   c-over : {n : ℕ} → Carries (over n) []
   c-row : {n : ℕ} {r : List ℕ} {f : Feed} {rs : List (List ℕ)} → Carries f rs → Carries (row n r f) (r ∷ rs)
 
-pub feed-blank : (n : ℕ) (l : List ℕ) (ls : List (List ℕ)) → Clean l → All Blank l → feed n (l ∷ ls) ≡ feed (suc n) ls
+-- a line's length is looked at, then its bytes, then whether they are blanks
+looked-at : (n : ℕ) (l : List ℕ) (ls : List (List ℕ)) → feed n (l ∷ ls) ≡
+    pick (decLe (length l) 80)
+    (pick (all-dec (within? 32 126) l) (pick (all-dec (λ x. ℕ-discrete x 32) l) (feed (suc n) ls) (row n (pad l) (feed (suc n) ls))) (bad (why 2 n (bad-column l))))
+    (bad (why 1 n 81))
 unfolding feed
+looked-at n l ls = refl
+
+pub feed-blank : (n : ℕ) (l : List ℕ) (ls : List (List ℕ)) → Clean l → All Blank l → feed n (l ∷ ls) ≡ feed (suc n) ls
 feed-blank n l ls c b =
-    pick-yes (decLe (length l) 80) _ _ (c .0) ∙ pick-yes (all-dec (within? 32 126) l) _ _ (c .1) ∙ pick-yes (all-dec (λ x. ℕ-discrete x 32) l) _ _ b
+    looked-at n l ls ∙ pick-yes (decLe (length l) 80) _ _ (c .0) ∙ pick-yes (all-dec (within? 32 126) l) _ _ (c .1) ∙ pick-yes (all-dec (λ x. ℕ-discrete x 32) l) _ _ b
 
 pub feed-row : (n : ℕ) (l : List ℕ) (ls : List (List ℕ)) → Clean l → ¬ All Blank l → feed n (l ∷ ls) ≡ row n (pad l) (feed (suc n) ls)
-unfolding feed
 feed-row n l ls c b =
-    pick-yes (decLe (length l) 80) _ _ (c .0) ∙ pick-yes (all-dec (within? 32 126) l) _ _ (c .1) ∙ pick-no (all-dec (λ x. ℕ-discrete x 32) l) _ _ b
+    looked-at n l ls ∙ pick-yes (decLe (length l) 80) _ _ (c .0) ∙ pick-yes (all-dec (within? 32 126) l) _ _ (c .1) ∙ pick-no (all-dec (λ x. ℕ-discrete x 32) l) _ _ b
 
 pub carries : {rs ls : List (List ℕ)} → Laid rs ls → (n : ℕ) → Carries (feed n ls) rs
 carries none n = unfold feed in c-over

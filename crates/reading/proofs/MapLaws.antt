@@ -38,7 +38,7 @@ place (maps ms) = Between
 place (early m ms) = Early
 place (blocks e k i bs ms) = Inside (record { fresh = e; kind = k; number = i; left = length bs })
 
-abbrev pub todo : (w : Left) → Todo (place w)
+abbrev todo : (w : Left) → Todo (place w)
 todo nothing = tt
 todo (maps ms) = ms
 todo (early m ms) = (m, ms)
@@ -157,7 +157,7 @@ left Early w = early (w .0) (w .1)
 left (Inside o) w = blocks (o .fresh) (o .kind) (o .number) (w .0) (w .1)
 
 -- what comes is what was counted
-abbrev pub Counts : (q : Place) → Todo q → Type 0
+abbrev Counts : (q : Place) → Todo q → Type 0
 Counts Ended w = Unit {0}
 Counts Between ms = Unit {0}
 Counts Early w = Unit {0}
@@ -219,7 +219,7 @@ module _ (h : Header) (p : Force) (r : List ℕ) (z : length r ≡ 80) where
       bind-yields (fields (start Tec) r) (λ v f. need-yields _ _ (λ (u : (v .0 ≡ pos (suc (length (p .epochs)))) × (length (p .epochs) < h .times .maps)). good-goes Between Early p _ (λ w rs hw c. (w-tec (rw (u .0) at (row-rec r z e f)) (u .1) hw, tt))))
 
   -- a number that lies in a range is not negative
-  pub not-negative : {low high : ℕ} (i : ℤ) → Natural low high i → (i ≡ pos (natAbs i)) × ((low ≤ natAbs i) × (natAbs i ≤ high))
+  not-negative : {low high : ℕ} (i : ℤ) → Natural low high i → (i ≡ pos (natAbs i)) × ((low ≤ natAbs i) × (natAbs i ≤ high))
   not-negative (pos n) u = (refl, u)
 
   good-other : (k : Kind) → Other k → label r ≡ some (start k) → Yields (Good h Between p r) (start-other k h p r)

@@ -1,13 +1,14 @@
--- Short readings, written by hand from 01: small texts with a line or two changed, and the refusal that each gets; and the limits of the grid.
+-- Short readings, written by hand from 01: small texts with a line or two changed, and the refusal that each gets; the header's records at the ends of what
+-- is accepted; and the limits of the grid.
 use mathlib.Core.Path.{_≡_, refl}
 use mathlib.Core.List.{List, [], _∷_, _++_}
 use mathlib.Core.Bool.{Bool, true, false}
 use Prim.Native.Nat.{ℕ, _*_, _-_}
 use Prim.Native.String.{String}
-use lib.IntN.{pos}
+use lib.IntN.{ℤ, pos, negsuc}
 use lib.ListN.{take, drop, replicate}
 use native.Mathlib.Decide.{ℕ-discrete, decLe, decLt}
-use Rattle.kit.specs.Answer.{refused, ok, All, need, bind, amap, get, pick, ×-dec, ⊎-dec, ¬-dec, all-dec, same, sames}
+use Rattle.kit.specs.Answer.{Answer, refused, ok, All, need, bind, amap, get, pick, ×-dec, ⊎-dec, ¬-dec, all-dec, same, sames}
 use Rattle.kit.specs.Integer.{int?, le?, lt?, between?}
 use Rattle.kit.specs.Range.{within?, natural?}
 use Rattle.kit.specs.Truth.{truth}
@@ -17,11 +18,12 @@ use Rattle.days.specs.Sums.{sum}
 use Rattle.forms.specs.Read.{readField, numberOf, formed?}
 use Rattle.mapset.specs.Decisions.{×₃-dec, ×₄-dec, end?, step?, multiple?, together?, limits?, dimension?, follows?}
 use Rattle.mapset.specs.declared.Axis.{Axis}
-use Rattle.mapset.specs.Described.{end-to-end, described, no-lines}
+use Rattle.mapset.specs.Lines.{end-to-end, described, no-lines}
+use Rattle.mapset.specs.Header.{Said, number as number-said, along, counts}
 use Rattle.mapset.specs.MapSet.{MapSet}
 use Rattle.layout.specs.Text.{pad}
-use Rattle.layout.specs.Labels.{name}
-use Rattle.reading.specs.Feed.{why, on-line, front, opens?, split, feed, bad-column}
+use Rattle.layout.specs.Labels.{bytes, name, head, content}
+use Rattle.reading.specs.Feed.{Fault, fault, why, on-line, front, opens?, split, feed, bad-column}
 use Rattle.reading.specs.Fields.{lookup, label, number, blanks, blank, scan, fields, cells}
 use Rattle.reading.specs.Maps.{on-date, kind?, true?, after?, implies?, in-time?, height?, loose, on-comment, on-exponent, start-tec, start-other, start-map, on-start, end-map, on-end as on-map-end, epoch-tec, epoch-other, on-epoch, open-block, on-block, on-file, taken, step, finish, run, short}
 use Rattle.layout.specs.Layout.{exponent?}
@@ -49,7 +51,7 @@ pub record Reading : Type 0 where
 abbrev of : List String → ℕ → ℕ → ℕ → Reading
 of t k n c = record { text = t; number = k; line = n; column = c }
 
-abbrev pub Refuses : Reading → Type 0
+abbrev Refuses : Reading → Type 0
 Refuses r = read (lines (r .text)) ≡ refused (why (r .number) (r .line) (r .column))
 
 pub readings : List Reading
@@ -90,6 +92,7 @@ readings =
     ∷ of (put 14 "     0.0  10.0  15.1                                        LON1 / LON2 / DLON" small-text) 7 14 15
     ∷ of (put 14 "     0.0  11.0   5.0                                        LON1 / LON2 / DLON" small-text) 7 14 0
     ∷ of (put 22 "     1                                                      EXPONENT" small-text) 7 22 1
+    ∷ of (put 22 "    -4                                                      EXPONENT" small-text) 7 22 1
     ∷ of (put 15 "     X     1     1                                          SYS / #STA / #SAT" small-text) 7 15 6
     ∷ of (put 15 "     G    -1     1                                          SYS / #STA / #SAT" small-text) 7 15 7
     ∷ of (put 15 "     G     1    -1                                          SYS / #STA / #SAT" small-text) 7 15 13
@@ -115,36 +118,149 @@ readings =
 
 pub refused-readings : All Refuses readings
 unfolding readings small-text two-text read begin feed split front opens? bad-column pad pick ×-dec ⊎-dec ¬-dec all-dec same sames need bind amap get ℕ-discrete decLe decLt int? le? lt? between? within? natural? dated second isLeap monthDays yearDays sum readField numberOf formed? ×₃-dec ×₄-dec end? step? multiple? together? limits? dimension? follows? name on-line lookup label number blanks blank scan fields cells on-date exponent? kind? true? after? implies? in-time? height? loose on-comment on-exponent start-tec start-other start-map on-start end-map on-map-end epoch-tec epoch-other on-epoch open-block on-block on-file taken step finish run short meant place none? complete? made made-texts described end-to-end no-lines once on-description on-system on-end at-head head-step heading versioned version-of
-refused-readings = (refl, (refl, (refl, (refl, (refl, (refl, (refl, (refl, (refl, (refl, (refl, (refl, (refl, (refl, (refl, (refl, (refl, (refl, (refl, (refl, (refl, (refl, (refl, (refl, (refl, (refl, (refl, (refl, (refl, (refl, (refl, (refl, (refl, (refl, (refl, (refl, (refl, (refl, (refl, (refl, (refl, (refl, (refl, (refl, (refl, (refl, tt))))))))))))))))))))))))))))))))))))))))))))))
+refused-readings = (refl, (refl, (refl, (refl, (refl, (refl, (refl, (refl, (refl, (refl, (refl, (refl, (refl, (refl, (refl, (refl, (refl, (refl, (refl, (refl, (refl, (refl, (refl, (refl, (refl, (refl, (refl, (refl, (refl, (refl, (refl, (refl, (refl, (refl, (refl, (refl, (refl, (refl, (refl, (refl, (refl, (refl, (refl, (refl, (refl, (refl, (refl, tt)))))))))))))))))))))))))))))))))))))))))))))))
 
--- ---- accepted: twenty DESCRIPTION lines, 80 bytes, an exponent of 0, and epochs 21,600 s apart
+-- ---- accepted: twenty DESCRIPTION lines, 80 bytes, exponents of 0 and -3, and epochs 21,600 s apart
 pub accepted-texts : List (List String)
 accepted-texts =
     (take 2 small-text ++ (replicate 20 description-line ++ drop 2 small-text))
     ∷ put 9 "carrier phase                                               OBSERVABLES USED    " small-text
     ∷ put 22 "     0                                                      EXPONENT" small-text
+    ∷ put 22 "    -3                                                      EXPONENT" small-text
     ∷ put 4 "  1995    10    15     6     0     0                        EPOCH OF LAST MAP" (put 5 " 21600                                                      INTERVAL" (put 22 "  1995    10    15     6     0     0                        EPOCH OF CURRENT MAP" two-text))
     ∷ []
 
 pub accepted-readings : All (λ t. (s : MapSet) × (read (lines t) ≡ ok s)) accepted-texts
 unfolding accepted-texts small-text two-text read begin feed split front opens? bad-column pad pick ×-dec ⊎-dec ¬-dec all-dec same sames need bind amap get ℕ-discrete decLe decLt int? le? lt? between? within? natural? dated second isLeap monthDays yearDays sum readField numberOf formed? ×₃-dec ×₄-dec end? step? multiple? together? limits? dimension? follows? name on-line lookup label number blanks blank scan fields cells on-date exponent? kind? true? after? implies? in-time? height? loose on-comment on-exponent start-tec start-other start-map on-start end-map on-map-end epoch-tec epoch-other on-epoch open-block on-block on-file taken step finish run short meant place none? complete? made made-texts described end-to-end no-lines once on-description on-system on-end at-head head-step heading versioned version-of
-accepted-readings = ((_, refl), ((_, refl), ((_, refl), ((_, refl), tt))))
+accepted-readings = ((_, refl), ((_, refl), ((_, refl), ((_, refl), ((_, refl), tt)))))
+
+-- ---- a header record by itself: its place in `contents`, its columns, and what it says or its refusal
+pub record Edge : Type 0 where
+  pub place : ℕ
+  pub columns : String
+  pub answer : Answer Fault Said
+
+abbrev at : ℕ → String → Answer Fault Said → Edge
+at i s a = record { place = i; columns = s; answer = a }
+
+-- a number that is accepted, an axis that is, and 7 at a column
+abbrev takes : ℕ → Answer Fault Said
+takes n = ok (number-said n)
+
+abbrev takes-axis : (first last step : ℤ) → Answer Fault Said
+takes-axis a b d = ok (along (record { first = a; last = b; step = d }))
+
+abbrev refuses : ℕ → Answer Fault Said
+refuses c = refused (fault 7 c)
+
+abbrev pub Judges : Edge → Type 0
+Judges x = bind (fields (head (x .place)) (pad (bytes (x .columns)))) (meant (content (x .place))) ≡ x .answer
+
+-- the ends of what 01 accepts, and what is next to them
+pub edges : List Edge
+edges =
+    -- an epoch: years 1900 to 2199, each field's own range
+    at 1 "  1900     1     1     0     0     0" (takes 0)
+    ∷ at 1 "  2199    12    31    23    59    59" (takes 9467107199)
+    ∷ at 1 "  1899    12    31    23    59    59" (refuses 1)
+    ∷ at 1 "  2200     1     1     0     0     0" (refuses 1)
+    ∷ at 2 "  1995     0    15     0     0     0" (refuses 7)
+    ∷ at 2 "  1995     4     0     0     0     0" (refuses 13)
+    ∷ at 2 "  1995     4    31     0     0     0" (refuses 13)
+    ∷ at 2 "  1995     4    30    -1     0     0" (refuses 19)
+    ∷ at 2 "  1995     4    30     0    -1     0" (refuses 25)
+    ∷ at 2 "  1995     4    30     0     0    -1" (refuses 31)
+    -- INTERVAL, # OF MAPS IN FILE, ELEVATION CUTOFF
+    ∷ at 3 "     0" (takes 0)
+    ∷ at 3 " 21600" (takes 21600)
+    ∷ at 3 "    -1" (refuses 1)
+    ∷ at 3 " 21601" (refuses 1)
+    ∷ at 4 "     1" (takes 1)
+    ∷ at 4 "   300" (takes 300)
+    ∷ at 4 "     0" (refuses 1)
+    ∷ at 4 "   301" (refuses 1)
+    ∷ at 6 "     0.0" (takes 0)
+    ∷ at 6 "    90.0" (takes 900)
+    ∷ at 6 "    -0.1" (refuses 1)
+    ∷ at 6 "    90.1" (refuses 1)
+    -- # OF STATIONS, # OF SATELLITES, BASE RADIUS, MAP DIMENSION
+    ∷ at 8 "     0" (takes 0)
+    ∷ at 8 "999999" (takes 999999)
+    ∷ at 8 "    -1" (refuses 1)
+    ∷ at 9 "     0" (takes 0)
+    ∷ at 9 "999999" (takes 999999)
+    ∷ at 9 "    -1" (refuses 1)
+    ∷ at 10 "  1000.0" (takes 10000)
+    ∷ at 10 " 99999.9" (takes 999999)
+    ∷ at 10 "   999.9" (refuses 1)
+    ∷ at 10 "100000.0" (refuses 1)
+    ∷ at 11 "     2" (takes 2)
+    ∷ at 11 "     3" (takes 3)
+    ∷ at 11 "     1" (refuses 1)
+    ∷ at 11 "     4" (refuses 1)
+    -- heights: DHGT 0 with equal ends, or the span a positive whole multiple of it
+    ∷ at 12 "     0.09999.99999.9" (takes-axis (pos 0) (pos 99999) (pos 99999))
+    ∷ at 12 "   450.0 450.0   0.0" (takes-axis (pos 4500) (pos 4500) (pos 0))
+    ∷ at 12 "    -0.1 450.0   0.0" (refuses 3)
+    ∷ at 12 "   450.0  -0.1   0.0" (refuses 9)
+    ∷ at 12 "   450.0 500.0  -0.1" (refuses 15)
+    ∷ at 12 "   450.0 450.0  50.0" (refuses 0)
+    ∷ at 12 "   450.0 500.0   0.0" (refuses 0)
+    ∷ at 12 "   500.0 450.0  50.0" (refuses 0)
+    ∷ at 12 "   450.0 500.0  30.0" (refuses 0)
+    -- latitudes: multiples of DLAT, in its direction; equal ends are one row
+    ∷ at 13 "    90.0 -90.0 -15.0" (takes-axis (pos 900) (negsuc 899) (negsuc 149))
+    ∷ at 13 "   -90.0  90.0  15.0" (takes-axis (negsuc 899) (pos 900) (pos 150))
+    ∷ at 13 "     5.0   5.0  -5.0" (takes-axis (pos 50) (pos 50) (negsuc 49))
+    ∷ at 13 "    90.1 -90.0  -5.0" (refuses 3)
+    ∷ at 13 "   -90.1 -90.0  -5.0" (refuses 3)
+    ∷ at 13 "    90.0 -90.1  -5.0" (refuses 9)
+    ∷ at 13 "    90.0 -90.0 -15.1" (refuses 15)
+    ∷ at 13 "   -90.0  90.0  15.1" (refuses 15)
+    ∷ at 13 "     5.0   5.0   0.0" (refuses 15)
+    ∷ at 13 "    90.0 -90.0   5.0" (refuses 0)
+    ∷ at 13 "   -90.0  90.0  -5.0" (refuses 0)
+    ∷ at 13 "     4.0   0.0  -5.0" (refuses 0)
+    ∷ at 13 "     5.0   1.0  -5.0" (refuses 0)
+    -- longitudes: multiples of DLON, from LON1 to at most 360.0 further east
+    ∷ at 14 "  -180.0 180.0  15.0" (takes-axis (negsuc 1799) (pos 1800) (pos 150))
+    ∷ at 14 "     0.0 360.0   0.1" (takes-axis (pos 0) (pos 3600) (pos 1))
+    ∷ at 14 "  -180.1   0.0   0.1" (refuses 3)
+    ∷ at 14 "   360.1 360.0   0.1" (refuses 3)
+    ∷ at 14 "     0.0 360.1   0.1" (refuses 9)
+    ∷ at 14 "     0.0 360.0  15.1" (refuses 15)
+    ∷ at 14 "     0.0 360.0   0.0" (refuses 15)
+    ∷ at 14 "     0.0   5.0  -5.0" (refuses 15)
+    ∷ at 14 "    -0.1 360.0   0.1" (refuses 0)
+    ∷ at 14 "     5.0   0.0   5.0" (refuses 0)
+    ∷ at 14 "     4.0  10.0   5.0" (refuses 0)
+    ∷ at 14 "     5.0  11.0   5.0" (refuses 0)
+    -- the counts of SYS / #STA / #SAT
+    ∷ at 15 "     G999999999999" (ok (counts 999999 999999))
+    ∷ at 15 "     G     0     0" (ok (counts 0 0))
+    ∷ at 15 "     G    -1    -1" (refuses 7)
+    ∷ at 15 "     G     0    -1" (refuses 13)
+    ∷ []
+
+pub header-edges : All Judges edges
+unfolding edges pad pick ×-dec ⊎-dec ¬-dec all-dec same sames need bind amap ℕ-discrete decLe decLt int? le? lt? between? within? natural? dated second isLeap monthDays yearDays sum readField numberOf formed? ×₃-dec end? step? multiple? together? number blanks blank scan fields on-date meant
+header-edges = (refl, (refl, (refl, (refl, (refl, (refl, (refl, (refl, (refl, (refl, (refl, (refl, (refl, (refl, (refl, (refl, (refl, (refl, (refl, (refl, (refl, (refl, (refl, (refl, (refl, (refl, (refl, (refl, (refl, (refl, (refl, (refl, (refl, (refl, (refl, (refl, (refl, (refl, (refl, (refl, (refl, (refl, (refl, (refl, (refl, (refl, (refl, (refl, (refl, (refl, (refl, (refl, (refl, (refl, (refl, (refl, (refl, (refl, (refl, (refl, (refl, (refl, (refl, (refl, (refl, (refl, (refl, (refl, (refl, (refl, (refl, (refl, (refl, (refl, tt))))))))))))))))))))))))))))))))))))))))))))))))))))))))))))))))))))))))))
 
 -- ---- 361 rows, 721 columns, 64 layers, 2,000,000 nodes, and one more of each
 abbrev nodes-of : ℕ → Axis
 nodes-of k = record { first = pos 0; last = pos (10 * (k - 1)); step = pos 10 }
 
 -- n maps of L layers, R rows and C columns
-pub record Size : Type 0 where
+pub record GridSize : Type 0 where
   pub n : ℕ
   pub L : ℕ
   pub R : ℕ
   pub C : ℕ
 
-abbrev sized : ℕ → ℕ → ℕ → ℕ → Size
+abbrev sized : ℕ → ℕ → ℕ → ℕ → GridSize
 sized n l r c = record { n = n; L = l; R = r; C = c }
 
-abbrev pub fits : Size → Bool
+abbrev pub fits : GridSize → Bool
 fits s = truth (limits? (s .n) (record { heights = nodes-of (s .L); latitudes = nodes-of (s .R); longitudes = nodes-of (s .C) }))
 
 pub size-fits : All (λ s. fits s ≡ true) (sized 1 1 361 1 ∷ sized 1 1 1 721 ∷ sized 1 64 1 1 ∷ sized 8 10 250 100 ∷ sized 2000000 1 1 1 ∷ [])

@@ -20,7 +20,7 @@ use Rattle.reading.specs.Maps.{short}
 use Rattle.reading.specs.Head.{Turn, more, done}
 use Rattle.reading.proofs.LineLaws.{feed-blank, feed-row}
 use Rattle.reading.proofs.Blame.{Blames, blamed, amap-blames, cells-blame, step-blames, head-step-blames, version-blames}
-use Rattle.reading.specs.Refusals.{Later, four, five, six, seven, eight, nine, First, three, six-first, Placed, Cause, too-long, bad-byte, by-row}
+use Rattle.reading.specs.Refusals.{Later, four, five, six, six-value, seven, eight, nine, First, three, six-first, Placed, Cause, too-long, bad-byte, by-row}
 use Rattle.reading.proofs.Machine.{State, first, header, maps, Out, turn, from, Move, on-row-of, from-bad, Over, from-over, from-row, amap-id}
 use Rattle.reading.specs.declared.Place.{Place}
 
@@ -59,7 +59,8 @@ row-blames (maps h q p (suc c)) r = amap-blames _ (cells-blame 1 _ r (omega arit
 later-range : {f : Fault} → Later f → Within 4 9 (f .number)
 later-range four = (omega arith, omega arith)
 later-range five = (omega arith, omega arith)
-later-range (six h) = (omega arith, omega arith)
+later-range (six l h) = (omega arith, omega arith)
+later-range (six-value h) = (omega arith, omega arith)
 later-range (seven t) = (omega arith, omega arith)
 later-range (eight t) = (omega arith, omega arith)
 later-range nine = (omega arith, omega arith)
@@ -113,7 +114,7 @@ Fine s n ls = (from s (feed n ls) ≡ short (n + length ls)) ⊎ ((a : Out s) ×
 
 -- w is told of the line after `before` others; the lines before it are without fault, and it is decided by the lines up to its own;
 -- 3 is told of the first line that is not blank
-pub record Told (s : State) (n : ℕ) (ls : List (List ℕ)) (w : Why) : Type 0 where
+pub record ToldAtLine (s : State) (n : ℕ) (ls : List (List ℕ)) (w : Why) : Type 0 where
   pub before : ℕ
   pub line : w .line ≡ n + before
   pub inside : before < length ls
@@ -140,7 +141,7 @@ unfolding feed
 at-once s n = ⊎-elim (λ f. inl (f n ∙ ap short (omega arith))) (λ o. inr (o .out, o .accepted n)) (from-over s)
 
 -- told of the first line
-here : (s : State) (n : ℕ) (l : List ℕ) (ls : List (List ℕ)) (w : Why) → w .line ≡ n → Cause l w → (w .number ≡ 3 → s ≡ first) → ((ls : List (List ℕ)) → from s (feed n (l ∷ ls)) ≡ refused w) → Told s n (l ∷ ls) w
+here : (s : State) (n : ℕ) (l : List ℕ) (ls : List (List ℕ)) (w : Why) → w .line ≡ n → Cause l w → (w .number ≡ 3 → s ≡ first) → ((ls : List (List ℕ)) → from s (feed n (l ∷ ls)) ≡ refused w) → ToldAtLine s n (l ∷ ls) w
 here s n l ls w e x y f =
     record {
       before = 0;
@@ -167,7 +168,7 @@ module _ (s s′ : State) (b : Out s′ → Out s) (n : ℕ) (l : List ℕ) (g :
   later-fine ls (inl e) = inl (later-short ls (length ls) e)
   later-fine ls (inr a) = inr (b (a .0), g ls ∙ ap (amap b) (a .1))
 
-  later-told : (ls : List (List ℕ)) (w : Why) → (s′ ≡ first → (s ≡ first) × All Blank l) → Told s′ (suc n) ls w → Told s n (l ∷ ls) w
+  later-told : (ls : List (List ℕ)) (w : Why) → (s′ ≡ first → (s ≡ first) × All Blank l) → ToldAtLine s′ (suc n) ls w → ToldAtLine s n (l ∷ ls) w
   unfolding amap
   later-told ls w k t =
       record {
@@ -191,7 +192,7 @@ module _ (s s′ : State) (b : Out s′ → Out s) (n : ℕ) (l : List ℕ) (g :
 
 -- every refusal is one or the other
 unfoldable pub Refusal : (s : State) (n : ℕ) (ls : List (List ℕ)) (w : Why) → Type 0
-Refusal s n ls w = Told s n ls w ⊎ Cut s n ls w
+Refusal s n ls w = ToldAtLine s n ls w ⊎ Cut s n ls w
 
 not-both : {W A : Type 0} {a : A} {w : W} {X : Type 0} → _≡_ {A = Answer W A} (ok a) (refused w) → X
 not-both {a = a} {w} e = let z : _≡_ {A = ℕ} 0 1 = cc in absurd (omega arith)
@@ -222,7 +223,7 @@ on s s′ b n l ls w g o k ih e = ⊎-elim (λ t. inl (later-told s s′ b n l g
 
 -- told of a line by the row that it shows, or by its bytes
 bad-line : (s : State) (n : ℕ) (l : List ℕ) (ls : List (List ℕ)) (v w : Why) → v .line ≡ n → Cause l v → (v .number ≡ 3 → s ≡ first) → ((ls : List (List ℕ)) → from s (feed n (l ∷ ls)) ≡ refused v)
-    → from s (feed n (l ∷ ls)) ≡ refused w → Told s n (l ∷ ls) w
+    → from s (feed n (l ∷ ls)) ≡ refused w → ToldAtLine s n (l ∷ ls) w
 bad-line s n l ls v w q x t f e =
     let z = f ls in
     let y : v ≡ w = cc in

@@ -13,7 +13,8 @@ use Rattle.mapset.specs.declared.Counted.{Counted}
 use Rattle.mapset.specs.declared.System.{System}
 use Rattle.mapset.specs.declared.Version.{Version}
 use Rattle.mapset.specs.declared.Header.{Header}
-use Rattle.mapset.specs.Described.{lines-in, FullTexts}
+use Rattle.mapset.specs.Described.{FullTexts}
+use Rattle.mapset.specs.Lines.{lines-in}
 use Rattle.mapset.proofs.DescribedLaws.{lines-length, described-lines}
 use Rattle.mapset.specs.Grid.{Line}
 use Rattle.mapset.specs.Header.{count, tenths, epoch as an-epoch, axis, program, mapping, observables, system as a-system, contents, starred, Said, number, along, words, counts, Accepts, a-count, a-tenths, a-epoch, a-axis, a-program, a-mapping, a-observables, a-system as accepts-system, if-stands, counted, of-system, says, Filled, Fillers, DescriptionRules}

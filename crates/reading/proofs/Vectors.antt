@@ -16,7 +16,7 @@ use Rattle.days.specs.Sums.{sum}
 use Rattle.forms.specs.Read.{readField, numberOf, formed?}
 use Rattle.mapset.specs.Decisions.{×₃-dec, ×₄-dec, end?, step?, multiple?, together?, limits?, dimension?, follows?}
 use Rattle.mapset.specs.declared.System.{System}
-use Rattle.mapset.specs.Described.{end-to-end, described, no-lines}
+use Rattle.mapset.specs.Lines.{end-to-end, described, no-lines}
 use Rattle.mapset.specs.MapSet.{Block, MapSet}
 use Rattle.layout.specs.Text.{pad}
 use Rattle.layout.specs.Labels.{version, bytes, name}

@@ -12,7 +12,8 @@ use Rattle.kit.specs.Answer.{Answer, ok, refused, need, bind, amap, get, pick, 
 use Rattle.kit.specs.Range.{natural?}
 use Rattle.mapset.specs.declared.Version.{Version}
 use Rattle.mapset.specs.declared.Header.{Header}
-use Rattle.mapset.specs.Described.{most-lines, line-width, described, FullTexts}
+use Rattle.mapset.specs.Described.{most-lines, line-width, FullTexts}
+use Rattle.mapset.specs.Lines.{described}
 use Rattle.mapset.specs.Header.{Content, count, tenths, epoch as an-epoch, axis, program, mapping, observables, system as a-system, starred, Said, number, along, words, counts, Written, Accepts}
 use Rattle.mapset.specs.Decisions.{end?, step?, together?, limits?, dimension?}
 use Rattle.mapset.specs.MapSet.{MapSet}

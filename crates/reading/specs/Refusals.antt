@@ -1,7 +1,7 @@
 -- Refusals, in 01's words; no state of a reader stands here. The lines of a text t are `split t` (`LineLaws.ended`: with their ends they are t).
 use mathlib.Core.Path.{_≡_}
 use mathlib.Core.Logic.{_⊎_}
-use Prim.Native.Nat.{ℕ, suc, _≤_, _<_}
+use Prim.Native.Nat.{ℕ, suc, _+_, _≤_, _<_}
 use mathlib.Core.List.{List, [], _∷_, _++_}
 use lib.ListN.{length, take, getD}
 use Rattle.kit.specs.Answer.{Answer, ok, refused, All}
@@ -12,6 +12,8 @@ use Rattle.reading.specs.Feed.{Why, split, bad-column, feed, Fault, faul
 use Rattle.reading.specs.Maps.{short}
 use Rattle.reading.specs.Read.{begin, read}
 use Rattle.layout.specs.Text.{Clean}
+use Rattle.layout.specs.Records.{Item, I, F, D, X, A, U}
+use Rattle.layout.specs.Labels.{Label, version, layout}
 use mathlib.Core.Bool.{Bool, false, _||_}
 use lib.Dec.{T, eqb}
 
@@ -20,19 +22,30 @@ abbrev pub among : ℕ → List ℕ → Bool
 among c [] = false
 among c (d ∷ ds) = eqb c d || among c ds
 
--- after the version record: 4 and 5 at the label; 6 at a column; 7 and 8 at the first column of a field, or at 0; 9 at 0
+-- where 6 may stand in columns of a layout that start at column a: the first column of a number field, and each column that must be blank
+abbrev pub Checks : ℕ → List Item → ℕ → Type 0
+Checks a [] c = ⊥
+Checks a (I w ∷ is) c = (c ≡ a) ⊎ Checks (a + w) is c
+Checks a (F w ∷ is) c = (c ≡ a) ⊎ Checks (a + w) is c
+Checks a (D w ∷ is) c = (c ≡ a) ⊎ Checks (a + w) is c
+Checks a (X w ∷ is) c = ((a ≤ c) × (c < a + w)) ⊎ Checks (a + w) is c
+Checks a (A w ∷ is) c = Checks (a + w) is c
+Checks a (U w ∷ is) c = Checks (a + w) is c
+
+-- after the version record: 4 and 5 at the label; 6 in the layout of a record, or on a line of values; 7 and 8 at the first column of a field, or at 0; 9 at 0
 pub data Later : Fault → Type 0 where
   four : Later (fault 4 61)
   five : Later (fault 5 61)
-  six : {c : ℕ} → 1 ≤ c → Later (fault 6 c)
+  six : {c : ℕ} (l : Label) → Checks 1 (layout l) c → Later (fault 6 c)
+  six-value : {c : ℕ} → 1 ≤ c → Later (fault 6 c)
   seven : {c : ℕ} → T (among c (0 ∷ 1 ∷ 3 ∷ 6 ∷ 7 ∷ 9 ∷ 13 ∷ 15 ∷ 19 ∷ 25 ∷ 31 ∷ [])) → Later (fault 7 c)
   eight : {c : ℕ} → T (among c (0 ∷ 1 ∷ 3 ∷ 9 ∷ 15 ∷ 21 ∷ 27 ∷ [])) → Later (fault 8 c)
   nine : Later (fault 9 0)
 
--- of the version record: 3 at the label, the version, the type or the code; or 6
+-- of the version record: 3 at the label, the version, the type or the code; or 6 in its layout, so at column 1 or in columns 9 to 20
 pub data First : Fault → Type 0 where
   three : {c : ℕ} → T (among c (61 ∷ 1 ∷ 21 ∷ 41 ∷ [])) → First (fault 3 c)
-  six-first : {c : ℕ} → 1 ≤ c → First (fault 6 c)
+  six-first : {c : ℕ} → Checks 1 (layout version) c → First (fault 6 c)
 
 -- 01's column of the number
 abbrev pub Placed : Fault → Type 0

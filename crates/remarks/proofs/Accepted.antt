@@ -15,7 +15,7 @@ use Rattle.reading.specs.Maps.{short}
 use Rattle.reading.specs.Read.{read}
 use Rattle.reading.proofs.Machine.{first, from}
 use Rattle.reading.specs.Refusals.{Cause, too-long, bad-byte, by-row, reads, Faultless}
-use Rattle.reading.proofs.RefusalLaws.{Told, Cut, Refusal, refusal, not-short}
+use Rattle.reading.proofs.RefusalLaws.{ToldAtLine, Cut, Refusal, refusal, not-short}
 use Rattle.remarks.specs.Remarks.{Bears, Remark, commented}
 
 not-ten : {l : List ℕ} {w : Why} → Cause l w → ¬ (w .number ≡ 10)
@@ -55,7 +55,7 @@ pub other-comment : (t : List ℕ) (w : Why) (k : ℕ) → read t ≡ refused w 
 unfolding read reads from Refusal
 other-comment t w k e n b = by (refusal (split t) first 1 w e)
   where
-    told : (x : Told first 1 (split t) w) → Dec (x .before < k) → Remark (split t) k
+    told : (x : ToldAtLine first 1 (split t) w) → Dec (x .before < k) → Remark (split t) k
     told x (yes h) =
         commented b (λ p f. not-faultless (take k (split t)) w (x .decided (take k (split t)) (take-take (suc (x .before)) k (split t) h)) (not-ten (x .cause)) f)
     told x (no h) =

@@ -65,7 +65,7 @@ module _ (ls ls′ : List (List ℕ)) (h : Likes ls ls′) (r : (k : ℕ) → Re
   unfolding reads from
   beginnings m = same m ls ls′ first 1 h (λ k. ⊎-elim inl (λ x. inr (from-first ls k (x .0), x .1)) (r k))
 
-  pub lines-same : reads ls ≡ reads ls′
+  lines-same : reads ls ≡ reads ls′
   lines-same = ap reads (sym (take-length ls)) ∙ beginnings (length ls) ∙ ap (λ n. reads (take n ls′)) (likes-length ls ls′ h) ∙ ap reads (take-length ls′)
 
 module _ (t t′ : List ℕ) (r : Remarked t t′) where
@@ -170,7 +170,7 @@ module _ (ls ls′ : List (List ℕ)) (h : Likes ls ls′) (r : (k : ℕ) → Re
   back : (k : ℕ) → Reworded ls′ ls k
   back k = ⊎-elim (λ e. inl (sym e)) (λ x. inr (over k (x .0), sym (x .1))) (r k)
 
-pub symmetric : (t t′ : List ℕ) → Remarked t t′ → Remarked t′ t
+symmetric : (t t′ : List ℕ) → Remarked t t′ → Remarked t′ t
 symmetric t t′ r =
     record {
       as-long = sym (r .as-long);

@@ -33,7 +33,7 @@ use Rattle.remarks.proofs.Gains.{Gain, Past, gained, Wide, Adds, row-ad
 
 -- ---- two texts whose bytes are close have close lines, with the same ends
 
-abbrev pub LikeCuts : List Cut → List Cut → Type 0
+abbrev LikeCuts : List Cut → List Cut → Type 0
 LikeCuts [] [] = Unit {0}
 LikeCuts [] (c ∷ cs′) = ⊥
 LikeCuts (c ∷ cs) [] = ⊥

@@ -62,7 +62,8 @@ pub fn sound(
     epochs: &[u64],
     marks: &[u8],
 ) -> bool
-    ensures { λ r. ⌜ r ≡ truth (sound? header (full texts (now (descriptions .entry))) (six (now (tec .entry)) (now (rms .entry)) (now (height .entry)) (now (exponents .entry)) (now (epochs .entry)) (now (marks .entry)))) ⌝ }
+    ensures { λ r. ⌜ r ≡ truth (sound? header (full texts (now (descriptions .entry)))
+        (six (now (tec .entry)) (now (rms .entry)) (now (height .entry)) (now (exponents .entry)) (now (epochs .entry)) (now (marks .entry)))) ⌝ }
 {
     if !sound_header::header_fits(header, texts, descriptions) {
         return false;

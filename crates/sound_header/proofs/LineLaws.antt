@@ -10,10 +10,10 @@ use lib.Seq.{drop-cons}
 use Rattle.kit.specs.Answer.{All, all-dec, ×-dec}
 use Rattle.kit.specs.Range.{Within, within?}
 use Rattle.kit.specs.Truth.{truth}
-use Rattle.kit.proofs.ListLaws.{all-append, all-take, all-drop, all-turn}
+use Rattle.kit.proofs.ListLaws.{all-append, all-take, all-turn}
 use Rattle.kit.proofs.TruthLaws.{both, fails, truth-same, all-end}
 use Rattle.mapset.specs.Described.{most-lines, line-width, lines-width}
-use Rattle.mapset.specs.Sound.{LinesSay, lines?}
+use Rattle.mapset.specs.Sound.{lines?}
 
 module _ (n : ℕ) (bs : List ℕ) where
   pub too-many : most-lines < n → false ≡ truth (lines? n bs)

@@ -78,11 +78,11 @@ module _ (k : Kind) (w : ℕ) (v : ℤ) (ms : List ℕ) (l : List ℤ) (i at : �
   part : take here (drop at l) ≡ take w (drop at l)
   part = rw (← length-drop at l) (by-least w (drop at l) .0)
 
-  pub rest-is : drop (at + here) l ≡ drop w (drop at l)
+  rest-is : drop (at + here) l ≡ drop w (drop at l)
   rest-is = sym (drop-drop here at l) ∙ rw (← length-drop at l) (by-least w (drop at l) .1)
 
   -- the map of the mark i is there or v everywhere
-  abbrev pub Here : Type 0
+  abbrev Here : Type 0
   Here = Present k (getD ms i 0) ⊎ All (λ x. x ≡ v) (take here (drop at l))
 
   pub blank-next : i < length ms → Here

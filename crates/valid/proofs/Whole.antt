@@ -17,12 +17,13 @@ use Rattle.mapset.specs.declared.Header.{Header}
 use Rattle.mapset.specs.Described.{FullTexts}
 use Rattle.mapset.specs.Grid.{columns}
 use Rattle.mapset.specs.Areas.{Areas, nowhere?, blocks, value-need, Sound}
-use Rattle.mapset.specs.SoundDecided.{sound-groups}
+use Rattle.mapset.proofs.Groups.{sound-groups}
 use Rattle.layout.specs.Layout.{per-map, exponent?}
 use Rattle.areas.specs.Nest.{third}
-use Rattle.areas.specs.Stores.{first-of}
+use Rattle.areas.specs.Places.{first-of}
 use Rattle.areas.specs.Valid.{needed, values-in, Valid}
-use Rattle.valid.specs.Groups.{kind?, kind-need, Holds, OfKind, of-kind?, RestSays, rest?, Long, validity}
+use Rattle.valid.specs.Groups.{kind?, kind-need, Holds, OfKind, of-kind?, RestSays, rest?, Long}
+use Rattle.valid.specs.Validity.{validity}
 
 module _ (h : Header) (t : FullTexts) (a : Areas) where
   rest-valid : Sound h t a → RestSays h a → Valid h t a
@@ -58,7 +59,7 @@ module _ (h : Header) (t : FullTexts) (a : Areas) where
       record { maps = g .0 .1 .1 .0 .1 .1 .1 .1; limits = g .0 .1 .1 .1 .1 .1 .1 .1 .1 .1; marks = g .1 .1 .0; lengths = g .1 .1 .1 .1 .1 }
 
 -- ---- every TEC map is there
-pub tec-need : (B C : ℕ) (ms : List ℕ) → kind-need Tec B C ms ≡ length ms * B * C
+tec-need : (B C : ℕ) (ms : List ℕ) → kind-need Tec B C ms ≡ length ms * B * C
 tec-need B C [] = pick-elim (λ n. n ≡ zero * B * C) (nowhere? Tec []) (λ _. sym (ap (λ j. j * C) (zero-mul B) ∙ zero-mul C)) (λ _. refl)
 tec-need B C (m ∷ ms) = pick-no (nowhere? Tec (m ∷ ms)) 0 (length (m ∷ ms) * B * C) (λ a. a .0 tt)
 

@@ -2,28 +2,26 @@
 use mathlib.Core.List.{List}
 use Prim.Native.Nat.{ℕ, _+_, _*_, _≤_}
 use native.Mathlib.Decide.{decLt}
-use lib.ListN.{length, take}
+use lib.ListN.{length, take, drop}
 use lib.IntN.{ℤ, pos, negsuc}
 use Rattle.kit.specs.Answer.{All, pick, ×-dec, all-dec}
 use Rattle.mapset.specs.declared.Kind.{Kind}
 use Rattle.mapset.specs.declared.Kind.the-variants.{Tec, Rms, Height}
 use Rattle.mapset.specs.declared.Header.{Header}
-use Rattle.mapset.specs.Described.{FullTexts}
 use Rattle.mapset.specs.Grid.{columns, Limits}
 use Rattle.mapset.specs.Areas.{Areas, nowhere?, blocks}
 use Rattle.mapset.specs.Sound.{lengths, LengthsSay}
-use Rattle.mapset.specs.SoundDecided.{sound?}
 use Rattle.layout.specs.Layout.{Exponent, per-map, exponent?}
-use Rattle.areas.specs.Formed.{Value}
+use Rattle.areas.specs.Value.{Value}
 use Rattle.areas.specs.Nest.{third}
-use Rattle.areas.specs.Valid.{needed, values-in, Blank, Valid}
-use Rattle.areas.specs.ValidDecided.{value?, blank?, valid?}
+use Rattle.areas.specs.Valid.{needed, values-in, Blank}
+use Rattle.areas.specs.ValidDecided.{value?, blank?}
 
 unfoldable pub least : ℕ → ℕ → ℕ
 least a b = pick (decLt a b) a b
 
 -- the values of a kind, and that absent maps are 9999 under exponent -1; B blocks of C values to a map
-abbrev pub KindSays : Kind → (B C : ℕ) → (marks : List ℕ) (vs es : List ℤ) → Type 0
+abbrev KindSays : Kind → (B C : ℕ) → (marks : List ℕ) (vs es : List ℤ) → Type 0
 KindSays k B C ms vs es = All Value vs × (Blank k (B * C) (pos 9999) ms vs × Blank k B (negsuc 0) ms es)
 
 unfoldable pub kind? : (k : Kind) (B C : ℕ) (ms : List ℕ) (vs es : List ℤ) → Dec (KindSays k B C ms vs es)
@@ -48,6 +46,13 @@ rest? h a = ×-dec (all-dec exponent? (needed h a .exponents)) (×-dec (of-kind?
 abbrev pub kind-need : Kind → (B C : ℕ) → List ℕ → ℕ
 kind-need k B C ms = pick (nowhere? k ms) 0 (length ms * B * C)
 
+-- of a kind's areas as they are lent: its values up to its need, and its exponents, which begin at `first`
+abbrev pub kind-values : Kind → (B C : ℕ) (ms : List ℕ) (vs : List ℤ) → List ℤ
+kind-values k B C ms vs = take (kind-need k B C ms) vs
+
+abbrev pub kind-exponents : (B : ℕ) (ms : List ℕ) (es : List ℤ) (first : ℕ) → List ℤ
+kind-exponents B ms es first = take (length ms * B) (drop first es)
+
 pub record Holds (k : Kind) (B C : ℕ) (ms : List ℕ) (vs es : List ℤ) (first : ℕ) : Type 0 where
   pub maps : length ms ≤ 300
   pub blocks : B ≤ 64 * 361
@@ -60,7 +65,3 @@ pub record Long (h : Header) (a : Areas) : Type 0 where
   pub limits : Limits (h .times .maps) (h .grid)
   pub marks : h .times .maps ≤ length (a .marks)
   pub lengths : LengthsSay h (take (h .times .maps) (a .marks)) (lengths a)
-
--- ---- `Valid` decided
-unfoldable pub validity : (h : Header) (t : FullTexts) (a : Areas) → Dec (Valid h t a)
-validity h t a = valid? h t a (sound? h t a)

@@ -1,16 +1,14 @@
 // Whether header, texts and areas are a map set that some text has: else 31.
 ghost use mathlib.Core.Path.{_≡_};
-ghost use Prim.Native.Nat.{_*_, _≤_};
 ghost use mathlib.Core.List.{[]};
-ghost use lib.ListN.{length, take, drop};
-ghost use Rattle.kit.specs.Answer.{⊎-dec, all-dec, pick};
+ghost use Rattle.kit.specs.Answer.{⊎-dec, all-dec};
 ghost use Rattle.kit.specs.Integer.{int?, between?};
 ghost use Rattle.kit.specs.Truth.{truth};
 ghost use Rattle.mapset.specs.Described.{full};
-ghost use Rattle.mapset.specs.Grid.{layers, rows};
-ghost use Rattle.mapset.specs.Areas.{present?, nowhere?, six};
+ghost use Rattle.mapset.specs.Areas.{present?, six};
 ghost use Rattle.areas.specs.ValidDecided.{blank?};
-ghost use Rattle.valid.specs.Groups.{kind?, kind-need, Holds, rest?, Long, validity};
+ghost use Rattle.valid.specs.Groups.{kind?, kind-values, kind-exponents, Holds, rest?, Long};
+ghost use Rattle.valid.specs.Validity.{validity};
 ghost use Rattle.valid.specs.Groups as groups;
 use mapset::Header;
 use mapset::Kind;
@@ -87,7 +85,9 @@ fn kind_fits(
     first: usize,
 ) -> bool
     requires { ⌜ Holds kind blocks columns (now marks) (now values) (now exponents) first ⌝ }
-    ensures { λ r. ⌜ r ≡ truth (kind? kind blocks columns (now (marks .entry)) (take (kind-need kind blocks columns (now (marks .entry))) (now (values .entry))) (take (length (now (marks .entry)) * blocks) (drop first (now (exponents .entry))))) ⌝ }
+    ensures { λ r. ⌜ r ≡ truth (kind? kind blocks columns (now (marks .entry))
+        (kind-values kind blocks columns (now (marks .entry)) (now (values .entry)))
+        (kind-exponents blocks (now (marks .entry)) (now (exponents .entry)) first)) ⌝ }
 {
     let all = marks.len() * blocks;
     let needed = mapset::need(kind, marks, all * columns);
@@ -109,35 +109,19 @@ fn rest_fits(
     requires { ⌜ Long header (six (now tec) (now rms) (now height) (now exponents) [] (now marks)) ⌝ }
     ensures { λ r. ⌜ r ≡ truth (rest? header (six (now (tec .entry)) (now (rms .entry)) (now (height .entry)) (now (exponents .entry)) [] (now (marks .entry)))) ⌝ }
 {
-    let maps = header.times.maps as usize;
+    let n = header.times.maps as usize;
     let blocks = axes::per_map(header.grid) as usize;
     let columns = axes::nodes(header.grid.longitudes) as usize;
-    let all = maps * blocks;
+    let all = n * blocks;
     let needed = 3 * all;
     all_between(-3, 0, &exponents[..needed])
-        & (kind_fits(
-            Kind::Tec,
-            blocks,
-            columns,
-            &marks[..maps],
-            tec,
-            exponents,
-            0,
-        )
-            & (kind_fits(
-                Kind::Rms,
-                blocks,
-                columns,
-                &marks[..maps],
-                rms,
-                exponents,
-                all,
-            )
+        & (kind_fits(Kind::Tec, blocks, columns, &marks[..n], tec, exponents, 0)
+            & (kind_fits(Kind::Rms, blocks, columns, &marks[..n], rms, exponents, all)
                 & kind_fits(
                     Kind::Height,
                     blocks,
                     columns,
-                    &marks[..maps],
+                    &marks[..n],
                     height,
                     exponents,
                     all + all,
@@ -155,7 +139,8 @@ pub fn valid(
     epochs: &[u64],
     marks: &[u8],
 ) -> bool
-    ensures { λ r. ⌜ r ≡ truth (validity header (full texts (now (descriptions .entry))) (six (now (tec .entry)) (now (rms .entry)) (now (height .entry)) (now (exponents .entry)) (now (epochs .entry)) (now (marks .entry)))) ⌝ }
+    ensures { λ r. ⌜ r ≡ truth (validity header (full texts (now (descriptions .entry)))
+        (six (now (tec .entry)) (now (rms .entry)) (now (height .entry)) (now (exponents .entry)) (now (epochs .entry)) (now (marks .entry)))) ⌝ }
 {
     if !sound::sound(
         header,

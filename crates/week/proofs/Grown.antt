@@ -14,7 +14,7 @@ use Rattle.mapset.specs.Areas.{Areas, Present, nowhere?, blocks}
 use Rattle.mapset.specs.declared.Header.{Header}
 use Rattle.layout.specs.Layout.{per-map}
 use Rattle.areas.specs.Lists.{flat, tab}
-use Rattle.areas.specs.Stores.{first-of}
+use Rattle.areas.specs.Places.{first-of}
 use Rattle.areas.specs.Valid.{values-in}
 use Rattle.ask_nodes.specs.Value.{kind-of}
 use Rattle.valid.specs.Groups.{kind-need, Long}

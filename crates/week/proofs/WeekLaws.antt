@@ -71,10 +71,10 @@ permuted-map f (List·Permᴰ·cons p d) = List·Permᴰ·cons (ap f p) (permute
 permuted-map f (List·Permᴰ·swap p q) = List·Permᴰ·swap (ap f p) (ap f q)
 permuted-map f (List·Permᴰ·trans d d′) = List·Permᴰ·trans (permuted-map f d) (permuted-map f d′)
 
-pub week-permuted : {ss ts : List Given} → List·Permᴰ ss ts → week-of ss ≡ week-of ts
+week-permuted : {ss ts : List Given} → List·Permᴰ ss ts → week-of ss ≡ week-of ts
 week-permuted {ss} {ts} d = week-gathered ss ∙ gathered-permuted combines (permuted-map brings d) ∙ sym (week-gathered ts)
 
-pub accepted-permuted : {ss ts : List Given} → List·Permᴰ ss ts → accepted ss ≡ accepted ts
+accepted-permuted : {ss ts : List Given} → List·Permᴰ ss ts → accepted ss ≡ accepted ts
 unfolding week-of
 accepted-permuted d = ap (λ (w : Week). w .sets) (week-permuted d)
 

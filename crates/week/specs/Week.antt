@@ -11,7 +11,7 @@ use Rattle.mapset.specs.declared.Header.{Header}
 use Rattle.mapset.specs.Described.{FullTexts}
 use Rattle.areas.specs.Lists.{flat}
 use Rattle.areas.specs.Valid.{Valid}
-use Rattle.valid.specs.Groups.{validity}
+use Rattle.valid.specs.Validity.{validity}
 use Rattle.week_tally.specs.Figures.{figures, joined, nothing}
 use Rattle.week_tally.specs.declared.Tally.{Tally}
 use Rattle.week_set.specs.SetFigures.{kind-nodes, kind-figures, rows-need}

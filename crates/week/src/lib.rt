@@ -152,8 +152,11 @@ fn grow(
     rows: &mut [i64],
 ) -> Week
     requires { ⌜ (w .sets < 100) × Sane w × Long header (six (now tec) (now rms) (now height) (now exponents) [] (now marks)) × (rows-need header ≤ length (now rows)) ⌝ }
-    ensures { λ r. ⌜ (r ≡ grown w header (six (now (tec .entry)) (now (rms .entry)) (now (height .entry)) (now (exponents .entry)) [] (now (marks .entry))))
-        × (now (rows .exit) ≡ front (set-rows header (six (now (tec .entry)) (now (rms .entry)) (now (height .entry)) (now (exponents .entry)) [] (now (marks .entry)))) (now (rows .entry))) ⌝ }
+    ensures { λ r. ⌜ (r ≡ grown w header
+        (six (now (tec .entry)) (now (rms .entry)) (now (height .entry)) (now (exponents .entry)) [] (now (marks .entry))))
+        × (now (rows .exit) ≡ front (set-rows header
+        (six (now (tec .entry)) (now (rms .entry)) (now (height .entry)) (now (exponents .entry)) [] (now (marks .entry))))
+        (now (rows .entry))) ⌝ }
 {
     let first = w.tec;
     let second = w.rms;
@@ -183,7 +186,9 @@ pub fn add(
     marks: &[u8],
     rows: &mut [i64],
 ) -> Added
-    ensures { λ r. ⌜ comes r (now (rows .exit)) ≡ outcome w (given-as header (full texts (now (descriptions .entry))) (six (now (tec .entry)) (now (rms .entry)) (now (height .entry)) (now (exponents .entry)) (now (epochs .entry)) (now (marks .entry))) (now (rows .entry))) ⌝ }
+    ensures { λ r. ⌜ comes r (now (rows .exit)) ≡ outcome w (given-as header (full texts (now (descriptions .entry)))
+        (six (now (tec .entry)) (now (rms .entry)) (now (height .entry)) (now (exponents .entry)) (now (epochs .entry)) (now (marks .entry)))
+        (now (rows .entry))) ⌝ }
 {
     if 100 <= w.sets {
         return Added::Refused(Why::Full);

@@ -67,7 +67,7 @@ module _ (k : ℕ) (h : Header) (a : Areas) (i : ℕ) where
   by-blocks = tab-grid (i * L) 0 L R block-nodes ∙ ap (λ (n : ℕ). flat (tab n (L * R) block-nodes)) (omega arith)
 
   -- ---- an absent map
-  pub absent-nodes : ¬ Present (kind-of k) mark → map-nodes k h a i ≡ replicate (L * R * C) none
+  absent-nodes : ¬ Present (kind-of k) mark → map-nodes k h a i ≡ replicate (L * R * C) none
   absent-nodes n =
       by-blocks
       ∙ ap flat (tab-same (i * (L * R)) (L * R) block-nodes (λ _. replicate C none)
@@ -78,7 +78,7 @@ module _ (k : ℕ) (h : Header) (a : Areas) (i : ℕ) where
   absent-figures n = ap figures (absent-nodes n) ∙ figures-empty (L * R * C)
 
   -- ---- a map that is there
-  pub present-nodes : Present (kind-of k) mark → (i * (L * R) + L * R) * C ≤ length vs → F + i * (L * R) + L * R ≤ length (a .exponents)
+  present-nodes : Present (kind-of k) mark → (i * (L * R) + L * R) * C ≤ length vs → F + i * (L * R) + L * R ≤ length (a .exponents)
       → map-nodes k h a i ≡ blocks-nodes C (drop (i * (L * R) * C) vs) (take (L * R) (drop (F + i * (L * R)) (a .exponents)))
   present-nodes p v e =
       by-blocks

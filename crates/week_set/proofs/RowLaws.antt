@@ -32,7 +32,7 @@ module _ (at n i : ℕ) (g : ℕ → Tally) (l : List ℤ) where
 pub rows-length : (n : ℕ) (g : ℕ → Tally) → length (flat (tab 0 n (λ j. row (g j)))) ≡ n * 5
 rows-length n g = length-flat-tab 5 0 n (λ j. row (g j)) (λ j. refl)
 
-pub behind-rows : (n : ℕ) (g : ℕ → Tally) (t : Tally) → length (flat (tab 0 n (λ j. row (g j))) ++ row t) ≡ 5 * (n + 1)
+behind-rows : (n : ℕ) (g : ℕ → Tally) (t : Tally) → length (flat (tab 0 n (λ j. row (g j))) ++ row t) ≡ 5 * (n + 1)
 behind-rows n g t = length-append (flat (tab 0 n (λ j. row (g j)))) (row t) ∙ omega (arith, rows-length n g)
 
 module _ (h : Header) (a : Areas) where

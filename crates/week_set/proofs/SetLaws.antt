@@ -10,8 +10,8 @@ use Rattle.mapset.specs.declared.Header.{Header}
 use Rattle.areas.specs.Lists.{tab}
 use Rattle.areas.specs.Valid.{values-in}
 use Rattle.areas.proofs.ListLaws.{tab-length, tab-all}
-use Rattle.ask_nodes.specs.Value.{kind-of}
-use Rattle.ask_nodes.specs.Nodes.{Small, corner}
+use Rattle.ask_nodes.specs.Value.{kind-of, corner}
+use Rattle.ask_nodes.specs.Nodes.{Small}
 use Rattle.ask_nodes.proofs.NodeLaws.{small-value}
 use Rattle.week_tally.specs.Figures.{given, lacking, range, figures, total, Bounded}
 use Rattle.week_tally.proofs.FigureLaws.{counts-add, bounded-figures, Spans, range-spans}

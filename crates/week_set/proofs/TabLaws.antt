@@ -15,12 +15,12 @@ use Rattle.week_tally.specs.Figures.{figures, joined, total}
 use Rattle.week_tally.proofs.FigureLaws.{figures-none, figures-append}
 
 -- a table further on
-pub tab-shift : {A : Type 0} (b a k : ℕ) (g : ℕ → A) → tab a k (λ r. g (b + r)) ≡ tab (b + a) k g
+tab-shift : {A : Type 0} (b a k : ℕ) (g : ℕ → A) → tab a k (λ r. g (b + r)) ≡ tab (b + a) k g
 tab-shift b a zero g = refl
 tab-shift b a (suc k) g = ap (g (b + a) ∷_) (tab-shift b (suc a) k g ∙ ap (λ (n : ℕ). tab n k g) (omega arith))
 
 module _ {A : Type 0} where
-  pub flat-tab-append : (a m n : ℕ) (g : ℕ → List A) → flat (tab a (m + n) g) ≡ flat (tab a m g) ++ flat (tab (a + m) n g)
+  flat-tab-append : (a m n : ℕ) (g : ℕ → List A) → flat (tab a (m + n) g) ≡ flat (tab a m g) ++ flat (tab (a + m) n g)
   flat-tab-append a zero n g = let e : a + 0 ≡ a = omega arith in let f : 0 + n ≡ n = omega arith in rw (e, f) refl
   flat-tab-append a (suc m) n g =
       let f : suc m + n ≡ suc (m + n) = omega arith in

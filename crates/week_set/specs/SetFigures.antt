@@ -8,9 +8,8 @@ use Rattle.mapset.specs.Areas.{Areas}
 use Rattle.mapset.specs.declared.Header.{Header}
 use Rattle.areas.specs.Lists.{flat, tab}
 use Rattle.areas.specs.Valid.{values-in}
-use Rattle.ask_nodes.specs.Value.{kind-of, value}
+use Rattle.ask_nodes.specs.Value.{kind-of, value, corner}
 use Rattle.ask_nodes.specs.declared.Shape.{Shape}
-use Rattle.ask_nodes.specs.Nodes.{corner}
 use Rattle.week_tally.specs.Figures.{figures}
 use Rattle.week_tally.specs.Rows.{row}
 use Rattle.week_tally.specs.declared.Tally.{Tally}

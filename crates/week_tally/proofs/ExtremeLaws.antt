@@ -2,7 +2,7 @@
 use mathlib.Core.Path.{_≡_, sym}
 use lib.IntN.{ℤ}
 use Rattle.kit.proofs.AnswerLaws.{pick-yes, pick-no, pick-elim}
-use Rattle.week_tally.specs.Extremes.{Order, first}
+use Rattle.week_tally.proofs.Orders.{Order, first}
 
 module _ {R : ℤ → ℤ → Type 0} (o : Order R) where
   pub first-left : (a b : ℤ) → R (first o a b) a
@@ -11,7 +11,7 @@ module _ {R : ℤ → ℤ → Type 0} (o : Order R) where
   pub first-right : (a b : ℤ) → R (first o a b) b
   first-right a b = pick-elim (λ (z : ℤ). R z b) (o .first? a b) (λ p. p) (λ n. o .same b)
 
-  pub first-before : (a b c : ℤ) → R c a → R c b → R c (first o a b)
+  first-before : (a b c : ℤ) → R c a → R c b → R c (first o a b)
   first-before a b c p q = pick-elim (λ (z : ℤ). R c z) (o .first? a b) (λ _. p) (λ _. q)
 
   half : (a b : ℤ) → R (first o a b) (first o b a)

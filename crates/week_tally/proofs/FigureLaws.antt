@@ -17,7 +17,7 @@ use Rattle.kit.proofs.Parts.{add-parts, abs-parts, one-zero}
 use Rattle.ask_nodes.specs.Nodes.{plain, Small}
 use Rattle.ask_nodes.proofs.NodeLaws.{small-plain}
 use Rattle.week_tally.specs.Gathered.{Combines}
-use Rattle.week_tally.specs.Extremes.{Order, first, rising, falling, le-trans}
+use Rattle.week_tally.proofs.Orders.{Order, first, rising, falling, le-trans}
 use Rattle.week_tally.proofs.ExtremeLaws.{first-left, first-right, first-assoc, first-comm}
 use Rattle.week_tally.specs.Figures.{given, lacking, smaller, larger, hull, point, range, sum, figures, joined, nothing, empty, single, nodes-in, Bounded, Ready, Fit}
 use Rattle.week_tally.specs.declared.Tally.{Tally}
@@ -76,7 +76,7 @@ none-joined t = joined-comm t nothing ∙ joined-none t
 pub same : {t u : Tally} → t .given ≡ u .given → t .lacking ≡ u .lacking → t .range ≡ u .range → t .sum ≡ u .sum → t ≡ u
 same a b c d = λ i. record { given = a i; lacking = b i; range = c i; sum = d i }
 
-pub figures-cons : (n : Option ℤ) (ns : List (Option ℤ)) → figures (n ∷ ns) ≡ joined (single n) (figures ns)
+figures-cons : (n : Option ℤ) (ns : List (Option ℤ)) → figures (n ∷ ns) ≡ joined (single n) (figures ns)
 unfolding figures joined given lacking range sum
 figures-cons none ns = same (omega arith) (omega arith) refl refl
 figures-cons (some v) ns = same (omega arith) (omega arith) refl (ap (λ (z : ℤ). z +ℤ sum ns) (sym (+ℤ-idr v)))
@@ -116,7 +116,7 @@ pub bounded-joined : (t u : Tally) → Bounded t → Bounded u → Bounded (join
 unfolding joined
 bounded-joined t u p q = omega (arith, abs-add (t .sum) (u .sum))
 
-pub bounded-single : (n : Option ℤ) → Small n → Bounded (single n)
+bounded-single : (n : Option ℤ) → Small n → Bounded (single n)
 unfolding figures given sum
 bounded-single none s = omega arith
 bounded-single (some v) s = rw (+ℤ-idr v) (omega arith)
@@ -222,7 +222,7 @@ pub fit-all : (ns : List (Option ℤ)) → Fit (figures ns .given) (figures ns .
 unfolding figures
 fit-all ns = fit-figures ns
 
-pub fit-joined : (m n : ℕ) (r s : Range) → Fit m r → Fit n s → Fit (m + n) (hull r s)
+fit-joined : (m n : ℕ) (r s : Range) → Fit m r → Fit n s → Fit (m + n) (hull r s)
 fit-joined zero zero R.Nothing R.Nothing f g = tt
 fit-joined zero zero R.Nothing (R.From c d) f g = absurd g
 fit-joined zero zero (R.From a b) s f g = absurd f

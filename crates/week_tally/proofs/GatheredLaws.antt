@@ -4,7 +4,7 @@ use mathlib.Core.List.{List, [], _∷_, _++_, List·Permᴰ, List·Permᴰ·nil,
 use Rattle.week_tally.specs.Gathered.{gathered, Combines}
 
 module _ {X : Type 0} {f : X → X → X} {e : X} (c : Combines f e) where
-  pub gathered-append : (l m : List X) → gathered f e (l ++ m) ≡ f (gathered f e l) (gathered f e m)
+  gathered-append : (l m : List X) → gathered f e (l ++ m) ≡ f (gathered f e l) (gathered f e m)
   unfolding gathered
   gathered-append [] m = sym (c .neutral (gathered f e m))
   gathered-append (x ∷ l) m = ap (f x) (gathered-append l m) ∙ sym (c .assoc x (gathered f e l) (gathered f e m))

@@ -1,4 +1,5 @@
 pub mod GatheredLaws
+pub mod Orders
 pub mod ExtremeLaws
 pub mod FigureLaws
 pub mod Vectors

@@ -5,7 +5,7 @@ use mathlib.Core.Option.{none, some}
 use lib.IntN.{pos, negsuc}
 use Rattle.kit.specs.Answer.{pick}
 use Rattle.kit.specs.Integer.{le?}
-use Rattle.week_tally.specs.Extremes.{first}
+use Rattle.week_tally.proofs.Orders.{first}
 use Rattle.week_tally.specs.Figures.{given, lacking, range, sum, figures}
 use Rattle.week_tally.specs.declared.Range.the-variants as R
 

@@ -9,7 +9,7 @@ use Rattle.week_tally.specs.Gathered.{gathered}
 use Rattle.week_tally.specs.declared.Tally.{Tally}
 use Rattle.week_tally.specs.declared.Range.{Range}
 use Rattle.week_tally.specs.declared.Range.the-variants as R
-use Rattle.ask_nodes.specs.Nodes.{or-zero}
+use Rattle.ask_nodes.specs.Value.{or-zero}
 use Prim.Native.Nat.{zero}
 use lib.Signed.{_≤ℤ_}
 

@@ -11,7 +11,8 @@ use lib.Seq.{drop-drop}
 use Rattle.kit.specs.Answer.{pick}
 use Rattle.mapset.specs.declared.Header.{Header}
 use Rattle.mapset.specs.declared.Texts.{Texts}
-use Rattle.mapset.specs.Described.{line-width, lines-in, FullTexts, full}
+use Rattle.mapset.specs.Described.{line-width, FullTexts, full}
+use Rattle.mapset.specs.Lines.{lines-in}
 use Rattle.mapset.specs.Header.{Said, number, counts, says}
 use Rattle.mapset.specs.Header as said
 use Rattle.mapset.specs.Sound.{Count}

@@ -13,7 +13,8 @@ use Rattle.mapset.specs.declared.Systems.{Systems}
 use Rattle.mapset.specs.declared.Texts.{Texts}
 use Rattle.mapset.specs.declared.Times.{Times}
 use Rattle.mapset.specs.declared.Version.{Version}
-use Rattle.mapset.specs.Described.{lines-in, FullTexts}
+use Rattle.mapset.specs.Described.{FullTexts}
+use Rattle.mapset.specs.Lines.{lines-in}
 use Rattle.mapset.specs.Sound.{ModelSays, Count}
 use Rattle.layout.specs.Labels.{header-end}
 use Rattle.layout.specs.Records.{X}

@@ -31,14 +31,17 @@ tenths-row k n = row-at k eight (pos n, tt)
 abbrev pub program-row : Texts → List ℕ
 program-row t = row-at 1 twenties (t .program, (t .agency, (t .date, tt)))
 
+abbrev pub sixty-row : ℕ → List ℕ → List ℕ
+sixty-row k x = row-at k sixty (x, tt)
+
 abbrev pub description-row : List ℕ → List ℕ
-description-row d = row-at 2 sixty (d, tt)
+description-row d = sixty-row 2 d
 
 abbrev pub mapping-row : Texts → List ℕ
 mapping-row t = row-at 8 four (t .mapping, tt)
 
 abbrev pub observables-row : Texts → List ℕ
-observables-row t = row-at 10 sixty (t .observables, tt)
+observables-row t = sixty-row 10 (t .observables)
 
 abbrev pub system-row : ℕ → System → List ℕ
 system-row j s = row-at 13 letter-counts (getD letters j 0 ∷ [], (pos (s .stations), (pos (s .satellites), tt)))

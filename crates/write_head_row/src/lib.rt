@@ -35,14 +35,22 @@ pub fn program_row(t: Texts) -> [u8; 80]
     row
 }
 
+// A60.
+fn sixty_row(k: usize, text: &[u8]) -> [u8; 80]
+    requires { ⌜ (k < 32) × (length (now text) ≡ 60) ⌝ }
+    ensures { λ r. ⌜ r ≡ said.sixty-row k (now (text .entry)) ⌝ }
+{
+    let mut row = write_row::blank_row(k);
+    write_row::put_text(&mut row, 0, text);
+    row
+}
+
 // A line of the description.
 pub fn description_row(line: &[u8]) -> [u8; 80]
     requires { ⌜ length (now line) ≡ 60 ⌝ }
     ensures { λ r. ⌜ r ≡ said.description-row (now (line .entry)) ⌝ }
 {
-    let mut row = write_row::blank_row(labels::DESCRIPTION);
-    write_row::put_text(&mut row, 0, line);
-    row
+    sixty_row(labels::DESCRIPTION, line)
 }
 
 pub fn mapping_row(t: Texts) -> [u8; 80]
@@ -58,9 +66,7 @@ pub fn observables_row(t: Texts) -> [u8; 80]
     ensures { λ r. ⌜ r ≡ said.observables-row t ⌝ }
 {
     let observables = t.observables;
-    let mut row = write_row::blank_row(labels::OBSERVABLES);
-    write_row::put_text(&mut row, 0, &observables);
-    row
+    sixty_row(labels::OBSERVABLES, &observables)
 }
 
 // F8.1,52X, of tenths.

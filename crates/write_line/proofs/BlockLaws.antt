@@ -40,14 +40,14 @@ enough (suc n) (suc m) zs h k = by (decLe (length zs) 16) (λ g. enough n m (dro
     by (yes p) f = pick-yes (yes p) (value-row zs ∷ []) _ p ∙ sym (pick-yes (yes p) (value-row zs ∷ []) _ p)
     by (no g) f = pick-no (no g) (value-row zs ∷ []) _ g ∙ ap (λ rs. value-row (take 16 zs) ∷ rs) (f g) ∙ sym (pick-no (no g) (value-row zs ∷ []) _ g)
 
-pub values-last : (zs : List ℤ) → length zs ≤ 16 → value-rows (length zs) zs ≡ value-row zs ∷ []
+values-last : (zs : List ℤ) → length zs ≤ 16 → value-rows (length zs) zs ≡ value-row zs ∷ []
 values-last zs h = by (length zs) zs h
   where
     by : (n : ℕ) (zs : List ℤ) → length zs ≤ 16 → value-rows n zs ≡ value-row zs ∷ []
     by zero zs h = unfold value-rows in refl
     by (suc n) zs h = unfold value-rows in pick-yes (decLe (length zs) 16) (value-row zs ∷ []) _ h
 
-pub values-more : (zs : List ℤ) → 16 < length zs → value-rows (length zs) zs ≡ value-row (take 16 zs) ∷ value-rows (length (drop 16 zs)) (drop 16 zs)
+values-more : (zs : List ℤ) → 16 < length zs → value-rows (length zs) zs ≡ value-row (take 16 zs) ∷ value-rows (length (drop 16 zs)) (drop 16 zs)
 values-more zs h = by (length zs) refl
   where
     by : (n : ℕ) → length zs ≡ n → value-rows n zs ≡ value-row (take 16 zs) ∷ value-rows (length (drop 16 zs)) (drop 16 zs)

@@ -8,7 +8,7 @@ use lib.Seq.{take-at, drop-append-add, drop-drop, length-take-le}
 use Rattle.canonical.specs.Canon.{trimmed, lines-of}
 use Rattle.write_line.specs.Put.{LineRoom, Put, PutsOn}
 
-pub lines-append : (xs ys : List (List ℕ)) → lines-of (xs ++ ys) ≡ lines-of xs ++ lines-of ys
+lines-append : (xs ys : List (List ℕ)) → lines-of (xs ++ ys) ≡ lines-of xs ++ lines-of ys
 unfolding lines-of
 lines-append [] ys = refl
 lines-append (r ∷ xs) ys = ap (λ l. trimmed r ++ 10 ∷ l) (lines-append xs ys) ∙ sym (append-assoc (trimmed r) (10 ∷ lines-of xs) (lines-of ys))

@@ -1,14 +1,15 @@
 // The rows of canonical text, put into a lent output as lines.
 ghost use mathlib.Core.Path.{_≡_};
-ghost use mathlib.Core.List.{[], _∷_, _++_};
+ghost use mathlib.Core.List.{[], _∷_};
 ghost use Prim.Native.Nat.{_<_, _≤_, _^_};
 ghost use lib.ListN.{length, take};
 ghost use lib.IntN.{pos};
-ghost use Rattle.layout.specs.Labels.{epoch, block, file-end, start, end};
+ghost use Rattle.layout.specs.Labels.{epoch, file-end, start, end};
 ghost use Rattle.canonical.specs.Canon.{row-of, date-of, six, trimmed, value-rows, exponent-rows};
-ghost use Rattle.write_row.specs.Rows.{row-at, whole, six-whole, opening-of, Placed};
+ghost use Rattle.write_row.specs.Rows.{row-at, whole, six-whole, Placed};
 ghost use Rattle.write_line.specs.Starts.{start-place};
 ghost use Rattle.write_line.specs.Put.{LineRoom, Put};
+ghost use Rattle.write_line.specs.Block.{one-block};
 use mapset::Grid;
 use mapset::Kind;
 
@@ -103,8 +104,8 @@ pub fn put_block(
     exponent: i32,
     values: &[i32],
 ) -> usize
-    requires { ⌜ Placed grid d × LineRoom at (exponent-rows in_force exponent ++ (row-of block (opening-of grid d) ∷ value-rows (length (now values)) (now values))) ⌝ }
-    ensures { λ r. ⌜ Put (now (out .entry)) at (exponent-rows in_force exponent ++ (row-of block (opening-of grid d) ∷ value-rows (length (now (values .entry))) (now (values .entry)))) (now (out .exit)) r ⌝ }
+    requires { ⌜ Placed grid d × LineRoom at (one-block grid d in_force exponent (now values)) ⌝ }
+    ensures { λ r. ⌜ Put (now (out .entry)) at (one-block grid d in_force exponent (now (values .entry))) (now (out .exit)) r ⌝ }
 {
     let opening = write_row::opening_row(grid, d);
     let first = put_exponent(out, at, in_force, exponent);

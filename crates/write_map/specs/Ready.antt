@@ -11,7 +11,7 @@ use Rattle.mapset.specs.Areas.{Present}
 use Rattle.layout.specs.Layout.{per-map}
 use Rattle.canonical.specs.Canon.{Axes}
 use Rattle.write_line.specs.Put.{LineRoom, Put}
-use Rattle.write_map.specs.OneMap.{slot-blocks, slot-map}
+use Rattle.write_map.specs.OneMap.{slot-blocks, slot-map, slot-force}
 use Rattle.write_map.specs.declared.Reached.{Reached}
 
 -- the grid is accepted, so that the nodes have a place in their columns
@@ -42,3 +42,7 @@ pub record ReadySlot (h : Header) (at : ℕ) (q : Kind) (i t m : ℕ) (k : ℤ) 
 pub record PutTo (o : List ℕ) (at : ℕ) (rs : List (List ℕ)) (k : ℤ) (o′ : List ℕ) (r : Reached) : Type 0 where
   pub put : Put o at rs o′ (r .at)
   pub force : r .exponent ≡ k
+
+-- a map that may be there is put, and the exponent then in force is told
+abbrev pub PutSlot : Header → (o : List ℕ) (at : ℕ) (q : Kind) (i t m : ℕ) (k : ℤ) (es vs : List ℤ) (from : ℕ) (o′ : List ℕ) → Reached → Type 0
+PutSlot h o at q i t m k es vs from o′ r = PutTo o at (slot-map q h i t m k (slot-blocks h es vs from)) (slot-force q m k (slot-blocks h es vs from)) o′ r

@@ -3,8 +3,8 @@ ghost use mathlib.Core.List.{[]};
 ghost use Prim.Native.Nat.{_<_, _^_};
 ghost use Rattle.canonical.specs.Canon.{block-rows};
 ghost use Rattle.write_line.specs.Put.{LineRoom, Put};
-ghost use Rattle.write_map.specs.OneMap.{map-blocks, slot-blocks, epoch-rows, one-map, slot-map, slot-force};
-ghost use Rattle.write_map.specs.Ready.{Ready, Full, ReadySlot, PutTo};
+ghost use Rattle.write_map.specs.OneMap.{map-blocks, epoch-rows, one-map};
+ghost use Rattle.write_map.specs.Ready.{Ready, Full, ReadySlot, PutSlot};
 use mapset::Header;
 use mapset::Kind;
 use mapset::axes;
@@ -99,7 +99,7 @@ pub fn put_slot(
     end: usize,
 ) -> Reached
     requires { ⌜ ReadySlot header at kind number epoch mark in_force (now es) (now vs) from end ⌝ }
-    ensures { λ r. ⌜ PutTo (now (out .entry)) at (slot-map kind header number epoch mark in_force (slot-blocks header (now (es .entry)) (now (vs .entry)) from)) (slot-force kind mark in_force (slot-blocks header (now (es .entry)) (now (vs .entry)) from)) (now (out .exit)) r ⌝ }
+    ensures { λ r. ⌜ PutSlot header (now (out .entry)) at kind number epoch mark in_force (now (es .entry)) (now (vs .entry)) from (now (out .exit)) r ⌝ }
 {
     if !mapset::present(kind, mark) {
         return Reached {

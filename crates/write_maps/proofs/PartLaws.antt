@@ -9,14 +9,14 @@ use Rattle.mapset.specs.declared.Header.{Header}
 use Rattle.mapset.specs.Grid.{columns}
 use Rattle.mapset.specs.Areas.{Areas, blocks}
 use Rattle.layout.specs.Layout.{per-map}
-use Rattle.areas.specs.Stores.{first-of}
+use Rattle.areas.specs.Places.{first-of}
 use Rattle.areas.specs.Valid.{values-in}
 use Rattle.valid.specs.Groups.{Long}
 use Rattle.valid.proofs.Whole.{kind-holds}
 use Rattle.write_line.specs.Put.{LineRoom}
-use Rattle.write_maps.specs.KindRows.{kind-rows, kind-force, part-exponents, part-values, area-rows, area-force}
+use Rattle.write_maps.specs.KindRows.{area-rows, area-force}
 use Rattle.write_map.specs.Ready.{Fine, PutTo}
-use Rattle.write_maps.specs.Ready.{ReadyPart}
+use Rattle.write_maps.specs.Ready.{ReadyPart, PutPart}
 use Rattle.write_map.specs.declared.Reached.{Reached}
 
 module _ (h : Header) (a : Areas) (l : Long h a) (q : Kind) (k k′ : ℤ) (first : ℕ) (e : k′ ≡ k) (p : first ≡ first-of q (blocks h)) where
@@ -32,7 +32,7 @@ module _ (h : Header) (a : Areas) (l : Long h a) (q : Kind) (k k′ : ℤ) (firs
       rw (e, p) (record { ready = record { fine = f; room = r }; holds = kind-holds h a l q (per-map h) (columns (h .grid)) (first-of q (blocks h)) refl refl refl })
 
   pub area-put : {o o′ : List ℕ} {at : ℕ} {r : Reached}
-      → PutTo o at (kind-rows q h 0 k′ ts ms (part-exponents h ms (a .exponents) first) (part-values q h ms (values-in q a))) (kind-force q h k′ ms (part-exponents h ms (a .exponents) first) (part-values q h ms (values-in q a))) o′ r
+      → PutPart h o at q k′ ts ms (a .exponents) first (values-in q a) o′ r
       → PutTo o at (area-rows h a q k) (area-force h a q k) o′ r
   unfolding area-rows area-force
   area-put x = rw (e, p) at x

@@ -1,7 +1,7 @@
 -- The rows of the maps of one kind, from what the lent areas hold of it: one map for each TEC map, where its mark says that it is there.
 use mathlib.Core.List.{List, [], _∷_, _++_}
 use Prim.Native.Nat.{ℕ, suc, _*_}
-use lib.ListN.{length, take, drop}
+use lib.ListN.{take, drop}
 use lib.IntN.{ℤ, negsuc}
 use Rattle.mapset.specs.declared.Kind.{Kind}
 use Rattle.mapset.specs.declared.Kind.the-variants.{Tec, Rms, Height}
@@ -11,9 +11,9 @@ use Rattle.mapset.specs.MapSet.{Block}
 use Rattle.mapset.specs.Areas.{Areas, blocks}
 use Rattle.layout.specs.Labels.{file-end}
 use Rattle.layout.specs.Layout.{per-map}
-use Rattle.areas.specs.Stores.{first-of}
+use Rattle.areas.specs.Places.{first-of}
 use Rattle.areas.specs.Valid.{values-in}
-use Rattle.valid.specs.Groups.{kind-need}
+use Rattle.valid.specs.Groups.{kind-values, kind-exponents}
 use Rattle.canonical.specs.Canon.{row-of}
 use Rattle.write_map.specs.OneMap.{map-blocks, slot-map, slot-force}
 
@@ -37,10 +37,17 @@ kind-force q h k [] es vs = k
 -- ---- of the areas as they are lent: the exponents of a kind begin at `first`, and a kind with no map needs no values
 
 abbrev pub part-exponents : Header → (ms : List ℕ) (es : List ℤ) (first : ℕ) → List ℤ
-part-exponents h ms es first = take (length ms * per-map h) (drop first es)
+part-exponents h ms es first = kind-exponents (per-map h) ms es first
 
 abbrev pub part-values : Kind → Header → (ms : List ℕ) (vs : List ℤ) → List ℤ
-part-values q h ms vs = take (kind-need q (per-map h) (columns (h .grid)) ms) vs
+part-values q h ms vs = kind-values q (per-map h) (columns (h .grid)) ms vs
+
+-- the rows of its maps, with the exponent k in force before them; and the exponent in force after them
+abbrev pub part-rows : Kind → Header → (k : ℤ) (ts ms : List ℕ) (es : List ℤ) (first : ℕ) (vs : List ℤ) → List (List ℕ)
+part-rows q h k ts ms es first vs = kind-rows q h 0 k ts ms (part-exponents h ms es first) (part-values q h ms vs)
+
+abbrev pub part-force : Kind → Header → (k : ℤ) (ms : List ℕ) (es : List ℤ) (first : ℕ) (vs : List ℤ) → ℤ
+part-force q h k ms es first vs = kind-force q h k ms (part-exponents h ms es first) (part-values q h ms vs)
 
 module _ (h : Header) (a : Areas) where
   abbrev epochs : List ℕ
@@ -50,10 +57,10 @@ module _ (h : Header) (a : Areas) where
   marks = take (h .times .maps) (a .marks)
 
   unfoldable pub area-rows : Kind → ℤ → List (List ℕ)
-  area-rows q k = kind-rows q h 0 k epochs marks (part-exponents h marks (a .exponents) (first-of q (blocks h))) (part-values q h marks (values-in q a))
+  area-rows q k = part-rows q h k epochs marks (a .exponents) (first-of q (blocks h)) (values-in q a)
 
   unfoldable pub area-force : Kind → ℤ → ℤ
-  area-force q k = kind-force q h k marks (part-exponents h marks (a .exponents) (first-of q (blocks h))) (part-values q h marks (values-in q a))
+  area-force q k = part-force q h k marks (a .exponents) (first-of q (blocks h)) (values-in q a)
 
   -- TEC maps, RMS maps, height maps; the exponent in force goes on from kind to kind
   abbrev pub all-rows : List (List ℕ)

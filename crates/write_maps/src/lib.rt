@@ -5,9 +5,8 @@ ghost use lib.ListN.{length, take};
 ghost use Rattle.mapset.specs.Areas.{six};
 ghost use Rattle.layout.specs.Layout.{per-map};
 ghost use Rattle.write_line.specs.Put.{Put};
-ghost use Rattle.write_map.specs.Ready.{PutTo};
-ghost use Rattle.write_maps.specs.KindRows.{kind-rows, kind-force, part-exponents, part-values, all-rows};
-ghost use Rattle.write_maps.specs.Ready.{ReadyPart, ReadyMaps};
+ghost use Rattle.write_maps.specs.KindRows.{all-rows};
+ghost use Rattle.write_maps.specs.Ready.{ReadyPart, PutPart, ReadyMaps};
 use mapset::Header;
 use mapset::Kind;
 use mapset::axes;
@@ -30,7 +29,8 @@ fn put_kind(
 ) -> Reached
     requires { ⌜ ReadyPart header at kind in_force (take maps (now epochs)) (take maps (now marks)) (now exponents) first (now values) ⌝ }
     requires { ⌜ (blocks ≡ per-map header) × (maps ≤ length (now epochs)) × (maps ≤ length (now marks)) ⌝ }
-    ensures { λ r. ⌜ PutTo (now (out .entry)) at (kind-rows kind header 0 in_force (take maps (now (epochs .entry))) (take maps (now (marks .entry))) (part-exponents header (take maps (now (marks .entry))) (now (exponents .entry)) first) (part-values kind header (take maps (now (marks .entry))) (now (values .entry)))) (kind-force kind header in_force (take maps (now (marks .entry))) (part-exponents header (take maps (now (marks .entry))) (now (exponents .entry)) first) (part-values kind header (take maps (now (marks .entry))) (now (values .entry)))) (now (out .exit)) r ⌝ }
+    ensures { λ r. ⌜ PutPart header (now (out .entry)) at kind in_force (take maps (now (epochs .entry))) (take maps (now (marks .entry)))
+        (now (exponents .entry)) first (now (values .entry)) (now (out .exit)) r ⌝ }
 {
     let columns = axes::nodes(header.grid.longitudes) as usize;
     let width = blocks * columns;
@@ -82,7 +82,9 @@ pub fn put_maps(
     marks: &[u8],
 ) -> usize
     requires { ⌜ ReadyMaps header at (six (now tec) (now rms) (now height) (now exponents) (now epochs) (now marks)) ⌝ }
-    ensures { λ r. ⌜ Put (now (out .entry)) at (all-rows header (six (now (tec .entry)) (now (rms .entry)) (now (height .entry)) (now (exponents .entry)) (now (epochs .entry)) (now (marks .entry)))) (now (out .exit)) r ⌝ }
+    ensures { λ r. ⌜ Put (now (out .entry)) at (all-rows header
+        (six (now (tec .entry)) (now (rms .entry)) (now (height .entry)) (now (exponents .entry)) (now (epochs .entry)) (now (marks .entry))))
+        (now (out .exit)) r ⌝ }
 {
     let maps = header.times.maps as usize;
     let blocks = axes::per_map(header.grid) as usize;

@@ -9,12 +9,13 @@ use mir.Val.{SFits}
 use Rattle.kit.proofs.AnswerLaws.{pick-no}
 use Rattle.kit.proofs.Parts.{parts-le}
 use Rattle.days.specs.Years.{row}
-use Rattle.calendar.specs.Calendar.{DateAt, The, toldFound, date-at, end}
+use Rattle.calendar.specs.Calendar.{DateAt, The, toldFound, date-at}
+use Rattle.calendar.specs.End.{end}
 use Rattle.calendar.proofs.DateLaws.{date-once, dated-below}
 use Rattle.days.proofs.YearLaws.{month-le}
 use Rattle.calendar.specs.declared.Epoch.{Epoch}
-use Rattle.calendar.specs.declared.Found.{Found}
-use Rattle.calendar.specs.declared.Found.the-variants as D
+use Rattle.calendar.specs.declared.DateFound.{DateFound}
+use Rattle.calendar.specs.declared.DateFound.the-variants as D
 use Rattle.canonical.specs.Canon.{no-date, date-of, Wide}
 use Rattle.canonical.proofs.HeadRows.{date-is}
 
@@ -26,11 +27,11 @@ wide-fits (negsuc n) w = record { sfits = omega (arith, parts-le (negsuc 8999) (
 
 -- ---- a date
 
-pub date-past : (t : ℕ) → ¬ (t < end) → no-date ≡ date-of t
+date-past : (t : ℕ) → ¬ (t < end) → no-date ≡ date-of t
 unfolding date-of
 date-past t n = sym (pick-no (decLt t end) (date-at t) no-date n)
 
-module _ (t : ℕ) (f : Found) (a : The (λ e. DateAt e t) (toldFound f)) where
+module _ (t : ℕ) (f : DateFound) (a : The (λ e. DateAt e t) (toldFound f)) where
   pub date-found : (e : Epoch) → f ≡ D.Date e → e ≡ date-of t
   date-found e q =
       let d : DateAt e t = rw q at a in

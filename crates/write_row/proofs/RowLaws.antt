@@ -16,7 +16,7 @@ use Rattle.layout.specs.Names.{names}
 use Rattle.canonical.specs.Canon.{columns-of, row-of, cells-of, value-row}
 use Rattle.write_row.specs.Rows.{row-at, whole, three, six-whole}
 
-pub field-put : (p x rest : List ℕ) (a w : ℕ) → length p ≡ a
+field-put : (p x rest : List ℕ) (a w : ℕ) → length p ≡ a
     → take a (p ++ (replicate w 32 ++ rest)) ++ (x ++ drop (a + w) (p ++ (replicate w 32 ++ rest))) ≡ (p ++ x) ++ rest
 field-put p x rest a w e =
     let t = take-at p (replicate w 32 ++ rest) a e in
@@ -32,7 +32,7 @@ label-put label row n e = e ∙ rw (n, append-nil)
 
 -- ---- values
 
-pub cells-width : (zs : List ℤ) → length (cells-of zs) ≡ 5 * length zs
+cells-width : (zs : List ℤ) → length (cells-of zs) ≡ 5 * length zs
 unfolding cells-of
 cells-width [] = refl
 cells-width (z ∷ zs) = length-append (showField I 5 z) (cells-of zs) ∙ omega (arith, cells-width zs, show-width I 5 z)

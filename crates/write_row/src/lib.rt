@@ -10,8 +10,8 @@ ghost use Rattle.layout.specs.Names.{names};
 ghost use Rattle.canonical.specs.Canon.{row-of, date-of, six, Wide};
 ghost use Rattle.canonical.specs.Canon as canon;
 ghost use Rattle.write_row.specs.Rows.{row-at, whole, three, six-whole, opening-of, Placed};
+use calendar::DateFound;
 use calendar::Epoch;
-use calendar::Found;
 use mapset::Axis;
 use mapset::Grid;
 
@@ -22,11 +22,7 @@ pub fn copy(from: &[u8], to: &mut [u8])
     requires { ⌜ length (now to) ≡ length (now from) ⌝ }
     ensures { λ _. ⌜ now (to .exit) ≡ now (from .entry) ⌝ }
 {
-    let mut i = 0;
-    while i < to.len() {
-        to[i] = from[i];
-        i += 1;
-    }
+    kit::copy_at(from, to, 0);
 }
 
 // A text, as it stands, into the columns after the first a.
@@ -87,8 +83,8 @@ fn date(second: u64) -> Epoch
     ensures { λ r. ⌜ r ≡ date-of second ⌝ }
 {
     match Epoch::at_second(second) {
-        Found::Date(e) => e,
-        Found::Refused => Epoch {
+        DateFound::Date(e) => e,
+        DateFound::Refused => Epoch {
             year: 0,
             month: 0,
             day: 0,

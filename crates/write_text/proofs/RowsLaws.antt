@@ -49,7 +49,7 @@ no-epoch Height o t = refl
 
 -- ---- TEC maps
 module _ (h : Header) (rest : ℤ → List (List ℕ)) where
-  pub tecs-are : (n i : ℕ) (k : ℤ) (ts ms : List ℕ) (es vs : List ℤ) → length ts ≡ n → length ms ≡ n
+  tecs-are : (n i : ℕ) (k : ℤ) (ts ms : List ℕ) (es vs : List ℤ) → length ts ≡ n → length ms ≡ n
       → tec-rows h k i (zipw a-tec ts (cut n (per-map h) (columns (h .grid)) es vs)) rest ≡ kind-rows Tec h i k ts ms es vs ++ rest (kind-force Tec h k ms es vs)
   unfolding tec-rows kind-rows kind-force
   tecs-are zero i k [] [] es vs l r = refl
@@ -87,7 +87,7 @@ module _ (q : Kind) (o : Other q) (h : Header) (rest : ℤ → List (List ℕ)) 
       ∙ sym (append-assoc (one-map q h (suc i) t k b) (xs j) (rest (f j)))
   slot-case i t (no n) k b ss xs f e = e k
 
-  pub others-are : (n i : ℕ) (k : ℤ) (ts ms : List ℕ) (es vs : List ℤ) → length ts ≡ n → length ms ≡ n
+  others-are : (n i : ℕ) (k : ℤ) (ts ms : List ℕ) (es vs : List ℤ) → length ts ≡ n → length ms ≡ n
       → other-rows q h k (kept (suc i) (zipw (if-there q) ms (cut n (per-map h) (columns (h .grid)) es vs))) rest ≡ kind-rows q h i k ts ms es vs ++ rest (kind-force q h k ms es vs)
   unfolding other-rows kind-rows kind-force slot-map slot-force
   others-are zero i k [] [] es vs l r = refl
@@ -121,7 +121,7 @@ module _ (h : Header) (a : Areas) (l : Long h a) (u : h .times .maps ≤ length 
   unfolding area-force
   force-is q k = λ i. kind-force q h k ms (sym (exponents-are h a l q) i) (sym (values-are h a l q) i)
 
-  pub maps-are : (t : FullTexts) → map-rows (nested h t a) ≡ all-rows h a
+  maps-are : (t : FullTexts) → map-rows (nested h t a) ≡ all-rows h a
   unfolding map-rows nest needed
   maps-are t =
       let last-row : List (List ℕ) = row-of file-end tt ∷ [] in

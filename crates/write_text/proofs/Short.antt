@@ -14,18 +14,19 @@ use Rattle.kit.specs.Integer.{int?}
 use Rattle.mapset.specs.declared.Kind.{Kind}
 use Rattle.mapset.specs.declared.Kind.the-variants.{Tec, Rms, Height}
 use Rattle.mapset.specs.declared.Header.{Header}
-use Rattle.mapset.specs.Described.{lines-in, FullTexts}
+use Rattle.mapset.specs.Described.{FullTexts}
+use Rattle.mapset.specs.Lines.{lines-in}
 use Rattle.mapset.proofs.DescribedLaws.{lines-length}
 use Rattle.mapset.specs.Grid.{columns}
 use Rattle.mapset.specs.Header.{Said, says}
-use Rattle.mapset.specs.SoundDecided.{sound-groups}
+use Rattle.mapset.proofs.Groups.{sound-groups}
 use Rattle.mapset.specs.MapSet.{Block}
 use Rattle.mapset.specs.Areas.{Areas, present?, blocks}
 use Rattle.layout.specs.Labels.{block, header-end, file-end, end}
 use Rattle.layout.specs.Layout.{Slots, per-map}
 use Rattle.areas.specs.Lists.{chop, zipw}
 use Rattle.areas.specs.Nest.{a-block}
-use Rattle.areas.specs.Stores.{first-of}
+use Rattle.areas.specs.Places.{first-of}
 use Rattle.areas.specs.Valid.{values-in, Valid}
 use Rattle.areas.specs.Nesting.{nested}
 use Rattle.areas.proofs.ValidFormed.{nested-formed}
@@ -46,7 +47,7 @@ unfolding trimmed
 trimmed-short [] = omega arith
 trimmed-short (b ∷ bs) = pick-elim (λ t. length t ≤ suc (length bs)) (all-dec (λ c. ℕ-discrete c 32) (b ∷ bs)) {x = []} {y = b ∷ trimmed bs} (λ _. omega arith) (λ _. let i = trimmed-short bs in omega arith)
 
-pub lines-short : (rs : List (List ℕ)) → All GoodRow rs → length (lines-of rs) ≤ length rs * 81
+lines-short : (rs : List (List ℕ)) → All GoodRow rs → length (lines-of rs) ≤ length rs * 81
 unfolding lines-of
 lines-short [] a = omega arith
 lines-short (r ∷ rs) a = omega (arith, length-append (trimmed r) (10 ∷ lines-of rs), trimmed-short r, a .0 .width, lines-short rs (a .1), suc-mul (length rs) 81)

@@ -10,7 +10,7 @@ use Rattle.mapset.specs.declared.Header.{Header}
 use Rattle.mapset.specs.Described.{FullTexts}
 use Rattle.mapset.specs.Areas.{Areas}
 use Rattle.areas.specs.Valid.{Valid}
-use Rattle.valid.specs.Groups.{validity}
+use Rattle.valid.specs.Validity.{validity}
 use Rattle.canonical.specs.CanonOf.{canon-of}
 use Rattle.write_text.specs.Write.{done, refused, fitted, written}
 

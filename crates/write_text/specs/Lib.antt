@@ -1,2 +1,3 @@
 -- Canonical text in a lent output.
 pub mod Write
+pub mod Ready

@@ -4,11 +4,9 @@ ghost use mathlib.Core.List.{List};
 ghost use Prim.Native.Nat.{ℕ};
 ghost use Rattle.mapset.specs.Described.{full};
 ghost use Rattle.mapset.specs.Areas.{six};
-ghost use Rattle.areas.specs.Valid.{Valid};
-ghost use Rattle.areas.specs.Nesting.{nested};
-ghost use Rattle.canonical.specs.Canon.{canon-rows};
-ghost use Rattle.write_line.specs.Put.{LineRoom, Put};
-ghost use Rattle.write_text.specs.Write.{Told, told, written};
+ghost use Rattle.write_line.specs.Put.{Put};
+ghost use Rattle.write_text.specs.Write.{ToldWriting, told, written};
+ghost use Rattle.write_text.specs.Ready.{canon-rows-of, Writable};
 use mapset::Header;
 use mapset::Texts;
 
@@ -26,8 +24,10 @@ fn put_text(
     epochs: &[u64],
     marks: &[u8],
 ) -> usize
-    requires { ⌜ Valid header (full texts (now descriptions)) (six (now tec) (now rms) (now height) (now exponents) (now epochs) (now marks)) × LineRoom at (canon-rows (nested header (full texts (now descriptions)) (six (now tec) (now rms) (now height) (now exponents) (now epochs) (now marks)))) ⌝ }
-    ensures { λ r. ⌜ Put (now (out .entry)) at (canon-rows (nested header (full texts (now (descriptions .entry))) (six (now (tec .entry)) (now (rms .entry)) (now (height .entry)) (now (exponents .entry)) (now (epochs .entry)) (now (marks .entry))))) (now (out .exit)) r ⌝ }
+    requires { ⌜ Writable header (full texts (now descriptions)) (six (now tec) (now rms) (now height) (now exponents) (now epochs) (now marks)) at ⌝ }
+    ensures { λ r. ⌜ Put (now (out .entry)) at (canon-rows-of header (full texts (now (descriptions .entry)))
+        (six (now (tec .entry)) (now (rms .entry)) (now (height .entry)) (now (exponents .entry)) (now (epochs .entry)) (now (marks .entry))))
+        (now (out .exit)) r ⌝ }
 {
     let next = write_head::put_header(out, at, header, texts, descriptions);
     write_maps::put_maps(
@@ -63,7 +63,9 @@ pub fn write_text(
     marks: &[u8],
     out: &mut [u8],
 ) -> Written
-    ensures { λ r. ⌜ _≡_ {A = Told × List ℕ} (told r, now (out .exit)) (written header (full texts (now (descriptions .entry))) (six (now (tec .entry)) (now (rms .entry)) (now (height .entry)) (now (exponents .entry)) (now (epochs .entry)) (now (marks .entry))) (now (out .entry))) ⌝ }
+    ensures { λ r. ⌜ _≡_ {A = ToldWriting × List ℕ} (told r, now (out .exit)) (written header (full texts (now (descriptions .entry)))
+        (six (now (tec .entry)) (now (rms .entry)) (now (height .entry)) (now (exponents .entry)) (now (epochs .entry)) (now (marks .entry)))
+        (now (out .entry))) ⌝ }
 {
     if !valid::valid(
         header,

@@ -1,7 +1,7 @@
 //! A small text to change, and what the second program makes of it.
 #![allow(dead_code)]
 
-use second::{read, Areas, Header, Reading, Texts};
+use second::{read, Axis, Buffers, Header, Reading, Texts};
 
 /// A record: columns 1 to 60, then the label.
 pub fn rec(body: &str, label: &str) -> String {
@@ -127,40 +127,17 @@ pub fn join(lines: &[String]) -> Vec<u8> {
     text
 }
 
-/// Areas of one's own, filled with a pattern.
-#[derive(Clone, Debug, PartialEq)]
-pub struct Own {
-    pub tec: Vec<i32>,
-    pub rms: Vec<i32>,
-    pub height: Vec<i32>,
-    pub exponents: Vec<i32>,
-    pub epochs: Vec<u64>,
-    pub marks: Vec<u8>,
-}
-
 pub const UNTOUCHED: i32 = 77_777;
 
-impl Own {
-    pub fn new(lengths: [usize; 6]) -> Own {
-        Own {
-            tec: vec![UNTOUCHED; lengths[0]],
-            rms: vec![UNTOUCHED; lengths[1]],
-            height: vec![UNTOUCHED; lengths[2]],
-            exponents: vec![UNTOUCHED; lengths[3]],
-            epochs: vec![77; lengths[4]],
-            marks: vec![77; lengths[5]],
-        }
-    }
-
-    pub fn lent(&mut self) -> Areas<'_> {
-        Areas {
-            tec: &mut self.tec,
-            rms: &mut self.rms,
-            height: &mut self.height,
-            exponents: &mut self.exponents,
-            epochs: &mut self.epochs,
-            marks: &mut self.marks,
-        }
+/// Areas filled with a pattern.
+pub fn untouched(lengths: [usize; 6]) -> Buffers {
+    Buffers {
+        tec: vec![UNTOUCHED; lengths[0]],
+        rms: vec![UNTOUCHED; lengths[1]],
+        height: vec![UNTOUCHED; lengths[2]],
+        exponents: vec![UNTOUCHED; lengths[3]],
+        epochs: vec![77; lengths[4]],
+        marks: vec![77; lengths[5]],
     }
 }
 
@@ -168,11 +145,11 @@ impl Own {
 /// areas as they were.
 pub fn outcome(text: &[u8]) -> String {
     let lengths = [5000; 6];
-    let mut own = Own::new(lengths);
+    let mut own = untouched(lengths);
     match read(text, &mut own.lent()) {
         Reading::Accepted { .. } => "accepted".to_string(),
         Reading::Refused(refusal) => {
-            assert_eq!(own, Own::new(lengths));
+            assert_eq!(own, untouched(lengths));
             refusal.to_string()
         }
     }
@@ -182,11 +159,38 @@ pub fn outcome_of(lines: &[String]) -> String {
     outcome(&join(lines))
 }
 
+pub type Set = (Header, Texts, Buffers);
+
 /// Reads an accepted text into areas of the given lengths.
-pub fn accepted(lines: &[String], lengths: [usize; 6]) -> (Header, Texts, Own) {
-    let mut own = Own::new(lengths);
+pub fn accepted(lines: &[String], lengths: [usize; 6]) -> Set {
+    let mut own = untouched(lengths);
     match read(&join(lines), &mut own.lent()) {
         Reading::Accepted { header, texts } => (header, texts, own),
         Reading::Refused(refusal) => panic!("{refusal}"),
     }
+}
+
+/// The base text's first epoch, 2000-01-01 00:00:00.
+pub const FIRST: u64 = 36_524 * 86_400;
+
+/// The base set: rows 10.0 and 0.0, columns 0.0, 10.0 and 20.0, two maps 7200 s
+/// apart, RMS map 2 only, no height maps.
+pub fn set() -> Set {
+    accepted(&base(), [12, 12, 0, 12, 2, 2])
+}
+
+/// The base set on a grid of other columns: the values of a row go up by 10 from 100 at its first column, and by so many
+/// from map to map.
+pub fn around(longitudes: Axis, by_map: i32) -> Set {
+    let (mut header, texts, _) = set();
+    header.longitudes = longitudes;
+    let columns = header.longitudes.count() as usize;
+    let mut own = untouched([4 * columns, 0, 0, 12, 2, 2]);
+    for (at, value) in own.tec.iter_mut().enumerate() {
+        *value = 100 + 10 * (at % columns) as i32 + by_map * (at / (2 * columns)) as i32;
+    }
+    own.exponents.fill(-3);
+    own.epochs = vec![FIRST, FIRST + 7200];
+    own.marks.fill(0);
+    (header, texts, own)
 }

@@ -1,8 +1,9 @@
 //! Planted faults of biases: a reader of its own with one thing wrong, which the comparison must find; with nothing
 //! wrong it reads as the second program does.
 
-use super::{calls, compare_call, tell, Biases, Found, Lent, SATELLITE, STATION, TITLE};
+use super::{calls, compare_call, tell, Biases, Call, Found, Lent, SATELLITE, STATION, TITLE};
 use crate::archive::Archive;
+use crate::tally;
 use second::fields;
 use second::Refusal;
 
@@ -52,12 +53,8 @@ listed! {
 
 /// The seed and the difference at which the comparison with the library finds a fault, within `count` seeds.
 pub fn find(fault: Fault, count: u64, seed: u64) -> Option<(u64, String)> {
-    (seed..seed.saturating_add(count)).find_map(|seed| {
-        let found = calls(seed)
-            .iter()
-            .find_map(|call| compare_call(&Archive, &Faulty(Some(fault)), call).1)?;
-        Some((seed, found))
-    })
+    let differs = |call: &Call| compare_call(&Archive, &Faulty(Some(fault)), call).1;
+    tally::first(count, seed, |seed| calls(seed).iter().find_map(differs))
 }
 
 struct Faulty(Option<Fault>);

@@ -1,12 +1,13 @@
 //! Planted faults of what is told of an answer: the second program with one thing wrong, which the comparison must find.
 
 use super::{
-    calls, compare_call, set_of, Explains, ANSWER, COUNT, DENOMINATOR, EXPLAINED, LACKING, NODE,
-    SIZE,
+    calls, compare_call, set_of, Call, Explains, ANSWER, COUNT, DENOMINATOR, EXPLAINED, LACKING,
+    NODE, SIZE,
 };
 use crate::archive::Archive;
 use crate::boundary::{self, Asked, Given, Plain, HEADER};
 use crate::oracle::{self, Needed};
+use crate::tally;
 
 listed! {
     /// One thing wrong with what is told of an answer.
@@ -55,12 +56,8 @@ listed! {
 
 /// The seed and the difference at which the comparison with the library finds a fault, within `count` seeds.
 pub fn find(fault: Fault, count: u64, seed: u64) -> Option<(u64, String)> {
-    (seed..seed.saturating_add(count)).find_map(|seed| {
-        let found = calls(seed)
-            .iter()
-            .find_map(|call| compare_call(&Archive, &Faulty(fault), call).1)?;
-        Some((seed, found))
-    })
+    let differs = |call: &Call| compare_call(&Archive, &Faulty(fault), call).1;
+    tally::first(count, seed, |seed| calls(seed).iter().find_map(differs))
 }
 
 /// The second program with one thing wrong.

@@ -1,10 +1,11 @@
 //! Planted faults of indexes: the second program with one thing wrong, which the comparison must find.
 
-use super::{calls, compare_call, made, Indexes, Kept};
+use super::{calls, compare_call, made, Call, Indexes, Kept};
 use crate::archive::Archive;
 use crate::boundary::{self, Plain, HEADER, OLD_TEXTS, TEXTS};
 use crate::gen;
 use crate::rng::Rng;
+use crate::tally;
 use second::index::Node;
 use second::maps::{Grid, KINDS};
 
@@ -58,12 +59,8 @@ listed! {
 
 /// The seed and the difference at which the comparison with the library finds a fault, within `count` seeds.
 pub fn find(fault: Fault, count: u64, seed: u64) -> Option<(u64, String)> {
-    (seed..seed.saturating_add(count)).find_map(|seed| {
-        let found = calls(seed)
-            .iter()
-            .find_map(|call| compare_call(&Archive, &Faulty(fault), call).1)?;
-        Some((seed, found))
-    })
+    let differs = |call: &Call| compare_call(&Archive, &Faulty(fault), call).1;
+    tally::first(count, seed, |seed| calls(seed).iter().find_map(differs))
 }
 
 /// The second program with one thing wrong.

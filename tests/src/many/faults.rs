@@ -1,8 +1,9 @@
 //! Planted faults of many questions in one call: the second program with one thing wrong, which the comparison must find.
 
-use super::{calls, compare_call, Asking, Chosen, Many};
+use super::{calls, compare_call, Asking, Call, Chosen, Many};
 use crate::archive::Archive;
 use crate::boundary::{Given, Plain, HEADER, TEXTS};
+use crate::tally;
 
 listed! {
     /// One thing wrong with many questions.
@@ -40,12 +41,8 @@ listed! {
 
 /// The seed and the difference at which the comparison with the library finds a fault, within `count` seeds.
 pub fn find(fault: Fault, count: u64, seed: u64) -> Option<(u64, String)> {
-    (seed..seed.saturating_add(count)).find_map(|seed| {
-        let found = calls(seed)
-            .iter()
-            .find_map(|call| compare_call(&Archive, &Faulty(fault), call).1)?;
-        Some((seed, found))
-    })
+    let differs = |call: &Call| compare_call(&Archive, &Faulty(fault), call).1;
+    tally::first(count, seed, |seed| calls(seed).iter().find_map(differs))
 }
 
 /// The second program with one thing wrong.

@@ -1,13 +1,13 @@
 -- `ask::value_at` meets its contract.
 use borrow.Author.Needs.{needs}
-use mathlib.Core.Path.{_≡_, refl, sym, ap, subst, _∙_}
+use mathlib.Core.Path.{_≡_, refl, sym, ap, _∙_}
 use borrow.Author.Tests.{not-true, not-false}
 use native.Mathlib.Omega.{arith}
 use Prim.Native.Nat.{_<_}
 use denote.Ref.{now}
 use mir.Facts.{toZ-ofZ}
 use Rattle.kit.proofs.TruthLaws.{truth-true, truth-false}
-use Rattle.mapset.specs.Areas.{Sound, six}
+use Rattle.mapset.specs.Areas.{six}
 use Rattle.mapset.specs.Grid.{layers}
 use Rattle.mapset.specs.Described.{FullTexts}
 use Rattle.ask_spans.specs.Time.{epoch, Uses}
@@ -15,7 +15,7 @@ use Rattle.ask_cells.specs.declared.Cell.{Cell}
 use Rattle.ask_nodes.specs.declared.Shape.{Shape}
 use Rattle.ask.specs.Sun.{in-time, Cells}
 use Rattle.ask.specs.Turned.{PairFound}
-use Rattle.ask.specs.Ask.{Question, question, go, epochs, InTime, Inside, Open, shape}
+use Rattle.ask.specs.Ask.{Question, question, go, epochs, InTime, Open}
 use Rattle.ask.proofs.AskLaws.{due, in-time-small, steady, spanned, few-epochs, can-ask, can-sum, has-weight, placed-answer}
 use Rattle.ask.proofs.Strip.{placed, inside-of}
 use Rattle.ask.proofs.value_at.Statement.{statement}

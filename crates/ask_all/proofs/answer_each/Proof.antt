@@ -65,6 +65,16 @@ module _ (c : tie.In-loop Inv-loop μ-loop) where
   in-values : (k < length (c .before .loop .values)) × (k < length (now (start .args .values)))
   in-values = (omega (arith, c .loop-test .taken, room start .values, c .before .loop .inv .1 .as-many-values), omega (arith, c .loop-test .taken, room start .values))
 
+-- what is asked is question k's own place and second
+its-lat : (c : tie.After-degrees-of Inv-loop μ-loop) → c .degrees-of .result ≡ getD (now (start (c .before) .args .lats)) (k (c .before)) (pos 0)
+its-lat c = c .degrees-of .ensures
+
+its-lon : (c : tie.After-degrees-of2 Inv-loop μ-loop) → c .degrees-of2 .result ≡ getD (now (start (c .before .before) .args .lons)) (k (c .before .before)) (pos 0)
+its-lon c = c .degrees-of2 .ensures
+
+its-second : (c : tie.After-second-of Inv-loop μ-loop) → c .second-of .result ≡ getD (now (start (c .before .before .before) .args .seconds)) (k (c .before .before .before)) 0
+its-second c = c .second-of .ensures
+
 degrees-of-requires : tie.Need-degrees-of-requires Inv-loop μ-loop
 degrees-of-requires c κs = omega (arith, in-lats c)
 
@@ -97,7 +107,7 @@ loop-again c =
     let e = v .before .before .degrees-of2 in
     let x : toZ w32 (ofZ w32 (n .result)) ≡ n .result = search needs in
     let y : toZ w32 (ofZ w32 (e .result)) ≡ e .result = search needs in
-    let r = rw (x, y, n .ensures, e .ensures, v .before .second-of .ensures) at (v .value-at .ensures) in
+    let r = rw (x, y, its-lat (v .before .before .before), its-lon (v .before .before), its-second (v .before)) at (v .value-at .ensures) in
     (omega arith, subst (λ (m : Slots). Each (told-at s) (l .k + 1) (asked s) (found s) m) (sym (d .put .ensures)) (each-next (told-at s) (asked s) (found s) (l .k) (slots (l .answers) (l .values)) (l .inv .1) (in-answers t .1) (in-values t .1) (told (v .value-at .result)) r))
 
 same-length : tie.Need-same-length Inv-loop μ-loop

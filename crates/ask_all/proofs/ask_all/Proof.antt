@@ -1,6 +1,6 @@
 -- `ask_all::ask_all` meets its contract.
 use borrow.Author.Needs.{needs}
-use mathlib.Core.Path.{_≡_, refl, ap, subst, _∙_}
+use mathlib.Core.Path.{_≡_, refl, ap, _∙_}
 use native.Mathlib.Omega.{arith}
 use Prim.Native.Nat.{ℕ}
 use lib.IntN.{ℤ}
@@ -8,10 +8,10 @@ use lib.ListN.{length}
 use denote.Ref.{now}
 use Rattle.mapset.specs.Described.{full}
 use Rattle.mapset.specs.Areas.{Areas, six}
-use Rattle.ask.specs.Ask.{Question, question, Told, Open, Answers}
-use Rattle.ask.specs.Looked.{ValueAt}
+use Rattle.ask.specs.Ask.{Question, question, Open, Answers}
 use Rattle.ask.proofs.Opened.{open-answers}
-use Rattle.ask_all.specs.AskAll.{Places, places, Slots, slots, lesser, count, Each, barred, answered}
+use Rattle.kit.specs.Range.{lesser}
+use Rattle.ask_all.specs.AskAll.{Places, places, Slots, slots, count, barred, answered}
 use Rattle.ask_all.proofs.EachLaws.{each-by}
 use Rattle.ask_all.proofs.ask_all.Statement.{statement}
 use Rattle.ask_all.proofs.ask_all.Tie as tie

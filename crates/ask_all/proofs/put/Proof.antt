@@ -8,7 +8,7 @@ use denote.Ref.{now}
 use mir.Syntax.{w32}
 use mir.Val.{toZ, ofZ}
 use Rattle.ask.specs.Ask.{told}
-use Rattle.ask_all.specs.AskAll.{Slots, slots, value-or}
+use Rattle.ask_all.specs.AskAll.{slots, value-or}
 use Rattle.ask_all.proofs.put.Statement.{statement}
 use Rattle.ask_all.proofs.put.Tie as tie
 

@@ -20,7 +20,7 @@ add-if2 c = search needs
 
 returns-2 : tie.Need-returns-2
 unfolding after
-returns-2 c = rw (not-false (c .before .before .args .around) (c .before .if1 .left)) (sym (pick-yes (ℕ-discrete _ _) _ _ (c .if2 .taken)))
+returns-2 c = rw (not-false (c .before .before .args .around) (c .before .if1 .left)) (sym (pick-yes (ℕ-discrete _ _) 0 _ (c .if2 .taken)))
 
 add-result-2 : tie.Need-add-result-2
 add-result-2 c = search needs

@@ -11,7 +11,8 @@ use denote.Ref.{now}
 use Rattle.kit.proofs.TruthLaws.{truth-true, truth-false}
 use Rattle.mapset.specs.Areas.{Present}
 use Rattle.ask_nodes.specs.Value.{kind-of, block, value}
-use Rattle.ask_nodes.specs.Nodes.{in-node, plain}
+use Rattle.ask_nodes.specs.Nodes.{plain}
+use Rattle.ask_nodes.specs.Units.{in-node}
 use Rattle.ask_nodes.proofs.NodeLaws.{worth-absent, worth-present}
 use Rattle.ask_nodes.proofs.node_at.Statement.{statement}
 use Rattle.ask_nodes.proofs.node_at.Tie as tie

@@ -1,8 +1,10 @@
 -- `ask_spans::is_before` meets its contract.
 use borrow.Author.Needs.{needs}
-use mathlib.Core.Path.{_≡_}
 use mathlib.Core.Logic.{inl, inr, ⊎-elim}
 use native.Mathlib.Omega.{arith}
+use Prim.Native.Nat.{_+_, _<_}
+use denote.Ref.{now}
+use Rattle.ask_spans.specs.Time.{epoch}
 use Rattle.ask_spans.proofs.is_before.Statement.{statement}
 use Rattle.ask_spans.proofs.is_before.Tie as tie
 
@@ -13,7 +15,10 @@ shared-slice-read-if1 : tie.Need-shared-slice-read-if1
 shared-slice-read-if1 c = search needs
 
 returns : tie.Need-returns
-returns c b = omega (arith, b .past, c .if1 .taken)
+returns c b =
+    let a = c .before .before .args in
+    let late : a .second < epoch (now (a .epochs)) (a .i) = c .if1 .taken in
+    omega (arith, b .past, late)
 
 sub-if2 : tie.Need-sub-if2
 sub-if2 c = search needs
@@ -36,7 +41,9 @@ returns-3 c b = ⊎-elim (λ e. omega (arith, e, c .before .before .if2 .left)) 
 
 returns-4 : tie.Need-returns-4
 returns-4 c =
-    record { map = c .before .before .before .before .before .pre; past = omega (arith, c .before .before .before .if1 .left); next = inr (omega (arith, c .if3 .left)) }
+    let a = c .before .before .before .before .before .args in
+    let early : a .second < epoch (now (a .epochs)) (a .i + 1) = c .if3 .left in
+    record { map = c .before .before .before .before .before .pre; past = omega (arith, c .before .before .before .if1 .left); next = inr early }
 
 pub is-before-spec : {M : Type 1} → statement M
 is-before-spec =

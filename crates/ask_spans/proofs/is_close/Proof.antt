@@ -50,10 +50,10 @@ shared-slice-read-if1-2 : tie.Need-shared-slice-read-if1-2 Inv-loop μ-loop
 shared-slice-read-if1-2 c = search needs
 
 sub-if1 : tie.Need-sub-if1 Inv-loop μ-loop
-sub-if1 c = let l = c .before .before .before in omega (arith, l .before .pre .rises (l .loop .i) (c .before .before .loop-test .taken))
+sub-if1 c = let l = c .before .before .before in omega (arith, l .before .pre .rises (l .loop .i) (omega (arith, c .before .before .loop-test .taken)))
 
 returns : tie.Need-returns Inv-loop μ-loop
-returns c h = let l = c .before .before .before .before in omega (arith, h (l .loop .i) (c .before .before .before .loop-test .taken), c .if1 .taken)
+returns c h = let l = c .before .before .before .before in omega (arith, h (l .loop .i) (omega (arith, c .before .before .before .loop-test .taken)), c .if1 .taken)
 
 add-i : tie.Need-add-i Inv-loop μ-loop
 add-i c = search needs
@@ -67,7 +67,10 @@ loop-again c =
     (omega arith, until-next (l .before .args .limit) (now (l .before .args .epochs)) (l .loop .i) (l .loop .inv .1) (omega (arith, c .if1 .left)))
 
 returns-2 : tie.Need-returns-2 Inv-loop μ-loop
-returns-2 c = let l = c .before in λ j h. l .loop .inv .1 j (omega (arith, c .loop-test .left)) h
+returns-2 c =
+    let l = c .before in
+    let no-gap-left : length (now (l .before .args .epochs)) ≤ l .loop .i + 1 = c .loop-test .left in
+    λ j h. l .loop .inv .1 j (omega (arith, no-gap-left)) h
 
 pub is-close-spec : {M : Type 1} → statement M
 is-close-spec =

@@ -4,7 +4,7 @@ use mathlib.Core.Path.{_≡_, ap, _∙_}
 use lib.IntN.{ℤ}
 use mir.Syntax.{w64}
 use mir.Val.{toZ, ofZ}
-use Rattle.ask_sums.specs.Sums.{Room, add-node}
+use Rattle.ask_sums.specs.Sums.{SumRoom, add-node}
 use Rattle.ask_sums.specs.declared.Sum.the-variants as S
 use Rattle.ask_sums.proofs.add.Statement.{statement}
 use Rattle.ask_sums.proofs.add.Tie as tie
@@ -14,14 +14,14 @@ module _ (k : tie.After-known-told) where
   back-tecu : toZ w64 (ofZ w64 (k .before .sum .given .0 .0)) ≡ k .before .sum .given .0 .0
   back-tecu = search needs
 
-  room-tecu : Room (S.Tecu (k .before .sum .given .0 .0) (k .before .sum .given .0 .1 .0)) (k .before .before .before .args .weight)
+  room-tecu : SumRoom (S.Tecu (k .before .sum .given .0 .0) (k .before .sum .given .0 .1 .0)) (k .before .before .before .args .weight)
   room-tecu = rw (k .before .sum .given .1) at (k .before .before .before .pre .0)
 
 module _ (k : tie.After-known-told2) where
   back-km : toZ w64 (ofZ w64 (k .before .sum2 .given .0 .0)) ≡ k .before .sum2 .given .0 .0
   back-km = search needs
 
-  room-km : Room (S.Km (k .before .sum2 .given .0 .0) (k .before .sum2 .given .0 .1 .0)) (k .before .before .before .args .weight)
+  room-km : SumRoom (S.Km (k .before .sum2 .given .0 .0) (k .before .sum2 .given .0 .1 .0)) (k .before .before .before .args .weight)
   room-km = rw (k .before .sum2 .given .1) at (k .before .before .before .pre .0)
 
 add-tecu-requires : tie.Need-add-tecu-requires

@@ -1,6 +1,6 @@
 -- `ask_sums::add_tecu` meets its contract.
 use borrow.Author.Needs.{needs}
-use mathlib.Core.Path.{_≡_, ap, _∙_}
+use mathlib.Core.Path.{_≡_, refl, ap, _∙_}
 use Prim.Native.Nat.{_+_, _≤_}
 use native.Mathlib.Nat.{mul-le-mul, le-refl}
 use native.Mathlib.Omega.{arith}
@@ -11,10 +11,6 @@ use mir.Facts.{toZ-ofZ}
 use Rattle.ask_sums.specs.declared.Sum.the-variants as S
 use Rattle.ask_sums.proofs.add_tecu.Statement.{statement}
 use Rattle.ask_sums.proofs.add_tecu.Tie as tie
-
--- kilometres are not added
-returns-2 : tie.Need-returns-2
-returns-2 c = search needs
 
 -- the node's value
 module _ (c : tie.After-struct-told) where
@@ -32,6 +28,7 @@ mul-add-requires c κs =
     let s = c .before .before .before .before in
     rw (toZ-ofZ (s .fits .total), back c) (omega (arith, s .pre .0), omega (arith, s .pre .0, mul-le-mul (le-refl (s .args .weight)) (small c)))
 
+-- what is added is TECU
 returns : tie.Need-returns
 returns c =
     let d = c .before in
@@ -39,6 +36,10 @@ returns c =
     let r : toZ w64 (ofZ w64 (c .mul-add .result)) ≡ c .mul-add .result = search needs in
     let e = rw (toZ-ofZ (s .fits .total), back d) at (c .mul-add .ensures) in
     rw (d .before .before .n .given .1) (ap (λ (z : ℤ). S.Tecu z (s .args .weights + s .args .weight)) (r ∙ e))
+
+-- kilometres are not added
+returns-2 : tie.Need-returns-2
+returns-2 c = rw (c .before .n2 .given .1) refl
 
 enum-known-n : tie.Need-enum-known-n
 enum-known-n c = search needs

@@ -4,7 +4,7 @@ use mathlib.Core.Path.{sym, ap, _∙_}
 use Prim.Native.Nat.{ℕ}
 use native.Mathlib.Omega.{arith}
 use lib.ListN.{getD}
-use Rattle.ask_nodes.specs.Nodes.{corner}
+use Rattle.ask_nodes.specs.Value.{corner}
 use Rattle.ask_sums.specs.Sums.{four}
 use Rattle.ask_sums.proofs.SumLaws.{plain-node, strip-node, beside-less}
 use Rattle.ask_sums.proofs.corner_of.Statement.{statement}

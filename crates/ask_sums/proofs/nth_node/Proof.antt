@@ -4,7 +4,7 @@ use mathlib.Core.Path.{_≡_, sym, _∙_}
 use Prim.Native.Nat.{_+_, _-_}
 use lib.ListN.{getD}
 use native.Mathlib.Omega.{arith}
-use Rattle.ask_nodes.specs.Nodes.{corner}
+use Rattle.ask_nodes.specs.Value.{corner}
 use Rattle.ask_sums.specs.Mean.{corners}
 use Rattle.ask_sums.proofs.SumLaws.{early-node, late-node}
 use Rattle.ask_sums.proofs.nth_node.Statement.{statement}

@@ -7,18 +7,17 @@ use lib.IntN.{pos}
 use lib.ListN.{length, drop, getD, drop-of-length-le}
 use denote.Ref.{now}
 use Rattle.kit.proofs.ListLaws.{all-in}
-use Rattle.ask_nodes.specs.Value.{kind-of, value}
+use Rattle.ask_nodes.specs.Value.{kind-of, value, corner}
 use Rattle.ask_sums.specs.Mean.{spread, terms, weight}
-use Rattle.ask_sums.specs.Sums.{Reaches, Room, in-sum, add-value, add-all}
+use Rattle.ask_sums.specs.Sums.{Reaches, SumRoom, in-sum, add-value, add-all}
 use Rattle.ask_sums.proofs.SumLaws.{this-room, next-room, next-sum, start-room, eight-nodes}
 use Rattle.ask_nodes.specs.declared.Weighed.{Weighed}
-use Rattle.ask_nodes.specs.Nodes.{corner}
 use Rattle.ask_sums.proofs.sum_of.Statement.{statement}
 use Rattle.ask_sums.proofs.sum_of.Tie as tie
 
 abbrev Inv-loop : tie.InvT-loop
 Inv-loop shares first second s values exponents marks sum₀ k₀ sum k =
-    (k ≤ 8) × Room sum (weight (terms s values exponents marks (drop k (spread shares first second))))
+    (k ≤ 8) × SumRoom sum (weight (terms s values exponents marks (drop k (spread shares first second))))
     × (add-all (kind-of (s .kind)) sum (terms s values exponents marks (drop k (spread shares first second))) ≡ add-all (kind-of (s .kind)) (in-sum (kind-of (s .kind)) (pos 0) 0) (terms s values exponents marks (spread shares first second)))
 
 abbrev μ-loop : tie.MeasureT-loop

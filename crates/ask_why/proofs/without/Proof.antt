@@ -1,5 +1,4 @@
 -- `ask_why::without` meets its contract.
-use mathlib.Core.Path.{_∙_}
 use borrow.Author.Needs.{needs}
 use Rattle.ask_why.proofs.without.Statement.{statement}
 use Rattle.ask_why.proofs.without.Tie as tie

@@ -1,6 +1,6 @@
 -- `bias_text::read_biases` meets its contract.
 use mathlib.Core.Path.{refl, sym}
-use Rattle.mapset.specs.Described.{no-lines}
+use Rattle.mapset.specs.Lines.{no-lines}
 use Rattle.read_judge.proofs.NeedLaws.{judged}
 use Rattle.bias_fill.specs.Flat.{lent}
 use Rattle.bias_text.proofs.BiasedLaws.{maps-refused, maps-number}

@@ -1,5 +1,7 @@
 -- `bias_text::room_for` meets its contract.
 use mathlib.Core.Path.{sym, _∙_}
+use mathlib.Core.Option.{some}
+use Prim.Native.Nat.{ℕ, _*_, _≤_}
 use native.Mathlib.Omega.{arith}
 use native.Mathlib.Decide.{decLe}
 use Rattle.kit.proofs.AnswerLaws.{pick-yes, pick-no}
@@ -26,7 +28,9 @@ mul-t10 c = search needs
 
 returns-2 : tie.Need-returns-2
 unfolding first-short
-returns-2 c = sym (pick-yes (decLe _ _) _ _ (omega arith) ∙ pick-no (decLe _ _) _ _ (λ e. omega arith))
+returns-2 c =
+    let three-each : ℕ = 3 * c .before .before .args .heard in
+    sym (pick-yes (decLe _ _) _ _ (omega arith) ∙ pick-no (decLe _ _) _ (some (2, three-each)) (λ e. omega arith))
 
 mul-if3 : tie.Need-mul-if3
 mul-if3 c = search needs
@@ -40,7 +44,10 @@ returns-3 c = sym (pick-yes (decLe _ _) _ _ (omega arith) ∙ pick-yes (decLe _ 
 
 returns-4 : tie.Need-returns-4
 unfolding first-short
-returns-4 c = sym (pick-yes (decLe _ _) _ _ (omega arith) ∙ pick-yes (decLe _ _) _ _ (omega arith) ∙ pick-yes (decLe _ _) _ _ (omega arith))
+returns-4 c =
+    let a = c .before .before .before .args in
+    let twenty-each : 20 * a .heard ≤ a .names = c .if3 .left in
+    sym (pick-yes (decLe _ _) _ _ (omega arith) ∙ pick-yes (decLe _ _) _ _ (omega arith) ∙ pick-yes (decLe _ _) _ _ twenty-each)
 
 pub room-for-spec : {M : Type 1} → statement M
 room-for-spec =

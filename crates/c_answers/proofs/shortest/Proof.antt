@@ -1,5 +1,5 @@
 use mathlib.Core.Path.{ap, _∙_}
-use Rattle.c_answers.specs.Own.{lesser}
+use Rattle.kit.specs.Range.{lesser}
 use borrow.Author.Needs.{needs}
 use Rattle.c_answers.proofs.shortest.Statement.{statement}
 use Rattle.c_answers.proofs.shortest.Tie as tie

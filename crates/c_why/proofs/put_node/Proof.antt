@@ -7,7 +7,8 @@ use lib.IntN.{pos}
 use lib.ListN.{set, length-set}
 use mir.Syntax.{w64}
 use mir.Val.{toZ, ofZ}
-use Rattle.ask_nodes.specs.Nodes.{or-zero, bare}
+use Rattle.ask_nodes.specs.Units.{bare}
+use Rattle.ask_nodes.specs.Value.{or-zero}
 use Rattle.c_header.proofs.SetLaws.{back}
 use Rattle.c_why.proofs.put_node.Statement.{statement}
 use Rattle.c_why.proofs.put_node.Tie as tie

@@ -1,5 +1,4 @@
 -- `c_why::put_nodes` meets its contract.
-use borrow.Author.Needs.{needs}
 use mathlib.Core.Path.{_≡_, refl, ap, _∙_}
 use mathlib.Core.List.{List}
 use Prim.Native.Nat.{_+_, _*_, _-_, _≤_, _<_}

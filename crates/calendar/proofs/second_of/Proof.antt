@@ -4,7 +4,8 @@ use mathlib.Core.Path.{_≡_, ap, _∙_}
 use Prim.Native.Nat.{ℕ, _+_, _*_, _-_, _<_}
 use Rattle.days.specs.Sums.{sum}
 use Rattle.days.specs.Years.{row, monthDays, yearDays}
-use Rattle.calendar.specs.Calendar.{second, end}
+use Rattle.calendar.specs.Calendar.{second}
+use Rattle.calendar.specs.End.{end}
 use Rattle.days.proofs.YearLaws.{row-two}
 use Rattle.calendar.proofs.DateLaws.{below-end}
 use Rattle.calendar.specs.declared.Epoch.{Epoch}

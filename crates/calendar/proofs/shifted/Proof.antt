@@ -12,7 +12,7 @@ use mir.Val.{toZ, ofZ, SFits}
 use mir.Facts.{toZ-ofZ, toZ-pos}
 use Rattle.kit.specs.Integer.{up, dn}
 use Rattle.kit.proofs.Parts.{add-parts, one-zero, fits-parts, parts-fits, eq-parts, lt-true, below-zero, not-below-zero, nonneg-parts}
-use Rattle.calendar.specs.Calendar.{end}
+use Rattle.calendar.specs.End.{end}
 use Rattle.calendar.specs.Inner.{Moment}
 use Rattle.calendar.proofs.shifted.Statement.{statement}
 use Rattle.calendar.proofs.shifted.Tie as tie

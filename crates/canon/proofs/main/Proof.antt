@@ -1,4 +1,6 @@
 -- `canon::main` is safe and ends.
+use mathlib.Core.Path.{_≡_}
+use lib.ListN.{length}
 use native.Mathlib.Omega.{arith}
 use Rattle.canon.specs.Input.{Within}
 use borrow.Author.Needs.{needs}
@@ -22,7 +24,8 @@ print-answer-requires c κs =
     let i = c .before .before in
     let r = i .before .before .before in
     let w : Within (r .read-input .result) (r .read-input .last .0) = r .read-input .ensures in
-    (search needs, omega (arith, rw (i .input .given .1) at w))
+    let room : length (r .read-input .last .0) ≡ 32769 = search needs in
+    (room, omega (arith, rw (i .input .given .1) at w))
 
 enum-told : tie.Need-enum-told
 enum-told c = search needs

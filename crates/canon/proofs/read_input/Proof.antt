@@ -1,7 +1,6 @@
 -- `canon::read_input`: what was read stands within the buffer, whose length stays.
 use Prim.Native.Nat.{_≤_, _-_}
 use mathlib.Core.Path.{_≡_}
-use native.Mathlib.Omega.{arith}
 use lib.ListN.{length}
 use borrow.Author.Needs.{needs}
 use Rattle.canon.proofs.read_input.Statement.{statement}

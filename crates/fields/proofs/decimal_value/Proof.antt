@@ -1,7 +1,10 @@
 -- `fields::decimal_value` meets its contract.
-use mathlib.Core.Path.{_∙_}
+use mathlib.Core.Path.{_≡_, ap, _∙_}
+use Prim.Native.Nat.{ℕ}
 use mir.Facts.{toZ-ofZ}
 use borrow.Author.Needs.{needs}
+use Rattle.forms.specs.Form.{signed, numeral}
+use Rattle.forms.specs.Bytes.{hasMinus}
 use Rattle.fields.proofs.decimal_value.Statement.{statement}
 use Rattle.fields.proofs.decimal_value.Tie as tie
 
@@ -19,10 +22,17 @@ signed-of-requires c κs =
     let s = c .before .before .before .before .before in
     rw (c .numeral-of2 .ensures, c .before .before .numeral-of .ensures) (s .pre .all)
 
+-- the sign is that of the bytes before the point
+sign-in-front : (c : tie.After-has-minus) → c .has-minus .result ≡ hasMinus (c .before .before .before .before .args .front .now)
+sign-in-front c = c .has-minus .ensures
+
 returns : tie.Need-returns
 returns c =
-    let n = c .before .before .before in
-    toZ-ofZ (record { sfits = c .signed-of .ok }) ∙ c .signed-of .ensures ∙ (rw (c .before .before .has-minus .ensures, c .before .numeral-of2 .ensures, n .numeral-of .ensures))
+    let h = c .before .before in
+    let n = h .before in
+    let p = n .before .before .before .args .part .now in
+    let number = c .before .numeral-of2 .ensures ∙ ap (λ (w : ℕ). numeral w p) (n .numeral-of .ensures) in
+    toZ-ofZ (record { sfits = c .signed-of .ok }) ∙ c .signed-of .ensures ∙ (λ i. signed (sign-in-front h i) (number i))
 
 pub decimal-value-spec : {M : Type 1} → statement M
 decimal-value-spec =

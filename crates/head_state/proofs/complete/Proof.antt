@@ -1,9 +1,12 @@
 use mathlib.Core.Path.{_≡_, _∙_, sym, refl}
+use mathlib.Core.Bool.{false}
 use mathlib.Core.Logic.{⊎-elim}
 use Prim.Native.Nat.{_-_, _≤_}
 use native.Mathlib.Omega.{arith}
+use lib.ListN.{getD}
 use borrow.Author.Needs.{needs}
 use borrow.Author.Tests.{not-true, not-false}
+use Rattle.mapset.specs.Header.{starred}
 use Rattle.head_state.proofs.GotLaws.{complete-from, complete-all, may-miss, got-one, missed, complete-end}
 use Rattle.head_state.proofs.complete.Statement.{statement}
 use Rattle.head_state.proofs.complete.Tie as tie
@@ -13,6 +16,10 @@ Inv-loop s i₀ i = (i ≤ 22) × (complete-from s i ≡ complete-from s 0)
 
 abbrev μ-loop : tie.MeasureT-loop
 μ-loop s i₀ i = 22 - i
+
+-- where a record must stand
+unstarred : (c : tie.Then1 Inv-loop μ-loop) → getD starred (c .before .before .loop .i) false ≡ false
+unstarred c = not-true (getD starred (c .before .before .loop .i) false) (c .if1 .taken)
 
 loop-holds : tie.Need-loop-holds Inv-loop μ-loop
 loop-holds c = (search needs, refl)
@@ -28,7 +35,7 @@ returns c =
     let t = c .before .before in
     let l = t .before .before in
     let s = l .before .args .t1 in
-    sym (missed s (l .loop .i) (omega arith) (not-true _ (t .if1 .taken)) (not-true _ (c .if2 .taken))) ∙ l .loop .inv .1 ∙ complete-all s
+    sym (missed s (l .loop .i) (omega arith) (unstarred t) (not-true _ (c .if2 .taken))) ∙ l .loop .inv .1 ∙ complete-all s
 
 add-i : tie.Need-add-i Inv-loop μ-loop
 add-i c = omega arith

@@ -1,6 +1,6 @@
 use mathlib.Core.Path.{_≡_, ap, ap₂, _∙_}
 use mathlib.Core.List.{List, _++_}
-use Prim.Native.Nat.{ℕ, _+_, _*_, _-_}
+use Prim.Native.Nat.{ℕ, _+_, _*_, _-_, _<_, _≤_}
 use native.Mathlib.Omega.{arith}
 use lib.ListN.{length, take, drop, length-take, length-drop}
 use Rattle.kit.specs.Answer.{ok}
@@ -12,6 +12,10 @@ use Rattle.head_step.proofs.LinesLaws.{twenty-first, one-more}
 use borrow.Author.Needs.{needs}
 use Rattle.head_step.proofs.at_description.Statement.{statement}
 use Rattle.head_step.proofs.at_description.Tie as tie
+
+-- fewer than 20 lines stand before one that is taken
+few : (c : tie.Else1) → c .before .before .before .before .args .s .descriptions < 20
+few c = omega (arith, c .if1 .left)
 
 refuse-requires : tie.Need-refuse-requires
 refuse-requires c κs = search needs
@@ -38,7 +42,10 @@ part-text-into-start : tie.Need-part-text-into-start
 part-text-into-start c = search needs
 
 part-text-into-end : tie.Need-part-text-into-end
-part-text-into-end c = search needs
+part-text-into-end c =
+    let b = c .before .before .before .before .before in
+    let behind-the-last : 60 * b .args .s .descriptions + 60 ≤ length (b .args .lines .now) = omega (arith, few (c .before), b .pre .1 .whole) in
+    behind-the-last
 
 text-into-requires : tie.Need-text-into-requires
 text-into-requires c κs = search needs
@@ -62,7 +69,7 @@ returns-2 c =
     let at = 60 * s .descriptions in
     let n : at + 60 - at ≡ 60 = omega arith in
     let z : length (take (at + 60 - at) (drop at bs)) ≡ 60 = simp (length-take, length-drop) (omega (arith, b .pre .1 .whole)) in
-    let d : t .text-into .last .1 .1 .0 ≡ columns line 0 60 = t .text-into .ensures ∙ ap (columns line 0) z in
+    let d : t .text-into .last .1 .1 .0 ≡ columns line 0 60 = t .text-into .ensures ∙ (λ i. columns line 0 (z i)) in
     one-more s bs line (b .pre .1) (c .more .result) (b .pre .0) (omega arith) _
     (ap₂ (λ (ys : List ℕ) (k : ℕ). take at bs ++ (ys ++ drop k (drop at bs))) d n)
     (c .more .ensures ∙ ap (λ (w : Slots). ok (went (mode (s .aux)) (s .exponent) w (s .descriptions + 1))) (same-slots s (s .aux) (s .exponent) (s .descriptions + 1)))

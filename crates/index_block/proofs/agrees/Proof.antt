@@ -1,7 +1,10 @@
 use mathlib.Core.Path.{_≡_, sym, ap, _∙_}
+use mathlib.Core.Bool.{Bool}
 use Prim.Native.Nat.{_-_, _%_}
 use native.Mathlib.Omega.{arith}
 use lib.IntN.{ℤ}
+use mir.Syntax.{w32}
+use mir.Val.{toZ, ofZ}
 use mir.Facts.{toZ-ofZ}
 use borrow.Author.Tests.{not-true, not-false}
 use Rattle.kit.specs.Integer.{int?}
@@ -15,12 +18,14 @@ use borrow.Author.Needs.{needs}
 use Rattle.index_block.proofs.agrees.Statement.{statement}
 use Rattle.index_block.proofs.agrees.Tie as tie
 
-row-is : (c : tie.After-row-agrees) → let a = c .before .before .args in
-    c .row-agrees .result ≡ truth (int? (a .latitude) (node (a .header .grid .latitudes) ((per-map (a .header) - (c .before .per-map .result - a .d)) % rows (a .header .grid))))
+-- whether a latitude is the row's
+abbrev is-row : tie.After-row-agrees → ℤ → Bool
+is-row c x = let a = c .before .before .args in truth (int? x (node (a .header .grid .latitudes) ((per-map (a .header) - (c .before .per-map .result - a .d)) % rows (a .header .grid))))
+
+row-is : (c : tie.After-row-agrees) → c .row-agrees .result ≡ is-row c (c .before .before .args .latitude)
 row-is c =
-    let a = c .before .before .args in
-    c .row-agrees .ensures
-    ∙ ap (λ (x : ℤ). truth (int? x (node (a .header .grid .latitudes) ((per-map (a .header) - (c .before .per-map .result - a .d)) % rows (a .header .grid))))) (toZ-ofZ (c .before .before .fits .latitude))
+    let of-latitude : c .row-agrees .result ≡ is-row c (toZ w32 (ofZ w32 (c .before .before .args .latitude))) = c .row-agrees .ensures in
+    of-latitude ∙ ap (is-row c) (toZ-ofZ (c .before .before .fits .latitude))
 
 column-is : (c : tie.After-differs) → let a = c .before .before .before .before .args in c .differs .result ≡ differing (a .header .grid .longitudes) (a .first) (a .last) (a .step)
 column-is c = let f = c .before .before .before .before .fits in rw (toZ-ofZ (f .first), toZ-ofZ (f .last), toZ-ofZ (f .step)) at (c .differs .ensures)

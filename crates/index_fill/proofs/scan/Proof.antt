@@ -1,4 +1,4 @@
-use mathlib.Core.Path.{ap, _∙_}
+use mathlib.Core.Path.{_≡_, ap, _∙_}
 use Prim.Native.Nat.{_-_, _<_}
 use native.Mathlib.Omega.{arith}
 use lib.ListN.{length}
@@ -7,9 +7,9 @@ use mir.Val.{toZ}
 use mir.Facts.{toZ-ofZ}
 use borrow.Author.Needs.{needs}
 use Rattle.mapset.specs.declared.Kind.{Kind}
-use Rattle.index.specs.Index.{entries}
+use Rattle.index.specs.Index.{Entries, entries}
 use Rattle.index.specs.Made.{placed-from}
-use Rattle.index_fill.specs.Enter.{entered-from}
+use Rattle.index_fill.specs.Enter.{enters, entered-from}
 use Rattle.index_fill.proofs.ScanLaws.{Going, Sized, going-start, going-sized, going-next, going-more, going-done, as-long, as-found, ahead}
 use Prim.Native.Nat.{ℕ}
 use Rattle.index_fill.proofs.scan.Statement.{statement}
@@ -39,11 +39,18 @@ step-at-requires c κs =
 enter-requires : tie.Need-enter-requires Inv-loop μ-loop
 enter-requires c κs = let l = c .before .before .before .before .before in (going-next _ _ _ _ _ _ _ _ _ _ (l .loop .inv .1) _ (c .before .before .before .step-at .ensures) .stays, as-long (sizes l) (l .before .before .before .before .pre .1 .room))
 
+-- a block is entered where its opening line starts
+at-opening : (d : tie.After-step-at Inv-loop μ-loop) {y : Entries} → let l = d .before .before in
+    let a = l .before .before .before .before .args in
+    y ≡ enters (a .size .maps) (a .size .blocks) (d .step-at .result .event) (l .loop .at) (entries (l .loop .positions) (l .loop .exponents) (l .loop .marks))
+    → y ≡ enters (a .size .maps) (a .size .blocks) (d .step-at .result .event) (l .loop .at) (entries (l .loop .positions) (l .loop .exponents) (l .loop .marks))
+at-opening d e = e
+
 loop-less : tie.Need-loop-less Inv-loop μ-loop
 loop-less c = omega (arith, ahead (c .before .before .before .before .before .before .before .before .before .before .step-at .ensures), c .before .before .before .before .before .before .before .before .before .before .before .loop-test .taken)
 
 loop-again : tie.Need-loop-again Inv-loop μ-loop
-loop-again c = (_, going-more _ _ _ _ _ _ _ _ _ _ (c .before .before .before .before .before .before .before .before .before .before .before .before .loop .inv .1) _ (c .before .before .before .before .before .before .before .before .before .before .step-at .ensures) _ (c .before .before .before .before .before .before .enter .ensures))
+loop-again c = (_, going-more _ _ _ _ _ _ _ _ _ _ (c .before .before .before .before .before .before .before .before .before .before .before .before .loop .inv .1) _ (c .before .before .before .before .before .before .before .before .before .before .step-at .ensures) _ (at-opening (c .before .before .before .before .before .before .before .before .before .before) (c .before .before .before .before .before .before .enter .ensures)))
 
 same-length : tie.Need-same-length Inv-loop μ-loop
 same-length c = sizes (c .before) .positions

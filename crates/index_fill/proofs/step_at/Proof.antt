@@ -21,25 +21,34 @@ line-in-requires c κs = search needs
 enum-told : tie.Need-enum-told
 enum-told c = search needs
 
+passed-requires : tie.Need-passed-requires
+passed-requires c κs = search needs
+
 enum-told-2 : tie.Need-enum-told-2
 enum-told-2 c = search needs
+
+passed-requires-2 : tie.Need-passed-requires-2
+passed-requires-2 c κs = search needs
 
 enum-known-next : tie.Need-enum-known-next
 enum-known-next c = search needs
 
-add-t23 : tie.Need-add-t23
-add-t23 c = let b = c .before .before .before .before .before .before in
+add-passed : tie.Need-add-passed
+add-passed c = let b = c .before .before .before .before .before .before in
     let t = b .args .text .now in
     let at = b .args .at in
     let h = stands t at _ _ (c .before .before .before .line-in .ensures) (c .before .next .given .1) in
     let e = skip-in t at (omega (arith, b .pre .0)) _ h in
     omega arith
 
+passed-requires-3 : tie.Need-passed-requires-3
+passed-requires-3 c κs = search needs
+
 enum-known-width : tie.Need-enum-known-width
 enum-known-width c = search needs
 
-add-t26 : tie.Need-add-t26
-add-t26 c = let b = c .before .before .before .before .before .before .before in
+add-passed-2 : tie.Need-add-passed-2
+add-passed-2 c = let b = c .before .before .before .before .before .before .before in
     let t = b .args .text .now in
     let at = b .args .at in
     let h = stands t at _ _ (c .before .before .before .before .line-in .ensures) (c .before .before .width .given .1) in
@@ -49,12 +58,15 @@ add-t26 c = let b = c .before .before .before .before .before .before .before in
 less-16-requires : tie.Need-less-16-requires
 less-16-requires c κs = search needs
 
+passed-requires-4 : tie.Need-passed-requires-4
+passed-requires-4 c κs = search needs
+
 returns : tie.Need-returns
-returns c = let b = c .before .before .before .before .before .before .before .before in
+returns c = let b = c .before .before .before .before .before .before .before .before .before in
     let t = b .args .text .now in
     let at = b .args .at in
-    let h = stands t at _ _ (c .before .before .before .before .before .line-in .ensures) (c .before .before .before .width .given .1) in
-    turned-value t at (b .args .values) (b .args .s) (b .args .columns) (b .pre .0) _ _ h _ (c .before .if1 .taken) (c .less-16 .ensures)
+    let h = stands t at _ _ (c .before .before .before .before .before .before .line-in .ensures) (c .before .before .before .before .width .given .1) in
+    rw (c .passed4 .ensures) (turned-value t at (b .args .values) (b .args .s) (b .args .columns) (b .pre .0) _ _ h _ (c .before .before .if1 .taken) (c .before .less-16 .ensures))
 
 add-e : tie.Need-add-e
 add-e c = let b = c .before .before .before .before .before .before .before in
@@ -85,8 +97,8 @@ brought-by-requires c κs = let b = c .before .before .before .before .before .b
     let h = stands t at _ _ (c .before .before .before .before .before .line-in .ensures) (c .before .before .before .width .given .1) in
     (row-fits t at (omega (arith, b .pre .0)) _ _ h, b .pre .1)
 
-add-t30 : tie.Need-add-t30
-add-t30 c = let b = c .before .before .before .before .before .before .before .before .before .before in
+add-t26 : tie.Need-add-t26
+add-t26 c = let b = c .before .before .before .before .before .before .before .before .before .before in
     let t = b .args .text .now in
     let at = b .args .at in
     let h = stands t at _ _ (c .before .before .before .before .before .before .before .line-in .ensures) (c .before .before .before .before .before .width .given .1) in
@@ -97,25 +109,25 @@ due-of-requires : tie.Need-due-of-requires
 due-of-requires c κs = search needs
 
 returns-2 : tie.Need-returns-2
-returns-2 c = let b = c .before .before .before .before .before in
+returns-2 c = let b = c .before .before .before .before .before .before in
     let t = b .args .text .now in
     let at = b .args .at in
-    let h = stands t at _ _ (c .before .before .line-in .ensures) (c .enum-told .given .1) in
-    turned-over t at (b .args .values) (b .args .s) (b .args .columns) (b .pre .0) (over-rows t at h)
+    let h = stands t at _ _ (c .before .before .before .line-in .ensures) (c .before .enum-told .given .1) in
+    rw (c .passed .ensures) (turned-over t at (b .args .values) (b .args .s) (b .args .columns) (b .pre .0) (over-rows t at h))
 
 returns-3 : tie.Need-returns-3
-returns-3 c = let b = c .before .before .before .before .before in
+returns-3 c = let b = c .before .before .before .before .before .before in
     let t = b .args .text .now in
     let at = b .args .at in
-    let h = stands t at _ _ (c .before .before .line-in .ensures) (c .enum-told2 .given .1) in
-    turned-over t at (b .args .values) (b .args .s) (b .args .columns) (b .pre .0) (bad-rows t at _ _ h)
+    let h = stands t at _ _ (c .before .before .before .line-in .ensures) (c .before .enum-told2 .given .1) in
+    rw (c .passed2 .ensures) (turned-over t at (b .args .values) (b .args .s) (b .args .columns) (b .pre .0) (bad-rows t at _ _ h))
 
 returns-4 : tie.Need-returns-4
-returns-4 c = let b = c .before .before .before .before .before .before in
+returns-4 c = let b = c .before .before .before .before .before .before .before in
     let t = b .args .text .now in
     let at = b .args .at in
-    let h = stands t at _ _ (c .before .before .before .line-in .ensures) (c .before .next .given .1) in
-    turned-skip t at (b .args .values) (b .args .s) (b .args .columns) (b .pre .0) _ h
+    let h = stands t at _ _ (c .before .before .before .before .line-in .ensures) (c .before .before .next .given .1) in
+    rw (c .passed3 .ensures) (turned-skip t at (b .args .values) (b .args .s) (b .args .columns) (b .pre .0) _ h)
 
 returns-5 : tie.Need-returns-5
 returns-5 c = let b = c .before .before .before .before .before .before .before .before .before .before .before in
@@ -133,19 +145,23 @@ step-at-spec =
     part-line-in-end
     line-in-requires
     enum-told
+    passed-requires
     enum-told-2
+    passed-requires-2
     enum-known-next
-    add-t23
+    add-passed
+    passed-requires-3
     enum-known-width
-    add-t26
+    add-passed-2
     less-16-requires
+    passed-requires-4
     returns
     add-e
     sub-brought-by
     part-brought-by-start
     part-brought-by-end
     brought-by-requires
-    add-t30
+    add-t26
     due-of-requires
     returns-2
     returns-3

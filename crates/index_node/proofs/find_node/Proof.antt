@@ -11,7 +11,7 @@ use Rattle.mapset.specs.Described.{full}
 use Rattle.mapset.specs.Areas.{Present, blocks}
 use Rattle.mapset.proofs.SoundLaws.{few-blocks}
 use Rattle.layout.specs.Layout.{per-map}
-use Rattle.areas.specs.Stores.{before, first-of}
+use Rattle.areas.specs.Places.{before, first-of}
 use Rattle.ask_nodes.specs.Value.{kind-of}
 use Rattle.index.specs.Index.{Index, Fit, Node, Inside, entries, index, node, entry, position, exponent}
 use Rattle.index.proofs.AsRead.{done-in}

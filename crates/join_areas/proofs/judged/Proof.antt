@@ -28,9 +28,6 @@ second c = truth-true _ (sym (c .before .valid2 .ensures) ∙ not-false _ (c .if
 same : (c : tie.Else3) → Alike (c .before .before .before .before .before .before .before .before .before .before .before .before .args .early) (c .before .before .before .before .before .before .before .before .before .before .before .before .args .late)
 same c = truth-true _ (sym (c .before .alike .ensures) ∙ not-false _ (c .if3 .left))
 
-meets : (c : tie.Else4) → Meet (c .before .before .before .before .before .before .before .before .before .before .before .before .before .before .args .early) (c .before .before .before .before .before .before .before .before .before .before .before .before .before .before .args .late)
-meets c = truth-true _ (sym (c .before .meet .ensures) ∙ not-false _ (c .if4 .left))
-
 valid-requires : tie.Need-valid-requires
 valid-requires c κs = search needs
 
@@ -52,8 +49,17 @@ returns-3 c = let s = c .before .before .before .before .before .before .before 
 meet-requires : tie.Need-meet-requires
 meet-requires c κs = search needs
 
+-- 41 is told before 42: the number that is told where the epochs do not meet, that they do not, and what holds where they do
+tells-41 : ((c : tie.Then4) → let s = c .before .before .before .before .before .before .before .before .before .before .before .before .before .before in ¬ Meet (s .args .early) (s .args .late)) → tie.Need-returns-4
+tells-41 fails c =
+    let s = c .before .before .before .before .before .before .before .before .before .before .before .before .before .before in
+    lent-once (x s) (y s) (not-met (first (c .before .before .before .before .before .before)) (second (c .before .before .before .before)) (same (c .before .before)) (fails c))
+
 returns-4 : tie.Need-returns-4
-returns-4 c = let s = c .before .before .before .before .before .before .before .before .before .before .before .before .before .before in lent-once (x s) (y s) (not-met (first (c .before .before .before .before .before .before)) (second (c .before .before .before .before)) (same (c .before .before)) (truth-false _ (sym (c .before .meet .ensures) ∙ not-true _ (c .if4 .taken))))
+returns-4 = tells-41 (λ c. truth-false _ (sym (c .before .meet .ensures) ∙ not-true _ (c .if4 .taken)))
+
+meets : (c : tie.Else4) → Meet (c .before .before .before .before .before .before .before .before .before .before .before .before .before .before .args .early) (c .before .before .before .before .before .before .before .before .before .before .before .before .before .before .args .late)
+meets c = truth-true _ (sym (c .before .meet .ensures) ∙ not-false _ (c .if4 .left))
 
 in-limits-requires : tie.Need-in-limits-requires
 in-limits-requires c κs =

@@ -1,5 +1,7 @@
 use mathlib.Core.Path.{sym}
-use Prim.Native.Nat.{_≤_}
+use Prim.Native.Nat.{_+_, _*_, _≤_}
+use mir.Syntax.{w64}
+use mir.Val.{Fits}
 use native.Mathlib.Omega.{arith}
 use lib.ListN.{length}
 use lib.Seq.{length-take-le}
@@ -78,8 +80,12 @@ part-put-third-start-3 c = search needs
 part-put-third-end-3 : tie.Need-part-put-third-end-3
 part-put-third-end-3 c = search needs
 
+-- the later list's exponents of the third kind stand behind those of two kinds
 mul-put-third-4 : tie.Need-mul-put-third-4
-mul-put-third-4 c = search needs
+mul-put-third-4 c =
+    let n = c .before .before .before .before .before .before .before .before .before .before .before .args .n in
+    let behind-two : Fits w64 ((n + n) * 4) = search needs in
+    behind-two
 
 sub-put-third-4 : tie.Need-sub-put-third-4
 sub-put-third-4 c = search needs

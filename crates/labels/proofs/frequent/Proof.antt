@@ -1,6 +1,6 @@
-use mathlib.Core.Path.{sym, _∙_}
+use mathlib.Core.Path.{_≡_, sym, _∙_}
 use Rattle.layout.specs.Labels.{name}
-use Rattle.layout.specs.Names.{names}
+use Rattle.layout.specs.Names.{names, number-of}
 use Rattle.labels.proofs.Laws.{opens-block, says-comment, says-exponent}
 use borrow.Author.Needs.{needs}
 use Rattle.labels.proofs.frequent.Statement.{statement}
@@ -27,7 +27,10 @@ has-label-requires c κs = search needs
 
 returns-4 : tie.Need-returns-4
 unfolding names name
-returns-4 c = λ h. says-comment _ (sym (c .before .has-label .ensures) ∙ c .if5 .taken)
+returns-4 c =
+    let line = c .before .before .before .before .before .before .before .args .line .now in
+    let comment : 3 ≡ number-of line = says-comment line (sym (c .before .has-label .ensures) ∙ c .if5 .taken) in
+    λ h. comment
 
 returns-5 : tie.Need-returns-5
 returns-5 c = search needs

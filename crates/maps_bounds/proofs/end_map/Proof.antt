@@ -3,6 +3,9 @@ use native.Mathlib.Omega.{arith}
 use mir.Syntax.{w32}
 use mir.Val.{toZ, ofZ}
 use borrow.Author.Tests.{not-true, not-false}
+use lib.IntN.{pos}
+use Rattle.kit.specs.Integer.{int?}
+use Rattle.kit.specs.Truth.{truth}
 use Rattle.layout.specs.Text.{pad}
 use Rattle.reading.specs.declared.Place.the-variants.{Between}
 use Rattle.maps_bounds.specs.Steps.{force-of}
@@ -37,11 +40,16 @@ returns-2 c =
 counts-requires : tie.Need-counts-requires
 counts-requires c κs = search needs
 
+-- END's number is compared with that of its START
+compared : (c : tie.After-counts) → c .counts .result ≡ truth (int? (c .before .before .before .before .z .given .0 .0) (pos (c .before .before .before .before .before .before .before .before .before .before .args .this .number)))
+compared c =
+    let z : toZ w32 (ofZ w32 (c .before .before .before .before .z .given .0 .0)) ≡ c .before .before .before .before .z .given .0 .0 = search needs in
+    c .counts .ensures ∙ (λ i. truth (int? (z i) (pos (c .before .before .before .before .before .before .before .before .before .before .args .this .number))))
+
 returns-3 : tie.Need-returns-3
 returns-3 c =
     λ h es. let a = c .before .before .before .before .before .before .before .before .before .before .before .args in
-    let z : toZ w32 (ofZ w32 (c .before .before .before .before .before .z .given .0 .0)) ≡ c .before .before .before .before .before .z .given .0 .0 = search needs in
-    stops es 8 1 (end-number (force-of (a .past) es) (a .kind) (pad (a .line .now)) (a .this) (sym (c .before .before .before .before .before .before .before .before .before .same-kind .ensures) ∙ not-false _ (c .before .before .before .before .before .before .before .before .if1 .left)) _ (sym (c .before .before .before .before .before .before .before .one-number .ensures) ∙ ap told-one (c .before .before .before .before .before .z .given .1)) (omega arith) (rw z at (sym (c .before .counts .ensures)) ∙ not-true _ (c .if3 .taken)))
+    stops es 8 1 (end-number (force-of (a .past) es) (a .kind) (pad (a .line .now)) (a .this) (sym (c .before .before .before .before .before .before .before .before .before .same-kind .ensures) ∙ not-false _ (c .before .before .before .before .before .before .before .before .if1 .left)) _ (sym (c .before .before .before .before .before .before .before .one-number .ensures) ∙ ap told-one (c .before .before .before .before .before .z .given .1)) (omega arith) (sym (compared (c .before)) ∙ not-true _ (c .if3 .taken)))
 
 still-requires : tie.Need-still-requires
 still-requires c κs = search needs
@@ -54,8 +62,7 @@ returns-4 c =
 returns-5 : tie.Need-returns-5
 returns-5 c =
     λ h es. let a = c .before .before .before .before .before .before .before .before .before .before .before .before .args in
-    let z : toZ w32 (ofZ w32 (c .before .before .before .before .before .before .z .given .0 .0)) ≡ c .before .before .before .before .before .before .z .given .0 .0 = search needs in
-    c .still .ensures ∙ stills es Between (a .past) (end-fine (force-of (a .past) es) (a .kind) (pad (a .line .now)) (a .this) (sym (c .before .before .before .before .before .before .before .before .before .before .same-kind .ensures) ∙ not-false _ (c .before .before .before .before .before .before .before .before .before .if1 .left)) _ (sym (c .before .before .before .before .before .before .before .before .one-number .ensures) ∙ ap told-one (c .before .before .before .before .before .before .z .given .1)) (omega arith) (rw z at (sym (c .before .before .counts .ensures)) ∙ not-false _ (c .before .if3 .left)))
+    c .still .ensures ∙ stills es Between (a .past) (end-fine (force-of (a .past) es) (a .kind) (pad (a .line .now)) (a .this) (sym (c .before .before .before .before .before .before .before .before .before .before .same-kind .ensures) ∙ not-false _ (c .before .before .before .before .before .before .before .before .before .if1 .left)) _ (sym (c .before .before .before .before .before .before .before .before .one-number .ensures) ∙ ap told-one (c .before .before .before .before .before .before .z .given .1)) (omega arith) (sym (compared (c .before .before)) ∙ not-false _ (c .before .if3 .left)))
 
 pub end-map-spec : {M : Type 1} → statement M
 end-map-spec =

@@ -1,4 +1,5 @@
 use mathlib.Core.Path.{sym, _∙_}
+use Prim.Native.Nat.{suc}
 use native.Mathlib.Omega.{arith}
 use native.Mathlib.Decide.{decLe}
 use native.Mathlib.Numerals.{add-one}
@@ -11,7 +12,9 @@ add-result : tie.Need-add-result
 add-result c = search needs
 
 returns : tie.Need-returns
-returns c = add-one _ ∙ sym (pick-yes (decLe _ 18446744073709551615) _ _ (omega arith))
+returns c =
+    let n = c .before .args .n in
+    add-one n ∙ sym (pick-yes (decLe (suc n) 18446744073709551615) (suc n) 18446744073709551615 (omega arith))
 
 returns-2 : tie.Need-returns-2
 returns-2 c = sym (pick-no (decLe _ 18446744073709551615) _ _ (λ h. omega arith))

@@ -1,7 +1,8 @@
 -- `read_outcome::refused` meets its contract.
 use mathlib.Core.Path.{refl, ap}
 use borrow.Author.Needs.{needs}
-use Rattle.mapset.specs.Described.{full, no-lines}
+use Rattle.mapset.specs.Described.{full}
+use Rattle.mapset.specs.Lines.{no-lines}
 use Rattle.read_outcome.proofs.refused.Statement.{statement}
 use Rattle.read_outcome.proofs.refused.Tie as tie
 

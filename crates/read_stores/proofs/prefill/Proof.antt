@@ -1,11 +1,17 @@
-use mathlib.Core.Path.{sym, ap, _∙_}
+use mathlib.Core.Path.{_≡_, sym, ap, _∙_}
 use mathlib.Core.List.{List, _++_}
 use Prim.Native.Nat.{ℕ}
-use lib.ListN.{replicate, drop}
+use lib.ListN.{length, replicate, take, drop}
 use lib.Seq.{length-take-le}
 use borrow.Author.Needs.{needs}
 use Rattle.read_stores.proofs.prefill.Statement.{statement}
 use Rattle.read_stores.proofs.prefill.Tie as tie
+
+-- as many marks are cleared as there are maps
+cleared : (c : tie.After-clear-marks) →
+    let a = c .before .before .before .before .before .before .before .before .before .before .before .before .before .args in
+    c .clear-marks .last .0 ≡ replicate (length (take (a .size .maps) (a .marks .now))) 0
+cleared c = c .clear-marks .ensures
 
 returns : tie.Need-returns
 returns c =
@@ -16,7 +22,7 @@ returns c =
         c .before .before .before .before .before .before .before .before .clear-front2 .ensures,
         (
           c .before .before .before .before .before .clear-front3 .ensures,
-          ap (λ (t : List ℕ). t ++ drop (a .size .maps) (a .marks .now)) (c .before .before .clear-marks .ensures ∙ ap (λ j. replicate j 0) (length-take-le (a .size .maps) (a .marks .now) (b .pre .3))),
+          ap (λ (t : List ℕ). t ++ drop (a .size .maps) (a .marks .now)) (cleared (c .before .before) ∙ ap (λ j. replicate j 0) (length-take-le (a .size .maps) (a .marks .now) (b .pre .3))),
         ),
       ),
     )

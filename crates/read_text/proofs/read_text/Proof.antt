@@ -2,7 +2,7 @@ use mathlib.Core.Path.{_≡_, refl}
 use mir.Syntax.{w32}
 use mir.Val.{toZ, ofZ}
 use Rattle.mapset.specs.Areas.{six}
-use Rattle.mapset.specs.Described.{no-lines}
+use Rattle.mapset.specs.Lines.{no-lines}
 use Rattle.read_judge.proofs.JudgeLaws.{one-to-ten}
 use Rattle.read_text.proofs.StoreLaws.{outcome-refused}
 use borrow.Author.Needs.{needs}

@@ -1,8 +1,8 @@
-use Prim.Native.Nat.{_≤_, _-_, _*_}
+use Prim.Native.Nat.{_≤_, _+_, _-_, _*_}
 use native.Mathlib.Omega.{arith}
-use mathlib.Core.Path.{refl, sym, ap, _∙_}
+use mathlib.Core.Path.{_≡_, refl, sym, ap, _∙_}
 use mathlib.Core.Bool.{false}
-use lib.ListN.{length, take}
+use lib.ListN.{length, take, getD}
 use mir.Syntax.{w32}
 use mir.ValLaws.{toZ-ofZ}
 use Rattle.forms.specs.Form.{signed}
@@ -18,6 +18,14 @@ Inv-loop line out₀ m n p k₀ out k = (k ≤ m) × (Paired line p (m * 5) × P
 
 abbrev μ-loop : tie.MeasureT-loop
 μ-loop line out₀ m n p k₀ out k = m - k
+
+-- a value is made of its own two pairs of digits and its last digit
+own-pairs : (c : tie.After-five-digits Inv-loop μ-loop) →
+    let l = c .before .before .before in
+    let p = l .before .before .pairs-in .last .1 .1 .0 in
+    let a = l .loop .k * 5 in
+    c .five-digits .result ≡ getD p a 0 * 1000 + getD p (a + 2) 0 * 10 + (getD (l .before .before .before .before .before .args .line .now) (a + 4) 0 - 48)
+own-pairs c = c .five-digits .ensures
 
 mul-n : tie.Need-mul-n Inv-loop μ-loop
 mul-n c = omega arith
@@ -69,7 +77,7 @@ positive-requires c κs =
     let m = length (b .args .out .now) in
     let k = l .loop .k in
     let q = bare-num t m k (b .pre .0) (omega arith) (i .1 .passed) (b .pre .1 .1) in
-    rw (c .five-digits .ensures) (bare-below t _ m k (omega arith) (b .pre .1 .0) (i .0) q)
+    rw (own-pairs c) (bare-below t _ m k (omega arith) (b .pre .1 .0) (i .0) q)
 
 mul-t24 : tie.Need-mul-t24 Inv-loop μ-loop
 mul-t24 c = omega arith
@@ -93,7 +101,7 @@ loop-again c =
     let k = l .loop .k in
     let q = bare-num t m k (b .pre .0) (omega arith) (i .1 .passed) (b .pre .1 .1) in
     let v = bare-value t _ m k (omega arith) (b .pre .1 .0) (i .0) q in
-    let r = toZ-ofZ w32 _ (record { sfits = c .positive .ok }) ∙ c .positive .ensures ∙ ap (signed false) (c .before .five-digits .ensures) in
+    let r = toZ-ofZ w32 _ (record { sfits = c .positive .ok }) ∙ c .positive .ensures ∙ ap (signed false) (own-pairs (c .before)) in
     (omega arith, (i .0, put-more (i .1) (row-fits t m (b .pre .0)) (b .pre .0) (omega arith) _ (v ∙ sym (ap Number r))))
 
 same-length : tie.Need-same-length Inv-loop μ-loop

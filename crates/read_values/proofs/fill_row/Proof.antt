@@ -1,10 +1,12 @@
-use Prim.Native.Nat.{_≤_, _-_}
+use Prim.Native.Nat.{_≤_, _+_, _-_, _*_}
 use native.Mathlib.Omega.{arith}
-use mathlib.Core.Path.{sym, ap, _∙_}
+use mathlib.Core.Path.{_≡_, sym, ap, _∙_}
+use lib.ListN.{take, drop}
 use mir.Syntax.{w32}
 use mir.ValLaws.{toZ-ofZ}
 use borrow.Author.Needs.{needs}
-use Rattle.forms.specs.Read.{isNumber}
+use Rattle.forms.specs.Form.{I}
+use Rattle.forms.specs.Read.{isNumber, readField}
 use Rattle.forms.specs.declared.Field.the-variants.{Number}
 use Rattle.read_values.proofs.ValueLaws.{Put, put-none, put-more, put-all, okay-at, okay-room, five, field-whole}
 use Rattle.read_values.proofs.fill_row.Statement.{statement}
@@ -15,6 +17,11 @@ Inv-loop line out₀ m k₀ out k = (k ≤ m) × Put line m k out
 
 abbrev μ-loop : tie.MeasureT-loop
 μ-loop line out₀ m k₀ out k = m - k
+
+-- a value is read from its own five columns
+own-columns : (c : tie.After-int-value Inv-loop μ-loop) → let l = c .before .before .before in
+    Number (c .int-value .result) ≡ readField I (take (l .loop .k * 5 + 5 - l .loop .k * 5) (drop (l .loop .k * 5) (l .before .before .args .line .now)))
+own-columns c = c .int-value .ensures
 
 loop-holds : tie.Need-loop-holds Inv-loop μ-loop
 loop-holds c = (omega arith, put-none _ _)
@@ -70,7 +77,7 @@ loop-again c =
     let l = i .before in
     let b = l .before .before in
     let q = okay-room _ _ _ (b .pre .0) (b .pre .1 .0) (omega arith) (l .loop .inv .1 .passed) (b .pre .1 .1) in
-    (omega arith, put-more (l .loop .inv .1) (b .pre .0) (b .pre .1 .0) (omega arith) _ (sym (ap Number (toZ-ofZ w32 _ (record { sfits = c .int-value .ok })) ∙ c .int-value .ensures ∙ field-whole _ _ q)))
+    (omega arith, put-more (l .loop .inv .1) (b .pre .0) (b .pre .1 .0) (omega arith) _ (sym (ap Number (toZ-ofZ w32 _ (record { sfits = c .int-value .ok })) ∙ own-columns c ∙ field-whole _ _ q)))
 
 same-length : tie.Need-same-length Inv-loop μ-loop
 same-length c = c .before .loop .inv .1 .sized

@@ -14,7 +14,8 @@ use Rattle.kit.proofs.TruthLaws.{truth-true, truth-false, fails, both, truth-sa
 use Rattle.mapset.specs.Described.{full}
 use Rattle.mapset.specs.Areas.{Areas, six}
 use Rattle.mapset.specs.Sound.{HeaderSays, lengths, epochs?, marks?, lengths?}
-use Rattle.mapset.specs.SoundDecided.{sound?, sound-groups, groups-sound}
+use Rattle.mapset.specs.SoundDecided.{sound?}
+use Rattle.mapset.proofs.Groups.{sound-groups, groups-sound}
 use Rattle.sound.proofs.sound.Statement.{statement}
 use Rattle.sound.proofs.sound.Tie as tie
 

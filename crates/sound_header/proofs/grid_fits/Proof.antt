@@ -3,7 +3,8 @@ use borrow.Author.Needs.{needs}
 use Rattle.kit.specs.Answer.{×-dec}
 use Rattle.kit.proofs.TruthLaws.{both}
 use Rattle.mapset.specs.Grid.{heights, latitudes, longitudes}
-use Rattle.mapset.specs.Sound.{axis?, grid?}
+use Rattle.mapset.specs.Sound.{grid?}
+use Rattle.mapset.specs.SoundDecided.{axis?}
 use Rattle.sound_header.proofs.grid_fits.Statement.{statement}
 use Rattle.sound_header.proofs.grid_fits.Tie as tie
 

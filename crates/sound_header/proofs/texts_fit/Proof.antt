@@ -3,7 +3,8 @@ use borrow.Author.Needs.{needs}
 use denote.Ref.{now}
 use Rattle.kit.specs.Answer.{×-dec}
 use Rattle.kit.proofs.TruthLaws.{both}
-use Rattle.mapset.specs.Sound.{texts?, written?, lines?}
+use Rattle.mapset.specs.Sound.{texts?, lines?}
+use Rattle.mapset.specs.SoundDecided.{written?}
 use Rattle.mapset.proofs.SoundLaws.{written}
 use Rattle.sound_header.proofs.texts_fit.Statement.{statement}
 use Rattle.sound_header.proofs.texts_fit.Tie as tie

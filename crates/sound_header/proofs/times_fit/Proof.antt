@@ -4,7 +4,7 @@ use native.Mathlib.Decide.{decLt}
 use Rattle.kit.specs.Answer.{×-dec}
 use Rattle.kit.specs.Range.{within?}
 use Rattle.kit.proofs.TruthLaws.{both, lt-tells}
-use Rattle.calendar.specs.Calendar.{end}
+use Rattle.calendar.specs.End.{end}
 use Rattle.mapset.specs.Sound.{times?}
 use Rattle.sound_header.proofs.times_fit.Statement.{statement}
 use Rattle.sound_header.proofs.times_fit.Tie as tie

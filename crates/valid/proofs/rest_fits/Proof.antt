@@ -17,7 +17,7 @@ use Rattle.mapset.specs.declared.Kind.the-variants as K
 use Rattle.mapset.specs.Areas.{Areas, blocks, six}
 use Rattle.layout.specs.Layout.{per-map, exponent?}
 use Rattle.areas.specs.Valid.{needed, values-in}
-use Rattle.areas.specs.Stores.{first-of}
+use Rattle.areas.specs.Places.{first-of}
 use Rattle.valid.specs.Groups.{kind?, kind-need, Holds, of-kind?, rest?}
 use Rattle.valid.proofs.Whole.{few-blocks, kind-told, kind-holds, exponents-told}
 use Rattle.valid.proofs.rest_fits.Statement.{statement}
@@ -51,8 +51,8 @@ module _ (c : tie.After-nodes) where
   marks-held : s .args .header .times .maps ≡ length (take (s .args .header .times .maps) (now (s .args .marks)))
   marks-held = sym (length-take-le (s .args .header .times .maps) (now (s .args .marks)) (s .pre .marks))
 
-cast-maps : tie.Need-cast-maps
-cast-maps c = search needs
+cast-n : tie.Need-cast-n
+cast-n c = search needs
 
 per-map-requires : tie.Need-per-map-requires
 per-map-requires c κs = search needs
@@ -113,7 +113,7 @@ pub rest-fits-spec : {M : Type 1} → statement M
 rest-fits-spec =
     tie.close
     (tie.spec
-    cast-maps
+    cast-n
     per-map-requires
     nodes-requires
     mul-all

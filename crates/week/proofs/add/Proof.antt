@@ -4,8 +4,9 @@ use mathlib.Core.Path.{_≡_, sym, ap, _∙_}
 use native.Mathlib.Omega.{arith}
 use borrow.Author.Tests.{not-true, not-false}
 use mathlib.Core.List.{List, []}
-use Prim.Native.Nat.{ℕ}
+use Prim.Native.Nat.{ℕ, _≤_}
 use lib.IntN.{ℤ}
+use lib.ListN.{length}
 use denote.Ref.{now}
 use Rattle.kit.specs.Lists.{front}
 use Rattle.kit.proofs.TruthLaws.{truth-true, truth-false}
@@ -57,7 +58,9 @@ module _ (d : tie.Else4) where
   need-is = d .before .rows-need .ensures
 
   has-room : RowRoom (lent begin)
-  has-room = omega (arith, need-is, d .if4 .left)
+  has-room =
+      let as-long : d .before .rows-need .result ≤ length (now (begin .args .rows)) = d .if4 .left in
+      omega (arith, need-is, as-long)
 
 returns : tie.Need-returns
 returns c = let s = c .before .before .before .before .before in sym (answer-full (s .args .w) (lent s) (c .if1 .taken))

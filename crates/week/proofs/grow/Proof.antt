@@ -94,7 +94,10 @@ module _ (c : tie.After-kind-into2) where
   second-rows = c .kind-into2 .last .1 .1 .1 .1 .1 .1 .0
 
   second-put : second-rows ≡ put second-start 1 (put second-start 0 (now (second-start .args .rows)))
-  second-put = c .kind-into2 .ensures .1 ∙ told-rows second-start 1 (first-rows one) (omega arith) ∙ ap (put second-start 1) (first-put one)
+  second-put =
+      let a = second-start .args in
+      let of-rms : second-rows ≡ stored 1 (a .header) (now (a .rms)) (now (a .exponents)) (now (a .marks)) (first-rows one) = c .kind-into2 .ensures .1 in
+      of-rms ∙ told-rows second-start 1 (first-rows one) (omega arith) ∙ ap (put second-start 1) (first-put one)
 
   second-length : length second-rows ≡ length (now (second-start .args .rows))
   second-length = ap length second-put ∙ put-length second-start 1 _ ∙ put-length second-start 0 (now (second-start .args .rows))

@@ -81,6 +81,11 @@ module _ (c : tie.After-loop Inv-loop μ-loop) where
 told : (c : tie.After-map-tally Inv-loop μ-loop) → c .map-tally .result ≡ here (c .before .before .before)
 told c = c .map-tally .ensures
 
+-- each map has a row of its own, five numbers each
+own-row : (c : tie.After-map-tally Inv-loop μ-loop) {rows : List ℤ} → let k = c .before .before .before in
+    rows ≡ sets (k .loop .rows) (s k .args .at + 5 * k .loop .i) (row (c .map-tally .result)) → rows ≡ sets (k .loop .rows) (s k .args .at + 5 * k .loop .i) (row (here k))
+own-row c e = let k = c .before .before .before in e ∙ ap (λ (u : Tally). sets (k .loop .rows) (s k .args .at + 5 * k .loop .i) (row u)) (told c)
+
 empty-requires : tie.Need-empty-requires Inv-loop μ-loop
 empty-requires c κs = search needs
 
@@ -129,7 +134,7 @@ loop-again c =
     let k = l d in
     let t = k .loop .t in
     let e : c .join .result ≡ joined t (here k) = c .join .ensures ∙ ap (joined t) (told m) in
-    let f = c .before .before .put-row .ensures ∙ ap (λ (u : Tally). sets (k .loop .rows) (s k .args .at + 5 * k .loop .i) (row u)) (told m) in (
+    let f = own-row m (c .before .before .put-row .ensures) in (
       omega arith,
       rw e (bounded-joined t (here k) (k .loop .inv .1) (here-ready d .0)),
       rw e (omega (arith, nodes-joined t (here k), count d, k .loop .inv .2)),

@@ -13,7 +13,7 @@ use Rattle.kit.proofs.AnswerLaws.{pick-yes, pick-no}
 use Rattle.kit.proofs.TruthLaws.{truth-true, truth-false}
 use Rattle.mapset.specs.Areas.{Present, present?}
 use Rattle.ask_nodes.specs.Value.{kind-of}
-use Rattle.week_tally.specs.Figures.{figures}
+use Rattle.week_tally.specs.Figures.{empty, figures}
 use Rattle.week_tally.proofs.FigureLaws.{figures-empty}
 use Rattle.week_set.specs.Parts.{part-nodes, BlocksHold}
 use Rattle.week_set.proofs.map_tally.Statement.{statement}
@@ -76,7 +76,8 @@ unfolding part-nodes
 returns c =
     let s = c .before .before .before in
     let n = truth-false _ (sym (c .before .before .is-present .ensures) ∙ not-true _ (c .before .if1 .taken)) in
-    c .empty .ensures ∙ sym (figures-empty (s .args .blocks * s .args .columns)) ∙ ap figures (sym (pick-no (present? (kind-of (s .args .kind)) (s .args .mark)) _ _ n))
+    let all-lack : c .empty .result ≡ empty (s .args .blocks * s .args .columns) = c .empty .ensures in
+    all-lack ∙ sym (figures-empty (s .args .blocks * s .args .columns)) ∙ ap figures (sym (pick-no (present? (kind-of (s .args .kind)) (s .args .mark)) _ _ n))
 
 mul-at : tie.Need-mul-at
 mul-at c = omega (arith, inside c)

@@ -3,7 +3,7 @@ use mathlib.Core.Path.{_≡_}
 use mir.Syntax.{w32}
 use mir.Val.{toZ, ofZ}
 use mir.Facts.{toZ-ofZ}
-use Rattle.week_tally.specs.Extremes.{rising, under, not-under}
+use Rattle.week_tally.proofs.Orders.{rising, under, not-under}
 use Rattle.week_tally.proofs.ExtremeLaws.{first-yes, first-no}
 use Rattle.week_tally.proofs.smaller.Statement.{statement}
 use Rattle.week_tally.proofs.smaller.Tie as tie

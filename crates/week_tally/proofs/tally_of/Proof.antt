@@ -11,7 +11,8 @@ use denote.Ref.{now}
 use mir.Syntax.{w32}
 use mir.Val.{toZ, ofZ}
 use mir.Facts.{toZ-ofZ}
-use Rattle.ask_nodes.specs.Nodes.{plain, in-node, bare}
+use Rattle.ask_nodes.specs.Nodes.{plain}
+use Rattle.ask_nodes.specs.Units.{in-node, bare}
 use Rattle.ask_nodes.specs.Value.{kind-of}
 use Rattle.ask_nodes.proofs.NodeLaws.{small-plain, bare-node}
 use Rattle.week_tally.specs.Figures.{Bounded, nodes-in, figures, joined, single, Ready}

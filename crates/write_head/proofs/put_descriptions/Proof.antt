@@ -77,7 +77,8 @@ loop-again : tie.Need-loop-again Inv-loop μ-loop
 loop-again c =
     let l = c .before .before .before .before .before .before .before .before in
     let s = c .before .before .before .before .before .before .before .before .before .before .before in
-    (omega arith, leads-next (rw (line-next (s .args .n) (l .loop .i) (now (s .args .lines)) (omega arith)) at (l .loop .inv .1)) (rw (row-is (c .before .before .before .before .before)) at (c .before .before .put-line .ensures)))
+    let next-line : l .loop .i + 1 ≤ s .args .n = omega arith in
+    (next-line, leads-next (rw (line-next (s .args .n) (l .loop .i) (now (s .args .lines)) (omega arith)) at (l .loop .inv .1)) (rw (row-is (c .before .before .before .before .before)) at (c .before .before .put-line .ensures)))
 
 same-length : tie.Need-same-length Inv-loop μ-loop
 same-length c = c .before .loop .inv .1 .size

@@ -1,7 +1,7 @@
 -- `write_head::put_first` meets its contract.
 use native.Mathlib.Omega.{arith}
 use borrow.Author.Needs.{needs}
-use Rattle.mapset.specs.SoundDecided.{takes-known}
+use Rattle.mapset.proofs.Groups.{takes-known}
 use Rattle.write_line.proofs.PutLaws.{room-first, room-next, put-next}
 use Rattle.write_head.specs.Header.{first-rows}
 use Rattle.write_head.proofs.put_first.Statement.{statement}

@@ -4,7 +4,6 @@ use mathlib.Core.List.{List, _++_}
 use Prim.Native.Nat.{ℕ}
 use native.Mathlib.Omega.{arith}
 use denote.Ref.{now}
-use borrow.Author.Needs.{needs}
 use Rattle.mapset.specs.Described.{full}
 use Rattle.mapset.specs.declared.Header.{Header}
 use Rattle.write_line.specs.Put.{PutsOn}

@@ -1,17 +1,27 @@
 -- `write_head_row::version_row` meets its contract.
-use mathlib.Core.Path.{_≡_, sym}
+use mathlib.Core.Path.{_≡_, sym, _∙_}
 use mathlib.Core.List.{_++_}
 use native.Mathlib.Omega.{arith}
+use lib.IntN.{pos}
 use lib.ListN.{length, take, drop}
 use mir.Syntax.{w32}
 use mir.Facts.{toZ-pos}
 use borrow.Author.Needs.{needs}
+use Rattle.forms.specs.Form.{W1}
+use Rattle.forms.specs.Show.{showField}
 use Rattle.layout.specs.Labels.{bytes}
 use Rattle.layout.specs.Names.{names}
 use Rattle.layout.proofs.Laws.{code-length}
 use Rattle.write_head_row.proofs.Laws.{version-filled}
 use Rattle.write_head_row.proofs.version_row.Statement.{statement}
 use Rattle.write_head_row.proofs.version_row.Tie as tie
+
+-- the version, in tenths, stands in columns 1 to 8
+version-put : (c : tie.After-put-tenths)
+    → c .put-tenths .last .0 ≡ take 0 (c .before .before .before .blank-row .result) ++ (showField W1 8 (pos (c .before .before .before .before .before .before .args .version .tenths)) ++ drop 8 (c .before .before .before .blank-row .result))
+version-put c =
+    let row = c .before .before .before .blank-row .result in
+    c .put-tenths .ensures ∙ (λ i. take 0 row ++ (showField W1 8 (toZ-pos w32 (c .before .before .before .before .before .before .pre .0) i) ++ drop 8 row))
 
 maps-put : (c : tie.After-put-text)
     → c .put-text .last .0 ≡ take 20 (c .before .before .before .before .put-tenths .last .0) ++ (bytes "IONOSPHERE MAPS" ++ drop 35 (c .before .before .before .before .put-tenths .last .0))
@@ -66,7 +76,7 @@ returns : tie.Need-returns
 unfolding names
 returns c =
     let s = c .before .before .before .before .before .before .before .before .before .before .before .before .before .before .before in
-    version-filled _ _ _ _ (s .args .version) (s .pre .1) (c .before .before .before .before .before .before .before .before .before .before .before .before .blank-row .ensures) (rw (toZ-pos w32 (s .pre .0)) at (c .before .before .before .before .before .before .before .before .before .put-tenths .ensures)) (maps-put (c .before .before .before .before .before)) (c .before .put-text2 .ensures)
+    version-filled _ _ _ _ (s .args .version) (s .pre .1) (c .before .before .before .before .before .before .before .before .before .before .before .before .blank-row .ensures) (version-put (c .before .before .before .before .before .before .before .before .before)) (maps-put (c .before .before .before .before .before)) (c .before .put-text2 .ensures)
 
 pub version-row-spec : {M : Type 1} → statement M
 version-row-spec =

@@ -1,4 +1,5 @@
 -- `write_line::put_end` meets its contract.
+use Prim.Native.Nat.{_+_, _<_}
 use native.Mathlib.Omega.{arith}
 use lib.IntN.{pos}
 use mir.Facts.{toZ-ofZ}
@@ -16,11 +17,13 @@ add-k c = omega (arith, c .start-label .ensures, start-within (c .before .before
 signed-requires : tie.Need-signed-requires
 signed-requires c κs = search needs
 
+-- END of a kind is the label behind its START
 put-number-requires : tie.Need-put-number-requires
 put-number-requires c κs =
     let k = c .before .before .start-label .ensures in
     let s = c .before .before .before .before in
-    (omega (arith, k, start-within (s .args .kind)), rw (toZ-ofZ (record { sfits = c .signed .ok }), c .signed .ensures, k, end-row (s .args .kind) (pos (s .args .number))) (s .pre .1))
+    let behind-start : c .before .before .start-label .result + 1 < 32 = omega (arith, k, start-within (s .args .kind)) in
+    (behind-start, rw (toZ-ofZ (record { sfits = c .signed .ok }), c .signed .ensures, k, end-row (s .args .kind) (pos (s .args .number))) (s .pre .1))
 
 same-length : tie.Need-same-length
 same-length c = search needs

@@ -1,5 +1,7 @@
 -- `write_map::put_epoch` meets its contract.
+use mathlib.Core.Path.{_≡_}
 use borrow.Author.Needs.{needs}
+use Rattle.mapset.specs.declared.Kind.the-variants.{Tec}
 use Rattle.write_line.proofs.PutLaws.{put-none}
 use Rattle.write_map.proofs.put_epoch.Statement.{statement}
 use Rattle.write_map.proofs.put_epoch.Tie as tie
@@ -7,8 +9,12 @@ use Rattle.write_map.proofs.put_epoch.Tie as tie
 enum-told : tie.Need-enum-told
 enum-told c = search needs
 
+-- only a TEC map has its epoch written
 put-epoch-requires : tie.Need-put-epoch-requires
-put-epoch-requires c κs = rw (c .before .enum-told .given .1) at (c .before .before .before .before .pre)
+put-epoch-requires c κs =
+    let s = c .before .before .before .before in
+    let tec : s .args .kind ≡ Tec = c .before .enum-told .given .1 in
+    rw tec at (s .pre)
 
 enum-told-2 : tie.Need-enum-told-2
 enum-told-2 c = search needs

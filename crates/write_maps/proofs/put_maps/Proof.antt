@@ -62,6 +62,20 @@ module _ (p : tie.After-per-map) where
   held : (p .per-map .result ≡ per-map (s .args .header)) × (s .args .header .times .maps ≤ length (now (s .args .epochs))) × (s .args .header .times .maps ≤ length (now (s .args .marks)))
   held = (p .per-map .ensures, s .pre .epochs, s .pre .long .marks)
 
+cast-maps : tie.Need-cast-maps
+cast-maps c = search needs
+
+per-map-requires : tie.Need-per-map-requires
+per-map-requires c κs = let f = c .before .before .before .before .pre .ready .fine in (f .limits .2, f .limits .0)
+
+mul-all : tie.Need-mul-all
+mul-all c = omega (arith, all-is c, few c)
+
+put-kind-requires : tie.Need-put-kind-requires
+put-kind-requires c κs =
+    let p = c .before in
+    (area-ready (s p .args .header) (a (s p)) (s p .pre .long) K.Tec (negsuc 0) (negsuc 0) 0 refl refl (s p .pre .ready .fine) (room-front (area-rows (s p .args .header) (a (s p)) K.Tec (negsuc 0)) (others (s p)) (s p .pre .ready .room)), held p)
+
 -- ---- after the TEC maps
 module _ (c : tie.After-put-kind) where
   abbrev p1 : tie.After-per-map
@@ -75,6 +89,12 @@ module _ (c : tie.After-put-kind) where
 
 force1 : (c : tie.After-struct-told) → toZ w32 (ofZ w32 (c .before .before .before .before .put-kind .result .exponent)) ≡ k1 (s (p1 (c .before .before .before .before)))
 force1 c = toZ-ofZ (record { sfits = c .struct-told .given .1 .0 .1 }) ∙ tec (c .before .before .before .before) .force
+
+put-kind-requires-2 : tie.Need-put-kind-requires-2
+put-kind-requires-2 c κs =
+    let d = c .before .before .before .before in
+    let p = p1 d in
+    (area-ready (s p .args .header) (a (s p)) (s p .pre .long) K.Rms (k1 (s p)) _ _ (force1 c) (all-is p) (s p .pre .ready .fine) (room-front (area-rows (s p .args .header) (a (s p)) K.Rms (k1 (s p))) (heights (s p)) (lead1 d .room (s p .pre .ready .room))), held p)
 
 -- ---- after the RMS maps
 module _ (c : tie.After-put-kind2) where
@@ -93,6 +113,15 @@ module _ (c : tie.After-put-kind2) where
 force2 : (c : tie.After-struct-told2) → toZ w32 (ofZ w32 (c .before .before .before .before .put-kind2 .result .exponent)) ≡ k2 (s (p2 (c .before .before .before .before)))
 force2 c = toZ-ofZ (record { sfits = c .struct-told2 .given .1 .0 .1 }) ∙ rms (c .before .before .before .before) .force
 
+add-put-kind : tie.Need-add-put-kind
+add-put-kind c = let p = p2 (c .before .before .before) in omega (arith, all-is p, few p)
+
+put-kind-requires-3 : tie.Need-put-kind-requires-3
+put-kind-requires-3 c κs =
+    let d = c .before .before .before .before in
+    let p = p2 d in
+    (area-ready (s p .args .header) (a (s p)) (s p .pre .long) K.Height (k2 (s p)) _ _ (force2 c) (two-is p) (s p .pre .ready .fine) (room-front (area-rows (s p .args .header) (a (s p)) K.Height (k2 (s p))) (last-row (s p)) (lead2 d .room (s p .pre .ready .room))), held p)
+
 -- ---- after the height maps
 module _ (c : tie.After-put-kind3) where
   abbrev c2 : tie.After-put-kind2
@@ -106,35 +135,6 @@ module _ (c : tie.After-put-kind3) where
 
   lead3 : PutsOn (now (s p3 .args .out)) (s p3 .args .at) (all-rows (s p3 .args .header) (a (s p3))) (c .put-kind3 .last .0) (c .put-kind3 .result .at) (last-row (s p3))
   lead3 = leads-on (area-rows (s p3 .args .header) (a (s p3)) K.Height (k2 (s p3))) (last-row (s p3)) (lead2 c2) (height .put)
-
-cast-maps : tie.Need-cast-maps
-cast-maps c = search needs
-
-per-map-requires : tie.Need-per-map-requires
-per-map-requires c κs = let f = c .before .before .before .before .pre .ready .fine in (f .limits .2, f .limits .0)
-
-mul-all : tie.Need-mul-all
-mul-all c = omega (arith, all-is c, few c)
-
-put-kind-requires : tie.Need-put-kind-requires
-put-kind-requires c κs =
-    let p = c .before in
-    (area-ready (s p .args .header) (a (s p)) (s p .pre .long) K.Tec (negsuc 0) (negsuc 0) 0 refl refl (s p .pre .ready .fine) (room-front (area-rows (s p .args .header) (a (s p)) K.Tec (negsuc 0)) (others (s p)) (s p .pre .ready .room)), held p)
-
-put-kind-requires-2 : tie.Need-put-kind-requires-2
-put-kind-requires-2 c κs =
-    let d = c .before .before .before .before in
-    let p = p1 d in
-    (area-ready (s p .args .header) (a (s p)) (s p .pre .long) K.Rms (k1 (s p)) _ _ (force1 c) (all-is p) (s p .pre .ready .fine) (room-front (area-rows (s p .args .header) (a (s p)) K.Rms (k1 (s p))) (heights (s p)) (lead1 d .room (s p .pre .ready .room))), held p)
-
-add-put-kind : tie.Need-add-put-kind
-add-put-kind c = let p = p2 (c .before .before .before) in omega (arith, all-is p, few p)
-
-put-kind-requires-3 : tie.Need-put-kind-requires-3
-put-kind-requires-3 c κs =
-    let d = c .before .before .before .before in
-    let p = p2 d in
-    (area-ready (s p .args .header) (a (s p)) (s p .pre .long) K.Height (k2 (s p)) _ _ (force2 c) (two-is p) (s p .pre .ready .fine) (room-front (area-rows (s p .args .header) (a (s p)) K.Height (k2 (s p))) (last-row (s p)) (lead2 d .room (s p .pre .ready .room))), held p)
 
 put-file-end-requires : tie.Need-put-file-end-requires
 put-file-end-requires c κs = let d = c .before .before .before in lead3 d .room (s (p3 d) .pre .ready .room)

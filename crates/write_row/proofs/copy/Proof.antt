@@ -1,59 +1,28 @@
--- Bytes copied: the first i are those of the other list.
-use mathlib.Core.Path.{_≡_, refl, sym, ap, _∙_}
-use Prim.Native.Nat.{_-_, _≤_}
+-- `write_row::copy` meets its contract.
+use mathlib.Core.Path.{_≡_, ap, _∙_}
+use mathlib.Core.List.{List, [], _++_, append-nil}
+use Prim.Native.Nat.{ℕ, _≤_}
 use native.Mathlib.Omega.{arith}
-use lib.ListN.{length, take, length-set}
-use lib.Seq.{take-length}
-use Rattle.write_row.proofs.CopyLaws.{copy-next}
+use lib.ListN.{length, drop, drop-of-length-le}
+use Rattle.kit.proofs.SetLaws.{sets-front}
+use borrow.Author.Needs.{needs}
 use Rattle.write_row.proofs.copy.Statement.{statement}
 use Rattle.write_row.proofs.copy.Tie as tie
 
-abbrev Inv-loop : tie.InvT-loop
-Inv-loop from to₀ i₀ to i = (i ≤ length to) × (length to ≡ length from) × (take i to ≡ take i from)
+copy-at-requires : tie.Need-copy-at-requires
+copy-at-requires c κs = search needs
 
-abbrev μ-loop : tie.MeasureT-loop
-μ-loop from to₀ i₀ to i = length to - i
+same-length : tie.Need-same-length
+same-length c = search needs
 
-loop-holds : tie.Need-loop-holds Inv-loop μ-loop
-loop-holds c = (omega arith, c .pre, refl)
-
-shared-slice-read-to : tie.Need-shared-slice-read-to Inv-loop μ-loop
-shared-slice-read-to c = omega arith
-
-slice-write-to : tie.Need-slice-write-to Inv-loop μ-loop
-slice-write-to c = omega arith
-
-add-i : tie.Need-add-i Inv-loop μ-loop
-add-i c = omega arith
-
-loop-less : tie.Need-loop-less Inv-loop μ-loop
-loop-less c = simp length-set (omega arith)
-
-loop-again : tie.Need-loop-again Inv-loop μ-loop
-loop-again c =
-    let l = c .before .before in
-    (simp length-set (omega arith), simp length-set (l .loop .inv .1), copy-next _ (l .loop .to) (l .loop .i) (omega arith) (omega arith) (l .loop .inv .2))
-
-same-length : tie.Need-same-length Inv-loop μ-loop
-same-length c = let s = c .before .before in c .before .loop .inv .1 ∙ sym (s .pre)
-
-returns : tie.Need-returns Inv-loop μ-loop
+returns : tie.Need-returns
 returns c =
-    let l = c .before in
-    let e : l .loop .i ≡ length (l .loop .to) = omega arith in
-    sym (take-length (l .loop .to)) ∙ (rw e at (l .loop .inv .2)) ∙ ap (λ n. take n (l .before .args .from .now)) (l .loop .inv .1) ∙ take-length _
+    let s = c .before .before .before .before .before .before in
+    let x = s .args .from .now in
+    let y = s .args .to .now in
+    let h : length y ≤ length x = omega (arith, s .pre) in
+    let d : drop (length x) y ≡ [] = drop-of-length-le y h in
+    c .before .before .copy-at .ensures ∙ sets-front x y (omega (arith, s .pre)) ∙ ap (λ (l : List ℕ). x ++ l) d ∙ append-nil x
 
 pub copy-spec : {M : Type 1} → statement M
-copy-spec =
-    tie.close
-    (tie.spec
-    Inv-loop
-    μ-loop
-    loop-holds
-    shared-slice-read-to
-    slice-write-to
-    add-i
-    loop-less
-    loop-again
-    same-length
-    returns)
+copy-spec = tie.close (tie.spec copy-at-requires same-length returns)

@@ -5,7 +5,7 @@ use Prim.Native.Nat.{ℕ}
 use denote.Ref.{now}
 use Rattle.mapset.specs.Described.{full}
 use Rattle.mapset.specs.Areas.{Areas, six}
-use Rattle.mapset.specs.SoundDecided.{sound-groups}
+use Rattle.mapset.proofs.Groups.{sound-groups}
 use Rattle.areas.specs.Nesting.{nested}
 use Rattle.valid.proofs.Whole.{sound-long}
 use Rattle.canonical.specs.Canon.{canon-rows}

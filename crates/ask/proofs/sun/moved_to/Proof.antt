@@ -3,7 +3,7 @@ use borrow.Author.Needs.{needs}
 use native.Mathlib.Omega.{arith}
 use mathlib.Core.Path.{_≡_}
 use Prim.Native.Nat.{ℕ, _<_, _^_}
-use lib.IntN.{ℤ, pos, natAbs, _-ℤ_, _*ℤ_}
+use lib.IntN.{ℤ, pos, natAbs, _+ℤ_, _-ℤ_, _*ℤ_}
 use mir.Syntax.{w32, w64}
 use mir.Val.{toZ, ofZ, SFits}
 use mir.Facts.{toZ-ofZ, toZ-pos, sfits-widen}
@@ -48,6 +48,13 @@ module _ (s : tie.Start) where
   all : SFits w64 (moved lon t e)
   all = size-fits w64 _ (omega (arith, moved-size lon t e, small, s .pre))
 
+  -- what is reckoned in 64 bits is the longitude moved by the time since the epoch
+  reckoned : toZ w64 (ofZ w64 (toZ w64 (ofZ w64 (pos 12 *ℤ lon)) +ℤ toZ w64 (ofZ w64 (pos 5 *ℤ toZ w64 (ofZ w64 (pos t -ℤ pos e)))))) ≡ moved lon t e
+  reckoned = rw (toZ-ofZ twelve, toZ-ofZ since, toZ-ofZ five) (toZ-ofZ all)
+
+returns : tie.Need-returns
+returns c = rw (lon-is c, t-is c, e-is c) (reckoned c)
+
 cast-result : tie.Need-cast-result
 cast-result c = rw (toZ-ofZ (c .fits .lon)) (sfits-widen tt (c .fits .lon))
 
@@ -68,9 +75,6 @@ mul-result-2 c = rw (t-is c, e-is c, toZ-ofZ (since c)) (five c)
 
 add-result : tie.Need-add-result
 add-result c = rw (lon-is c, t-is c, e-is c, toZ-ofZ (twelve c), toZ-ofZ (since c), toZ-ofZ (five c)) (all c)
-
-returns : tie.Need-returns
-returns c = rw (lon-is c, t-is c, e-is c, toZ-ofZ (twelve c), toZ-ofZ (since c), toZ-ofZ (five c)) (toZ-ofZ (all c))
 
 pub moved-to-spec : {M : Type 1} → statement M
 moved-to-spec =

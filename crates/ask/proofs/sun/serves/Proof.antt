@@ -16,7 +16,7 @@ use Rattle.kit.specs.Truth.{Says}
 use Rattle.mapset.specs.declared.Axis.{Axis}
 use Rattle.ask_cells.specs.Place.{GoesRound}
 use Rattle.ask_cells.specs.Found.{goes-round?}
-use Rattle.ask_spans.specs.Spans.{Close}
+use Rattle.ask_spans.specs.Time.{Close}
 use Rattle.ask.specs.Sun.{Turns, Serves}
 use Rattle.ask.proofs.sun.serves.Statement.{statement}
 use Rattle.ask.proofs.sun.serves.Tie as tie

@@ -4,7 +4,7 @@ use mathlib.Core.Path.{_≡_, refl, ap, _∙_}
 use lib.IntN.{ℤ}
 use mir.Syntax.{w32, w64}
 use mir.Val.{toZ, ofZ}
-use Rattle.ask_round.specs.Round.{rounded}
+use Rattle.ask_round.specs.Rounded.{rounded}
 use Rattle.ask.specs.Ask.{tecu, km}
 use Rattle.ask.proofs.value.mean_of.Statement.{statement}
 use Rattle.ask.proofs.value.mean_of.Tie as tie

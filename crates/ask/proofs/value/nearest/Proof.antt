@@ -7,7 +7,7 @@ use mir.Syntax.{w32, w64}
 use mir.Val.{toZ, ofZ, SFits}
 use mir.Facts.{toZ-ofZ}
 use Rattle.kit.proofs.Parts.{size-fits}
-use Rattle.ask_round.specs.Round.{rounded}
+use Rattle.ask_round.specs.Rounded.{rounded}
 use Rattle.ask_round.proofs.RoundLaws.{round-size}
 use Rattle.ask.proofs.value.nearest.Statement.{statement}
 use Rattle.ask.proofs.value.nearest.Tie as tie

@@ -4,7 +4,7 @@ use mathlib.Core.Path.{ap, _∙_}
 use denote.Ref.{now}
 use Rattle.ask_nodes.specs.Value.{kind-of}
 use Rattle.ask_sums.specs.Mean.{spread, terms}
-use Rattle.ask.specs.Ask.{told-sum}
+use Rattle.ask.specs.Summed.{told-sum}
 use Rattle.ask_sums.proofs.SumLaws.{ready-terms}
 use Rattle.ask.proofs.MeanLaws.{sum-told}
 use Rattle.ask.proofs.value.value_of.Statement.{statement}

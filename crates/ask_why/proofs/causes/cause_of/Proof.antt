@@ -3,6 +3,8 @@ use borrow.Author.Needs.{needs}
 use borrow.Author.Tests.{not-true, not-false}
 use mathlib.Core.Path.{_≡_, sym, ap, _∙_}
 use lib.IntN.{ℤ, pos, negsuc}
+use mir.Syntax.{w32}
+use mir.Val.{toZ, ofZ}
 use mir.Facts.{toZ-ofZ}
 use Rattle.kit.specs.Integer.{Between, between?}
 use Rattle.kit.specs.Truth.{truth}
@@ -16,7 +18,9 @@ between-requires c κs = search needs
 
 -- the exponent is looked at first
 first-test : (c : tie.After-between) → c .between .result ≡ truth (between? (negsuc 2) (pos 0) (c .before .args .k))
-first-test c = c .between .ensures ∙ ap (λ (z : ℤ). truth (between? (negsuc 2) (pos 0) z)) (toZ-ofZ (c .before .fits .k))
+first-test c =
+    let e : c .between .result ≡ truth (between? (negsuc 2) (pos 0) (toZ w32 (ofZ w32 (c .before .args .k)))) = c .between .ensures in
+    e ∙ ap (λ (z : ℤ). truth (between? (negsuc 2) (pos 0) z)) (toZ-ofZ (c .before .fits .k))
 
 returns : tie.Need-returns
 returns c = let s = c .before .before in exponent-cause (s .args .v) (s .args .k) (truth-false _ (sym (first-test (c .before)) ∙ not-true _ (c .if1 .taken)))

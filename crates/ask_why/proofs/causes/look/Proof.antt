@@ -6,9 +6,8 @@ use Prim.Native.Nat.{ℕ}
 use native.Mathlib.Omega.{arith}
 use denote.Ref.{now}
 use Rattle.ask_nodes.specs.Value.{kind-of, value}
-use Rattle.ask_nodes.specs.Nodes.{in-node}
 use Rattle.ask_nodes.specs.declared.Node.the-variants as N
-use Rattle.ask_why.specs.Parts.{lack-with, cause, lacks, found}
+use Rattle.ask_why.specs.Parts.{lack-with, cause, lacks}
 use Rattle.ask_why.specs.declared.Cause.{Cause}
 use Rattle.ask_why.specs.declared.causes.First.the-variants as F
 use Rattle.ask_why.proofs.NodeList.{lacks-light, lacks-by, found-value, found-nothing}

@@ -1,8 +1,7 @@
-use mathlib.Core.Path.{ap₂, _∙_}
+use mathlib.Core.Path.{_≡_, ap, ap₂, _∙_}
 use Prim.Native.Nat.{ℕ, _*_, _/_, _≤_}
 use native.Mathlib.Nat.{mul-le-mul, div-le-self}
 use native.Mathlib.Omega.{arith}
-use lib.IntN.{ℤ}
 use mir.Facts.{toZ-ofZ}
 use Rattle.kit.specs.Integer.{int?}
 use Rattle.kit.specs.Truth.{truth}
@@ -34,10 +33,18 @@ div-i c = search needs
 is-node-requires : tie.Need-is-node-requires
 is-node-requires c κs = omega (arith, few (c .before), div-le-self (c .before .passed .result) (c .nodes .result))
 
+-- what is compared is a node of the heights
+of-heights : (c : tie.After-is-node) → let a = c .before .before .before .before .args in
+    c .is-node .result ≡ truth (int? (a .x) (node (a .grid .heights) (c .before .before .passed .result / c .before .nodes .result)))
+of-heights c =
+    let s = c .before .before .before .before in
+    c .is-node .ensures ∙ (λ j. truth (int? (toZ-ofZ (s .fits .x) j) (node (s .args .grid .heights) (c .before .before .passed .result / c .before .nodes .result))))
+
 returns-2 : tie.Need-returns-2
 returns-2 c =
-    c .is-node .ensures
-    ∙ ap₂ (λ (x : ℤ) (i : ℕ). truth (int? x (node (c .before .before .before .before .args .grid .heights) i))) (toZ-ofZ (c .before .before .before .before .fits .x)) (ap₂ _/_ (c .before .before .passed .ensures) (c .before .nodes .ensures))
+    let a = c .before .before .before .before .args in
+    of-heights c
+    ∙ ap (λ (i : ℕ). truth (int? (a .x) (node (a .grid .heights) i))) (ap₂ _/_ (c .before .before .passed .ensures) (c .before .nodes .ensures))
     ∙ this-height _ _ _ (c .before .before .before .if1 .left)
 
 pub height-agrees-spec : {M : Type 1} → statement M

@@ -1,8 +1,7 @@
-use mathlib.Core.Path.{ap₂, _∙_}
-use Prim.Native.Nat.{ℕ, _*_, _%_, _≤_}
+use mathlib.Core.Path.{_≡_, _∙_}
+use Prim.Native.Nat.{_*_, _%_, _≤_}
 use native.Mathlib.Nat.{mul-le-mul, mod-le}
 use native.Mathlib.Omega.{arith}
-use lib.IntN.{ℤ}
 use mir.Facts.{toZ-ofZ}
 use Rattle.kit.specs.Integer.{int?}
 use Rattle.kit.specs.Truth.{truth}
@@ -11,6 +10,10 @@ use Rattle.layout.specs.Layout.{node}
 use borrow.Author.Needs.{needs}
 use Rattle.maps_agree.proofs.grid.row_agrees.Statement.{statement}
 use Rattle.maps_agree.proofs.grid.row_agrees.Tie as tie
+
+-- the blocks of a layer are its rows
+rows-in : (c : tie.After-nodes) → c .nodes .result ≡ rows (c .before .before .args .grid)
+rows-in c = c .nodes .ensures
 
 few : (c : tie.After-passed) → c .passed .result ≤ 64 * 361
 few c =
@@ -32,8 +35,9 @@ is-node-requires c κs = omega (arith, few (c .before), mod-le (c .before .passe
 
 returns : tie.Need-returns
 returns c =
+    let s = c .before .before .before in
     c .is-node .ensures
-    ∙ ap₂ (λ (x : ℤ) (i : ℕ). truth (int? x (node (c .before .before .before .args .grid .latitudes) i))) (toZ-ofZ (c .before .before .before .fits .x)) (ap₂ _%_ (c .before .before .passed .ensures) (c .before .nodes .ensures))
+    ∙ (λ j. truth (int? (toZ-ofZ (s .fits .x) j) (node (s .args .grid .latitudes) (c .before .before .passed .ensures j % rows-in (c .before) j))))
 
 pub row-agrees-spec : {M : Type 1} → statement M
 row-agrees-spec =

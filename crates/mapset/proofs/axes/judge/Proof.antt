@@ -1,7 +1,6 @@
 use borrow.Author.Needs.{needs}
-use mathlib.Core.Path.{_≡_, refl, sym, ap, _∙_}
+use mathlib.Core.Path.{_≡_, refl, sym, _∙_}
 use borrow.Author.Tests.{not-true, not-false}
-use lib.IntN.{ℤ}
 use mir.Syntax.{w32}
 use mir.Val.{toZ, ofZ}
 use Rattle.kit.specs.Truth.{truth}
@@ -16,19 +15,19 @@ first : (c : tie.After-end-fits) → c .end-fits .result ≡ truth (end? (line (
 first c =
     let s = c .before .before in
     let e : toZ w32 (ofZ w32 (s .args .a .first)) ≡ s .args .a .first = search needs in
-    c .end-fits .ensures ∙ ap (λ (x : ℤ). truth (end? (line (s .args .which)) x)) e
+    c .end-fits .ensures ∙ (λ i. truth (end? (line (s .args .which)) (e i)))
 
 last : (c : tie.After-end-fits2) → c .end-fits2 .result ≡ truth (end? (line (c .before .before .before .before .before .args .which)) (c .before .before .before .before .before .args .a .last))
 last c =
     let s = c .before .before .before .before .before in
     let e : toZ w32 (ofZ w32 (s .args .a .last)) ≡ s .args .a .last = search needs in
-    c .end-fits2 .ensures ∙ ap (λ (x : ℤ). truth (end? (line (s .args .which)) x)) e
+    c .end-fits2 .ensures ∙ (λ i. truth (end? (line (s .args .which)) (e i)))
 
 step : (c : tie.After-step-fits) → c .step-fits .result ≡ truth (step? (line (c .before .before .before .before .before .before .before .before .args .which)) (c .before .before .before .before .before .before .before .before .args .a .step))
 step c =
     let s = c .before .before .before .before .before .before .before .before in
     let e : toZ w32 (ofZ w32 (s .args .a .step)) ≡ s .args .a .step = search needs in
-    c .step-fits .ensures ∙ ap (λ (x : ℤ). truth (step? (line (s .args .which)) x)) e
+    c .step-fits .ensures ∙ (λ i. truth (step? (line (s .args .which)) (e i)))
 
 end-fits-requires : tie.Need-end-fits-requires
 end-fits-requires c κs = search needs

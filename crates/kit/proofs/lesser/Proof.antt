@@ -1,10 +1,11 @@
+-- `kit::lesser` meets its contract.
 use mathlib.Core.Path.{sym}
 use native.Mathlib.Decide.{decLt}
 use native.Mathlib.Omega.{arith}
 use Rattle.kit.proofs.AnswerLaws.{pick-yes, pick-no}
-use Rattle.ask_all.specs.AskAll.{lesser}
-use Rattle.ask_all.proofs.lesser.Statement.{statement}
-use Rattle.ask_all.proofs.lesser.Tie as tie
+use Rattle.kit.specs.Range.{lesser}
+use Rattle.kit.proofs.lesser.Statement.{statement}
+use Rattle.kit.proofs.lesser.Tie as tie
 
 returns : tie.Need-returns
 unfolding lesser

@@ -1,11 +1,12 @@
+-- `kit::copy_at` meets its contract.
 use mathlib.Core.Path.{_≡_, refl, ap, _∙_}
 use Prim.Native.Nat.{suc, _+_, _-_, _≤_}
 use native.Mathlib.Omega.{arith}
 use lib.ListN.{length, set, getD, take, length-set}
 use lib.Seq.{sets, take-length}
-use Rattle.c_header.proofs.SetLaws.{sets-next}
-use Rattle.c_header.proofs.copy_at.Statement.{statement}
-use Rattle.c_header.proofs.copy_at.Tie as tie
+use Rattle.kit.proofs.SetLaws.{sets-next}
+use Rattle.kit.proofs.copy_at.Statement.{statement}
+use Rattle.kit.proofs.copy_at.Tie as tie
 
 abbrev Inv-loop : tie.InvT-loop
 Inv-loop from out₀ at i₀ out i = (i ≤ length from) × (length out ≡ length out₀) × (out ≡ sets out₀ at (take i from))

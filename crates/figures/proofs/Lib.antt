@@ -1,0 +1,2 @@
+pub mod FiguresRight
+pub mod Theorems
