@@ -1,8 +1,8 @@
 -- Every map set that obeys the rules makes its canonical text.
 use mathlib.Core.Path.{_≡_, refl, ap, _∙_}
-use mathlib.Core.Option.{Option, none, some}
+use mathlib.Core.Option.{none, some}
 use mathlib.Core.List.{List, [], _∷_, _++_}
-use Prim.Native.Nat.{ℕ, zero, suc, _≤_, _<_}
+use Prim.Native.Nat.{ℕ, _≤_, _<_}
 use native.Mathlib.Omega.{arith}
 use native.Mathlib.Decide.{decLe, decLt}
 use lib.IntN.{pos, negsuc}
@@ -16,7 +16,7 @@ use Rattle.forms.specs.Show.{showField, FieldRoom}
 use Rattle.forms.proofs.ShowLaws.{show-spells, written-spells}
 use Rattle.calendar.specs.End.{end as after-2199}
 use Rattle.mapset.specs.declared.Kind.the-variants.{Rms, Height}
-use Rattle.mapset.specs.Header.{count, epoch as an-epoch, axis, Said, number, along, a-count, a-epoch, a-axis, VersionRules, Written, says}
+use Rattle.mapset.specs.Header.{count, epoch as an-epoch, axis, number, along, a-count, a-epoch, a-axis, VersionRules, Written, says}
 use Rattle.mapset.specs.Described.{line-width}
 use Rattle.mapset.specs.Lines.{lines-in}
 use Rattle.mapset.proofs.DescribedLaws.{ruled-lines}
@@ -30,7 +30,7 @@ use Rattle.layout.specs.Labels.{version, header-end, file-end, layout, bytes, n
 use Rattle.layout.specs.Layout.{Force, one-more, one-tec, maps, w-end, w-file, Slots, Lines, plain, Heads, h-end, rows-of, Makes, makes}
 use Rattle.layout.proofs.Laws.{code-length}
 use Rattle.reading.specs.Read.{read}
-use Rattle.reading.proofs.Exact.{read-made}
+use Rattle.reading.proofs.Exact.{read-made, none-got}
 use Rattle.reading.proofs.LineLaws.{spaces}
 use Rattle.reading.proofs.RecordLaws.{known-heads, known-maps}
 use Rattle.reading.specs.Head.{Fit, fit, FitAll}
@@ -148,10 +148,6 @@ module _ (m : MapSet) (f : Formed m) where
   body : Wrote (m .header) begins (maps (m .maps)) (map-rows m)
   body = maps-put m f axes (count-fit (fits 4) .1) (epoch-fit (fits 2))
 
-  none-left : (n : ℕ) → All (λ (o : Option Said). o ≡ none) (replicate n none)
-  none-left zero = tt
-  none-left (suc n) = (refl, none-left n)
-
   abbrev said : Slots
   said = says (m .header) (m .texts)
 
@@ -167,7 +163,7 @@ module _ (m : MapSet) (f : Formed m) where
 
   end-put : Heads m plain (negsuc 0) (clear order later) [] (row-of header-end tt ∷ map-rows m) × All GoodRow (row-of header-end tt ∷ map-rows m)
   end-put =
-      (h-end (row-is header-end tt tt) (none-left 22) (f .header .fillers) (f .header .dimension) (f .header .limits) (body .0), (row-good header-end tt (known-heads .3) tt, body .1))
+      (h-end (row-is header-end tt tt) (none-got 22) (f .header .fillers) (f .header .dimension) (f .header .limits) (body .0), (row-good header-end tt (known-heads .3) tt, body .1))
 
   rest-put : Heads m plain (negsuc 0) later [] (head-rows order later (row-of header-end tt ∷ map-rows m)) × All GoodRow (head-rows order later (row-of header-end tt ∷ map-rows m))
   rest-put = heads-put m (negsuc 0) [] order later (row-of header-end tt ∷ map-rows m) in-order refl (fit-clear said 0 (omega arith) fits) (end-put .0) (end-put .1)

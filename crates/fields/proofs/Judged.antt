@@ -1,7 +1,7 @@
 -- A field whose bytes pass neighbour by neighbour is a number, and its digits make it.
 use mathlib.Core.Path.{_≡_, refl, sym, ap, _∙_}
 use mathlib.Core.Bool.{Bool, true, false, _&&_, _||_}
-use mathlib.Core.Logic.{_⊎_, inl, inr, ⊎-elim}
+use mathlib.Core.Logic.{_⊎_, ⊎-elim}
 use mathlib.Core.List.{List, [], _∷_, _++_, append-assoc, append-nil}
 use Prim.Native.Nat.{ℕ, zero, suc, _+_, _^_, _≤_, _<_}
 use native.Mathlib.Nat.{pow-le-pow-right}
@@ -13,7 +13,7 @@ use lib.Dec.{leb, eqb}
 use borrow.Author.Tests.{le-leb, leb-true, ne-eqb, eqb-true}
 use Rattle.kit.specs.Answer.{All}
 use Rattle.kit.proofs.ListLaws.{all-append, all-front, all-behind}
-use Rattle.kit.proofs.TruthLaws.{and-true}
+use Rattle.kit.proofs.TruthLaws.{and-true, or-true}
 use Rattle.forms.specs.Form.{fewest, decimal, I, Digit, numeral, sign, signed, pointed, Spells}
 use Rattle.forms.specs.Read.{readField, isNumber}
 use Rattle.forms.proofs.FieldLaws.{read-made, made-read}
@@ -21,10 +21,6 @@ use Rattle.forms.proofs.ShowLaws.{numeral-append, numeral-below}
 use Rattle.forms.specs.Bytes.{isDigit, mayPrecede, hasMinus}
 use Rattle.forms.specs.declared.Field.{Field}
 use Rattle.forms.specs.declared.Field.the-variants.{Number, Bad}
-
-or-true : (x y : Bool) → (x || y) ≡ true → (x ≡ true) ⊎ (y ≡ true)
-or-true true y e = inl refl
-or-true false y e = inr e
 
 digit-true : (b : ℕ) → Digit b → isDigit b ≡ true
 digit-true b h = rw (le-leb 48 b (h .0), le-leb b 57 (h .1))

@@ -7,6 +7,7 @@ use lib.Dec.{T}
 use Rattle.kit.specs.Truth.{Says, truth, tested, Decided}
 use mathlib.Core.Path.{sym}
 use mathlib.Core.Bool.{_||_}
+use mathlib.Core.Logic.{_⊎_, inl, inr}
 use mathlib.Core.List.{List, [], _∷_}
 use Prim.Native.Nat.{zero, suc, _+_, _≤_, _<_}
 use native.Mathlib.Decide.{ℕ-discrete, decLe, decLt}
@@ -23,6 +24,10 @@ clash z = absurd (omega arith)
 pub and-true : (x y : Bool) → (x && y) ≡ true → (x ≡ true) × (y ≡ true)
 and-true true y e = (refl, e)
 and-true false y e = (e, cc)
+
+pub or-true : (x y : Bool) → (x || y) ≡ true → (x ≡ true) ⊎ (y ≡ true)
+or-true true y e = inl refl
+or-true false y e = inr e
 
 pub and-assoc : (x y z : Bool) → (x && (y && z)) ≡ ((x && y) && z)
 and-assoc true y z = refl

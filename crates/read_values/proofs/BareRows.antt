@@ -11,7 +11,7 @@ use lib.ListN.{length, getD, take, drop, set, length-take, length-drop}
 use lib.Seq.{length-take-le, getD-set-same, getD-set-other}
 use borrow.Author.Tests.{eqb-true, ne-eqb}
 use Rattle.kit.specs.Range.{Within}
-use Rattle.kit.proofs.TruthLaws.{clash, and-true}
+use Rattle.kit.proofs.TruthLaws.{clash, and-true, or-true}
 use Rattle.forms.specs.Form.{I, Digit, numeral, signed}
 use Rattle.forms.specs.Read.{readField, isNumber}
 use Rattle.forms.specs.Bytes.{isDigit, mayPrecede, hasMinus}
@@ -23,7 +23,7 @@ use Rattle.read_lines.specs.Quick.{Ending}
 use Rattle.read_lines.proofs.QuickLines.{known-row}
 use Rattle.read_values.specs.Values.{value-field, Passed, Okay}
 use Rattle.read_values.specs.Bare.{bare, Bares, Plain, BareRow, Paired}
-use Rattle.read_values.proofs.QuickRows.{part-at, five-of, take-in, or-true}
+use Rattle.read_values.proofs.QuickRows.{part-at, five-of, take-in}
 use Rattle.read_values.proofs.ValueLaws.{field-whole, okay-at}
 
 -- ---- a byte

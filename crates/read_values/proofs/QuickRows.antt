@@ -1,7 +1,7 @@
 -- The fast way over a row of values: byte by byte, with the byte behind it.
 use mathlib.Core.Path.{_≡_, refl, sym, ap, _∙_}
 use mathlib.Core.Bool.{Bool, true, false, not, _&&_, _||_, cond}
-use mathlib.Core.Logic.{_⊎_, inl, inr, ⊎-elim}
+use mathlib.Core.Logic.{_⊎_, ⊎-elim}
 use mathlib.Core.List.{List, [], _∷_}
 use Prim.Native.Nat.{ℕ, zero, suc, _+_, _-_, _*_, _≤_, _<_}
 use native.Mathlib.Omega.{arith}
@@ -12,7 +12,7 @@ use lib.ListN.{length, getD, take, drop, length-drop}
 use lib.Seq.{drop-cons, length-take-le, getD-take, getD-drop}
 use borrow.Author.Tests.{eqb-true}
 use Rattle.kit.specs.Range.{Within}
-use Rattle.kit.proofs.TruthLaws.{tested-at, clash, and-true}
+use Rattle.kit.proofs.TruthLaws.{tested-at, clash, and-true, or-true}
 use Rattle.kit.proofs.ListLaws.{rest-of}
 use Rattle.forms.specs.Form.{I}
 use Rattle.forms.specs.Read.{readField, isNumber}
@@ -196,10 +196,6 @@ fit-row t at w m h fits most room true f e =
     rw n (upto (drop at t) w m (omega arith) fits most room (number-at (drop at t) m (omega arith) most (rw (rest-of t at) at f)) m (omega arith))
 
 -- ---- a row that ends right behind its values
-
-pub or-true : (x y : Bool) → (x || y) ≡ true → (x ≡ true) ⊎ (y ≡ true)
-or-true true y e = inl refl
-or-true false y e = inr e
 
 digit-shown : (b : ℕ) → isDigit b ≡ true → Within 32 126 b
 digit-shown b e = let d = true-digit b e in (omega (arith, d .0), omega (arith, d .1))

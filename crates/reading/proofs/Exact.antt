@@ -74,7 +74,7 @@ read-made (makes r l e) = rw (split-of e (clean l)) (begun (carries l 1) r)
 abbrev Began : Feed → MapSet → Type 0
 Began f m = (rs : List (List ℕ)) × Carries f rs × Rows m rs
 
-none-got : (n : ℕ) → All (λ (o : Option Said). o ≡ none) (replicate n none)
+pub none-got : (n : ℕ) → All (λ (o : Option Said). o ≡ none) (replicate n none)
 none-got zero = tt
 none-got (suc n) = (refl, none-got n)
 

@@ -233,7 +233,7 @@ pub label-head : (r : List ℕ) (i : ℕ) → label r ≡ some (head i) → i < 
 unfolding label few? all-dec decLt ×-dec
 label-head r i e = lookup-all Few (drop 60 r) labels (head i) (decided (all-dec few? labels)) e
 
-lookup-ok : (s : List ℕ) (ls : List Label) (l : Label) → lookup s ls ≡ some l → s ≡ name l
+pub lookup-ok : (s : List ℕ) (ls : List Label) (l : Label) → lookup s ls ≡ some l → s ≡ name l
 unfolding lookup
 lookup-ok s [] l e = let z : _≡_ {A = ℕ} 0 1 = cc in absurd (omega arith)
 lookup-ok s (x ∷ ls) l e = pick-elim (λ o. o ≡ some l → s ≡ name l) (same s (name x)) (λ p q. cc) (λ _ q. lookup-ok s ls l q) e

@@ -8,7 +8,7 @@ use native.Mathlib.Decide.{ℕ-discrete}
 use lib.IntN.{ℤ, negsuc}
 use lib.ListN.{getD, set, drop}
 use Rattle.kit.specs.Answer.{Answer, ok, refused, same}
-use Rattle.kit.proofs.AnswerLaws.{pick-yes, pick-no, pick-elim, Yields, y-ok, y-no, need-yields, get-yields, bind-yields, amap-yields, pick-yields, yields-map}
+use Rattle.kit.proofs.AnswerLaws.{pick-yes, pick-no, Yields, y-ok, y-no, need-yields, get-yields, bind-yields, amap-yields, pick-yields, yields-map}
 use Rattle.mapset.specs.declared.Kind.{Kind}
 use Rattle.mapset.specs.declared.Kind.the-variants.{Tec, Rms, Height}
 use Rattle.calendar.specs.declared.Taken.{Taken}
@@ -24,7 +24,7 @@ use Rattle.reading.specs.Fields.{lookup, label, fields, cells}
 use Rattle.reading.specs.Maps.{Next, on-date, loose, on-comment, on-exponent, start-tec, start-other, start-map, on-start, end-map, on-end as on-map-end, epoch-tec, epoch-other, on-epoch, open-block, on-block, on-file, taken, step, on-row, date}
 use Rattle.reading.specs.Head.{Turn, more, done, place, once, on-description, on-system, on-end, at-head, head-step}
 use Rattle.reading.specs.Read.{nothing-yet, version-of}
-use Rattle.reading.proofs.RecordLaws.{known-maps}
+use Rattle.reading.proofs.RecordLaws.{known-maps, lookup-ok}
 use Rattle.reading.proofs.Machine.{State, first, header, maps, Out, turn, Move, on-row-of}
 use Rattle.reading.specs.declared.Place.{Place}
 use Rattle.reading.specs.declared.Place.the-variants.{Ended, Between, Early, Inside}
@@ -55,11 +55,6 @@ any (refused w) f = y-no
 no-values-due : (rs : List (List ℕ)) → [] ≡ values-ahead 0 rs
 no-values-due [] = refl
 no-values-due (r ∷ rs) = refl
-
-labelled : (s : List ℕ) (ls : List Label) (l : Label) → lookup s ls ≡ some l → s ≡ name l
-unfolding lookup
-labelled s [] l e = let z : _≡_ {A = ℕ} 0 1 = cc in absurd (omega arith)
-labelled s (x ∷ ls) l e = pick-elim (λ o. o ≡ some l → s ≡ name l) (same s (name x)) (λ p q. cc) (λ _ q. labelled s ls l q) e
 
 -- ---- no values come first behind a row of the maps that opens no block
 
@@ -262,7 +257,7 @@ module _ (C : ℕ) where
             past = s′;
             gain = f;
             brings = λ y w ps.
-                let o : opened C 0 ((a, r) ∷ ps) ≡ a ∷ opened C C ps = pick-yes (same (drop 60 r) (name block)) _ _ (labelled (drop 60 r) labels block e) in
+                let o : opened C 0 ((a, r) ∷ ps) ≡ a ∷ opened C C ps = pick-yes (same (drop 60 r) (name block)) _ _ (lookup-ok (drop 60 r) labels block e) in
                 let v = turned block e (just-rows ps) in
                 (λ i. record { events = v i; starts = o i; values = [] }) ∙ ap (λ (c : ℕ). f (in-maps s′ c ps)) (sym (d ∙ w));
             wide = λ y w. w;

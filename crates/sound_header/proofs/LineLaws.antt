@@ -11,7 +11,7 @@ use Rattle.kit.specs.Answer.{All, all-dec, ×-dec}
 use Rattle.kit.specs.Range.{Within, within?}
 use Rattle.kit.specs.Truth.{truth}
 use Rattle.kit.proofs.ListLaws.{all-append, all-take, all-turn}
-use Rattle.kit.proofs.TruthLaws.{both, fails, truth-same, all-end}
+use Rattle.kit.proofs.TruthLaws.{both, fails, truth-same, all-end, and-assoc}
 use Rattle.mapset.specs.Described.{most-lines, line-width, lines-width}
 use Rattle.mapset.specs.Sound.{lines?}
 
@@ -37,10 +37,6 @@ module _ (n : ℕ) (bs : List ℕ) where
       (λ s. (all-take (Within 32 126) (line-width * n) bs (s .1 .0 .1), all-turn (λ b. b ≡ 32) (Within 32 32) (drop (line-width * n) bs) (λ b w. (omega (arith, w), omega (arith, w))) (s .1 .1)))
 
 -- ---- one byte after the other, all looked at
-and-assoc : (a b c : Bool) → (a && (b && c)) ≡ ((a && b) && c)
-and-assoc true b c = refl
-and-assoc false b c = refl
-
 and-true : (a : Bool) → (a && true) ≡ a
 and-true true = refl
 and-true false = refl

@@ -19,7 +19,7 @@ use Rattle.kit.proofs.TruthLaws.{truth-same, holds, fails}
 use Rattle.mapset.specs.declared.Kind.{Kind}
 use Rattle.mapset.specs.Areas.{Present}
 use Rattle.areas.specs.ValidDecided.{blank?}
-use Rattle.valid.specs.Groups.{least}
+use Rattle.kit.specs.Range.{lesser}
 
 -- ---- from v to v is v
 same-between : (v x : ℤ) → x ≡ v → Between v v x
@@ -48,9 +48,9 @@ module _ {A : Type 0} where
   take-over (suc w) [] h = refl
   take-over (suc w) (x ∷ l) h = ap (λ r. x ∷ r) (take-over w l (omega arith))
 
-  by-least : (w : ℕ) (l : List A) → (take (least w (length l)) l ≡ take w l) × (drop (least w (length l)) l ≡ drop w l)
-  unfolding least
-  by-least w l = go (decLt w (length l))
+  by-lesser : (w : ℕ) (l : List A) → (take (lesser w (length l)) l ≡ take w l) × (drop (lesser w (length l)) l ≡ drop w l)
+  unfolding lesser
+  by-lesser w l = go (decLt w (length l))
     where
       go : (d : Dec (w < length l)) → (take (pick d w (length l)) l ≡ take w l) × (drop (pick d w (length l)) l ≡ drop w l)
       go (yes h) = rw (pick-yes (yes h) w (length l) h) (refl, refl)
@@ -62,24 +62,16 @@ module _ {A : Type 0} where
             drop-of-length-le l z ∙ sym (drop-of-length-le l g),
           )
 
-pub least-low : (a b : ℕ) → least a b ≤ b
-unfolding least
-least-low a b = go (decLt a b)
-  where
-    go : (d : Dec (a < b)) → pick d a b ≤ b
-    go (yes h) = rw (pick-yes (yes h) a b h) (omega arith)
-    go (no n) = rw (pick-no (no n) a b n) (omega arith)
-
 -- ---- the marks from an index on, against the area from an element on
 module _ (k : Kind) (w : ℕ) (v : ℤ) (ms : List ℕ) (l : List ℤ) (i at : ℕ) where
   abbrev here : ℕ
-  here = least w (length l - at)
+  here = lesser w (length l - at)
 
   part : take here (drop at l) ≡ take w (drop at l)
-  part = rw (← length-drop at l) (by-least w (drop at l) .0)
+  part = rw (← length-drop at l) (by-lesser w (drop at l) .0)
 
   rest-is : drop (at + here) l ≡ drop w (drop at l)
-  rest-is = sym (drop-drop here at l) ∙ rw (← length-drop at l) (by-least w (drop at l) .1)
+  rest-is = sym (drop-drop here at l) ∙ rw (← length-drop at l) (by-lesser w (drop at l) .1)
 
   -- the map of the mark i is there or v everywhere
   abbrev Here : Type 0

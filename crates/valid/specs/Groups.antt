@@ -1,7 +1,6 @@
 -- The rules of `Valid` in the groups in which code looks at them: of each kind its values, and of all kinds the exponents.
 use mathlib.Core.List.{List}
 use Prim.Native.Nat.{ℕ, _+_, _*_, _≤_}
-use native.Mathlib.Decide.{decLt}
 use lib.ListN.{length, take, drop}
 use lib.IntN.{ℤ, pos, negsuc}
 use Rattle.kit.specs.Answer.{All, pick, ×-dec, all-dec}
@@ -16,9 +15,6 @@ use Rattle.areas.specs.Value.{Value}
 use Rattle.areas.specs.Nest.{third}
 use Rattle.areas.specs.Valid.{needed, values-in, Blank}
 use Rattle.areas.specs.ValidDecided.{value?, blank?}
-
-unfoldable pub least : ℕ → ℕ → ℕ
-least a b = pick (decLt a b) a b
 
 -- the values of a kind, and that absent maps are 9999 under exponent -1; B blocks of C values to a map
 abbrev KindSays : Kind → (B C : ℕ) → (marks : List ℕ) (vs es : List ℤ) → Type 0

@@ -36,16 +36,6 @@ fn all_same(v: i32, values: &[i32]) -> bool
     all_between(v, v, values)
 }
 
-// The smaller of two numbers.
-fn least(a: usize, b: usize) -> usize
-    ensures { λ r. ⌜ r ≡ groups.least a b ⌝ }
-{
-    if a < b {
-        return a;
-    }
-    b
-}
-
 // Whether a map is there or holds v everywhere.
 fn there_or(kind: Kind, mark: u8, v: i32, values: &[i32]) -> bool
     ensures { λ r. ⌜ r ≡ truth (⊎-dec (present? kind mark) (all-dec (λ x. int? x v) (now (values .entry)))) ⌝ }
@@ -63,7 +53,7 @@ fn blank(kind: Kind, width: usize, v: i32, marks: &[u8], area: &[i32]) -> bool
     let mut at: usize = 0;
     let mut i: usize = 0;
     while i < marks.len() {
-        let end = at + least(width, area.len() - at);
+        let end = at + kit::lesser(width, area.len() - at);
         if !there_or(kind, marks[i], v, &area[at..end]) {
             return false;
         }

@@ -16,8 +16,9 @@ use Rattle.kit.specs.Truth.{truth}
 use Rattle.kit.proofs.TruthLaws.{truth-true, truth-false}
 use Rattle.mapset.specs.Areas.{present?}
 use Rattle.areas.specs.ValidDecided.{blank?}
-use Rattle.valid.specs.Groups.{least}
-use Rattle.valid.proofs.Judging.{least-low, blank-next, blank-stop, blank-end}
+use Rattle.kit.specs.Range.{lesser}
+use Rattle.kit.proofs.LesserLaws.{lesser-within}
+use Rattle.valid.proofs.Judging.{blank-next, blank-stop, blank-end}
 use Rattle.valid.proofs.blank.Statement.{statement}
 use Rattle.valid.proofs.blank.Tie as tie
 
@@ -36,30 +37,30 @@ module _ (l : tie.At-loop Inv-loop μ-loop) where
   v-is = toZ-ofZ (s .fits .v)
 
   abbrev step : ℕ
-  step = least (s .args .width) (length (now (s .args .area)) - l .loop .at)
+  step = lesser (s .args .width) (length (now (s .args .area)) - l .loop .at)
 
   from-here : truth (blank? (s .args .kind) (s .args .width) (s .args .v) (drop (l .loop .i) (now (s .args .marks))) (drop (l .loop .at) (now (s .args .area))))
       ≡ truth (blank? (s .args .kind) (s .args .width) (s .args .v) (now (s .args .marks)) (now (s .args .area)))
   from-here = rw v-is at (l .loop .inv .2)
 
-room : (c : tie.After-least Inv-loop μ-loop) → c .before .before .loop .at + c .least .result ≤ length (now (s (c .before .before) .args .area))
-room c = let l = c .before .before in omega (arith, c .least .ensures, least-low (s l .args .width) (length (now (s l .args .area)) - l .loop .at), l .loop .inv .1)
+room : (c : tie.After-lesser Inv-loop μ-loop) → c .before .before .loop .at + c .lesser .result ≤ length (now (s (c .before .before) .args .area))
+room c = let l = c .before .before in omega (arith, c .lesser .ensures, lesser-within (s l .args .width) (length (now (s l .args .area)) - l .loop .at), l .loop .inv .1)
 
 told : (c : tie.After-there-or Inv-loop μ-loop) → let l = c .before .before .before .before .before in
     c .there-or .result ≡ truth (⊎-dec (present? (s l .args .kind) (getD (now (s l .args .marks)) (l .loop .i) 0)) (all-dec (λ (x : ℤ). int? x (s l .args .v)) (take (step l) (drop (l .loop .at) (now (s l .args .area))))))
 told c =
     let l = c .before .before .before .before .before in
-    let e : l .loop .at + c .before .before .before .least .result - l .loop .at ≡ step l = omega (arith, c .before .before .before .least .ensures) in
+    let e : l .loop .at + c .before .before .before .lesser .result - l .loop .at ≡ step l = omega (arith, c .before .before .before .lesser .ensures) in
     rw (v-is l, e) at (c .there-or .ensures)
 
 loop-holds : tie.Need-loop-holds Inv-loop μ-loop
 loop-holds c = (omega arith, omega arith, refl)
 
-sub-least : tie.Need-sub-least Inv-loop μ-loop
-sub-least c = omega arith
+sub-lesser : tie.Need-sub-lesser Inv-loop μ-loop
+sub-lesser c = omega arith
 
-least-requires : tie.Need-least-requires Inv-loop μ-loop
-least-requires c κs = search needs
+lesser-requires : tie.Need-lesser-requires Inv-loop μ-loop
+lesser-requires c κs = search needs
 
 add-end : tie.Need-add-end Inv-loop μ-loop
 add-end c = omega (arith, room c)
@@ -98,7 +99,7 @@ loop-again c =
     let l = c .before .before .before .before .before .before in (
       omega arith,
       omega (arith, room (c .before .before .before .before)),
-      rw (v-is l, c .before .before .before .before .least .ensures)
+      rw (v-is l, c .before .before .before .before .lesser .ensures)
           (sym (blank-next (s l .args .kind) (s l .args .width) (s l .args .v) (now (s l .args .marks)) (now (s l .args .area)) (l .loop .i) (l .loop .at) (omega arith) (truth-true _ (sym (told (c .before)) ∙ not-false _ (c .if1 .left)))) ∙ from-here l),
     )
 
@@ -114,8 +115,8 @@ blank-spec =
     Inv-loop
     μ-loop
     loop-holds
-    sub-least
-    least-requires
+    sub-lesser
+    lesser-requires
     add-end
     shared-slice-read-there-or
     mul-there-or
