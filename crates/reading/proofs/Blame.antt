@@ -33,7 +33,7 @@ use Rattle.reading.specs.Head.{meant, once, on-description, on-system, o
 use Rattle.reading.specs.Read.{versioned, version-of}
 use Rattle.reading.specs.declared.Place.{Place}
 use Rattle.reading.specs.declared.Place.the-variants.{Ended, Between, Early, Inside}
-use Rattle.reading.specs.Refusals.{among, Checks, Later, four, five, six, six-value, seven, eight, nine, First, three, six-first}
+use Rattle.reading.specs.Refusals.{among, Checks, Later, four, five, six, seven, eight, nine, First, three, six-first}
 
 -- if it is refused, P holds of the reason
 pub data Blames {W A : Type 0} (P : W → Type 0) : Answer W A → Type 0 where

@@ -33,15 +33,15 @@ Checks a (A w ∷ is) c = Checks (a + w) is c
 Checks a (U w ∷ is) c = Checks (a + w) is c
 
 -- a row of m values: fields of five columns, then blank columns up to 80
-abbrev pub value-row : ℕ → List Item
-value-row m = replicate m (I 5) ++ (X (80 - 5 * m) ∷ [])
+abbrev pub value-items : ℕ → List Item
+value-items m = replicate m (I 5) ++ (X (80 - 5 * m) ∷ [])
 
 -- after the version record: 4 and 5 at the label; 6 in the layout of a record, or in a row of 1 to 16 values; 7 and 8 at the first column of a field, or at 0; 9 at 0
 pub data Later : Fault → Type 0 where
   four : Later (fault 4 61)
   five : Later (fault 5 61)
   six : {c : ℕ} (l : Label) → Checks 1 (layout l) c → Later (fault 6 c)
-  six-value : {c : ℕ} (m : ℕ) → Within 1 16 m → Checks 1 (value-row m) c → Later (fault 6 c)
+  six-value : {c : ℕ} (m : ℕ) → Within 1 16 m → Checks 1 (value-items m) c → Later (fault 6 c)
   seven : {c : ℕ} → T (among c (0 ∷ 1 ∷ 3 ∷ 6 ∷ 7 ∷ 9 ∷ 13 ∷ 15 ∷ 19 ∷ 25 ∷ 31 ∷ [])) → Later (fault 7 c)
   eight : {c : ℕ} → T (among c (0 ∷ 1 ∷ 3 ∷ 9 ∷ 15 ∷ 21 ∷ 27 ∷ [])) → Later (fault 8 c)
   nine : Later (fault 9 0)

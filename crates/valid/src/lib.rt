@@ -9,7 +9,6 @@ ghost use Rattle.mapset.specs.Areas.{present?, six};
 ghost use Rattle.areas.specs.ValidDecided.{blank?};
 ghost use Rattle.valid.specs.Groups.{kind?, kind-values, kind-exponents, Holds, rest?, Long};
 ghost use Rattle.valid.specs.Validity.{validity};
-ghost use Rattle.valid.specs.Groups as groups;
 use mapset::Header;
 use mapset::Kind;
 use mapset::Texts;
