@@ -11,7 +11,6 @@ pub mod KeptLaws
 pub mod Sorted
 pub mod Seams
 pub mod InAreas
-pub mod FirstLaws
 pub mod Thirds
 pub mod Marked
 pub mod Stored

@@ -13,14 +13,13 @@ use Rattle.kit.proofs.ListLaws.{all-take, all-drop}
 use Rattle.mapset.specs.declared.Kind.{Kind}
 use Rattle.mapset.specs.declared.Kind.the-variants.{Tec, Rms, Height}
 use Rattle.mapset.specs.MapSet.{Block, OtherMap}
-use Rattle.mapset.specs.Areas.{Areas, present?, Nowhere, nowhere?}
+use Rattle.mapset.specs.Areas.{Areas, present?, Nowhere, nowhere?, first-of}
 use Rattle.layout.specs.Layout.{Exponent}
 use Rattle.areas.specs.Lists.{tab, zipw}
 use Rattle.areas.specs.Flat.{found, Slots, slots, reads, values-of, exponents-of, wanted, mark, there, areas-of}
 use Rattle.areas.specs.Formed.{MapRules, Rising, MapsRules}
 use Rattle.areas.specs.Value.{Value}
 use Rattle.areas.specs.Stores.{has}
-use Rattle.areas.specs.Places.{first-of}
 use Rattle.areas.specs.Nest.{a-tec, cut, third, if-there, kept, nest}
 use Rattle.areas.specs.Valid.{values-in, Blank}
 use Rattle.areas.proofs.ListLaws.{zip-length, zip-left, zip-right, zip-all}

@@ -8,10 +8,9 @@ use Rattle.kit.specs.Answer.{pick}
 use Rattle.mapset.specs.declared.Kind.{Kind}
 use Rattle.mapset.specs.declared.Kind.the-variants.{Tec, Rms, Height}
 use Rattle.mapset.specs.MapSet.{Block, TecMap, OtherMap, Maps}
-use Rattle.mapset.specs.Areas.{Areas, present?}
+use Rattle.mapset.specs.Areas.{Areas, present?, first-of}
 use Rattle.areas.specs.Lists.{chop, zipw}
 use Rattle.areas.specs.Flat.{Slots}
-use Rattle.areas.specs.Places.{first-of}
 
 abbrev pub a-block : ℤ → List ℤ → Block
 a-block e zs = record { exponent = e; values = zs }

@@ -11,11 +11,11 @@ use Rattle.mapset.specs.declared.Kind.{Kind}
 use Rattle.mapset.specs.declared.Kind.the-variants.{Tec, Rms, Height}
 use Rattle.mapset.specs.MapSet.{Block, MapSet}
 use Rattle.mapset.specs.Grid.{columns}
-use Rattle.mapset.specs.Areas.{Areas, present?, value-need, Room}
+use Rattle.mapset.specs.Areas.{Areas, present?, value-need, Room, first-of}
 use Rattle.layout.specs.Layout.{per-map}
 use Rattle.areas.specs.Flat.{mark, areas}
 use Rattle.areas.specs.Events.{Event, epoch, marked, block}
-use Rattle.areas.specs.Places.{before, place, first-of}
+use Rattle.areas.specs.Places.{before, place}
 use Rattle.areas.specs.Fronts.{fronts}
 
 abbrev pub is : Kind → Kind → Bool

@@ -18,6 +18,7 @@ use Rattle.mapset.specs.Areas.{Present, Nowhere, nowhere?, blocks, values, Soun
 use Rattle.mapset.specs.declared.Kind.{Kind}
 use Rattle.mapset.specs.declared.Kind.the-variants.{Tec as tec, Rms as rms, Height as height}
 use Rattle.mapset.proofs.Groups.{header-groups, marked}
+use Rattle.mapset.proofs.FirstLaws.{first-in}
 use Rattle.mapset.proofs.SoundLaws.{few-blocks, some-nodes}
 use Rattle.ask_cells.specs.Place.{InCell}
 use Rattle.ask_nodes.specs.Value.{kind-of, block}
@@ -109,7 +110,7 @@ module _ (q : Question) (s : Sound (q .header) (q .texts) (q .areas)) where
       let b : block (shape q) w < blocks (q .header) = rw (← mul-assoc n L R) (digits-lt flat r) in
       record {
         mark = omega (arith, s .room .marks);
-        exponent = omega (arith, digits-lt {q = q .kind} {m = 3} k b, s .room .exponents);
+        exponent = omega (arith, first-in (kind-of (q .kind)) (blocks (q .header)) (block (shape q) w) b, s .room .exponents);
         number = λ p. omega (arith, digits-lt {q = block (shape q) w} {m = blocks (q .header)} b c, held (kind-of (q .kind)) (w .map) m p);
         block = omega arith;
         column = c;

@@ -6,22 +6,26 @@ use mathlib.Core.Logic.{_⊎_, inl, inr}
 use mathlib.Core.List.{List, [], _∷_}
 use Prim.Native.Nat.{ℕ, suc, _+_, _-_, _*_, _/_, _%_, _≤_, _<_}
 use native.Mathlib.Nat.{mul-le-mul-left}
-use native.Mathlib.Decide.{ℕ-discrete, decLt}
+use native.Mathlib.Decide.{ℕ-discrete, decLe, decLt}
 use native.Mathlib.Omega.{arith}
 use borrow.Author.Tests.{eqb-true, eqb-false, leb-true, leb-false}
 use lib.Dec.{T, eqb, leb, ltb, eqb→eq, leb→le, ltb→lt}
 use lib.IntN.{ℤ, pos, negsuc, natAbs, _+ℤ_, _-ℤ_, _*ℤ_}
 use lib.ListN.{length}
-use Rattle.kit.specs.Answer.{All, ×-dec}
-use Rattle.kit.specs.Integer.{int?}
+use Rattle.kit.specs.Answer.{All, pick, ×-dec, ⊎-dec, ¬-dec, all-dec}
+use Rattle.kit.specs.Integer.{int?, le?, lt?, between?}
 use Rattle.kit.specs.Range.{within?}
-use Rattle.kit.specs.Truth.{truth}
+use Rattle.kit.specs.Truth.{truth, dec-by}
 use Rattle.kit.proofs.TruthLaws.{truth-ok, and-left, and-right}
 use Rattle.mapset.specs.Grid.{nodes, layers}
-use Rattle.mapset.specs.Areas.{Sound}
-use Rattle.mapset.specs.SoundDecided.{sound?}
+use Rattle.mapset.specs.Areas.{Areas, present?, nowhere?, Sound}
+use Rattle.mapset.specs.Decisions.{end?, step?, multiple?, ×₃-dec, ×₄-dec, together?, dimension?, limits?, follows?}
+use Rattle.mapset.specs.Described.{FullTexts}
+use Rattle.mapset.specs.Lines.{no-lines}
+use Rattle.mapset.specs.SoundDecided.{written?, axis?, records?, fillers?, header-rules?, room?, run?, epoch-rules?, sound?}
 use Rattle.mapset.specs.declared.Axis.{Axis}
 use Rattle.mapset.specs.declared.Grid.{Grid}
+use Rattle.mapset.specs.declared.Header.{Header}
 use Rattle.ask_cells.specs.Place.{Sits, along, Turned, Strip, GoesRound, RightOf, first, next, InCell100}
 use Rattle.ask_cells.specs.Found.{strip?, goes-round?, after}
 use Rattle.ask_cells.proofs.PlaceLaws.{turned-once, is-right}
@@ -48,6 +52,11 @@ denied : {P : Type 0} (d : Dec P) → T (not (truth d)) → ¬ P
 unfolding truth
 denied (yes p) t = absurd t
 denied (no n) t = n
+
+-- whether a set is sound. To unfold this is to unfold each test of it
+unfoldable pub judged-sound : Header → FullTexts → Areas → Bool
+unfolding truth sound? dec-by ×-dec ⊎-dec ¬-dec all-dec pick header-rules? records? fillers? room? epoch-rules? written? within? axis? end? step? together? between? ×₃-dec ×₄-dec multiple? le? lt? int? dimension? limits? run? follows? nowhere? present? ℕ-discrete decLe decLt no-lines
+judged-sound h t l = truth (sound? h t l)
 
 -- ---- the cell of a place
 abbrev far : Axis → ℤ → ℕ

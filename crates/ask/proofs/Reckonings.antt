@@ -1,23 +1,18 @@
 -- Questions with their answers, worked out by hand from 01, as rows of one table: the order of the refusals, whole turns, the grid's east end,
 -- which map is the nearest, the one rounding, and where each kind's numbers and exponents stand.
 use mathlib.Core.Path.{_≡_, ap}
-use mathlib.Core.Bool.{false}
 use mathlib.Core.Logic.{inl, inr}
 use mathlib.Core.List.{List, [], _∷_, _++_}
 use Prim.Native.Nat.{ℕ, zero, suc, _<_}
 use native.Mathlib.Omega.{arith}
-use native.Mathlib.Decide.{ℕ-discrete, decLe, decLt}
 use lib.IntN.{ℤ, pos, negsuc, natAbs}
 use lib.ListN.{replicate}
-use Rattle.kit.specs.Answer.{All, pick, ×-dec, ⊎-dec, ¬-dec, all-dec}
-use Rattle.kit.specs.Range.{within?}
-use Rattle.kit.specs.Truth.{truth, dec-by}
-use Rattle.kit.specs.Integer.{le?, lt?, int?, between?}
-use Rattle.mapset.specs.Areas.{Areas, present?, nowhere?, six}
-use Rattle.mapset.specs.Decisions.{end?, step?, multiple?, ×₃-dec, ×₄-dec, together?, dimension?, limits?, follows?}
-use Rattle.mapset.specs.SoundDecided.{written?, axis?, records?, fillers?, header-rules?, room?, run?, epoch-rules?, sound?}
+use Rattle.kit.specs.Answer.{All}
+use Rattle.mapset.specs.Areas.{Areas, six}
 use Rattle.mapset.specs.declared.Axis.{Axis}
 use Rattle.mapset.specs.declared.Header.{Header}
+use Rattle.mapset.specs.Said.{axis-of}
+use Rattle.mapset.specs.Samples.{absent-count, absent-systems, plain-header}
 use Rattle.ask_round.specs.Rounded.{rounded}
 use Rattle.ask_cells.specs.Place.{GoesRound}
 use Rattle.ask_cells.specs.Found.{strip?, closed?, goes-round?, after}
@@ -26,21 +21,12 @@ use Rattle.ask_sums.specs.Mean.{by-column, corners, spread, terms, weighted, we
 use Rattle.ask_sums.specs.Sums.{valued?, mean}
 use Rattle.ask.specs.Ask.{Question, question, tecu, km, refused, Answers, Open}
 use Rattle.ask.specs.Sun.{Turns}
-use Rattle.ask.proofs.Sample.{axis, absent, header as one-map, texts, held as sample-held, sound}
-use Rattle.ask.proofs.Reckoned.{Row, unknown, unsound, unserved, untimely, no-layer, past-east, gives, says, reckoned, known?, timely?, same-told, all-answer}
+use Rattle.ask.proofs.Sample.{header as one-map, texts, held as sample-held, sound}
+use Rattle.ask.proofs.Reckoned.{judged-sound, Row, unknown, unsound, unserved, untimely, no-layer, past-east, gives, says, reckoned, known?, timely?, same-told, all-answer}
 
 -- n maps, 3,600 s apart: rows at 1.0 and 0.0, columns at 0.0 and 1.0
 unfoldable header : ℕ → Header
-header n = record {
-  version = record { tenths = 11; kind = 73; code = 0 };
-  times = record { first = 0; last = 3600; interval = 3600; maps = n };
-  model = record { cutoff = 0; radius = 63710; dimension = 2 };
-  grid = record { heights = axis (pos 4500) (pos 4500) (pos 0); latitudes = axis (pos 10) (pos 0) (negsuc 9); longitudes = axis (pos 0) (pos 10) (pos 10) };
-  stations = record { stands = false; count = 0 };
-  satellites = record { stands = false; count = 0 };
-  systems = record { g = absent; r = absent; e = absent; c = absent; j = absent; i = absent; s = absent };
-  descriptions = 0;
-}
+header n = plain-header (record { first = 0; last = 3600; interval = 3600; maps = n }) (axis-of (pos 10) (pos 0) (negsuc 9)) (axis-of (pos 0) (pos 10) (pos 10))
 
 -- 10, 20 over 30, 40 TECU at second 0; 50, 60 over 70 and a node without value at second 3,600
 unfoldable held : Areas
@@ -58,10 +44,10 @@ two-layers = record {
   version = record { tenths = 11; kind = 73; code = 0 };
   times = record { first = 900; last = 4500; interval = 0; maps = 2 };
   model = record { cutoff = 0; radius = 63710; dimension = 3 };
-  grid = record { heights = axis (pos 4500) (pos 5000) (pos 500); latitudes = axis (pos 10) (pos 0) (negsuc 9); longitudes = axis (pos 0) (pos 10) (pos 10) };
-  stations = record { stands = false; count = 0 };
-  satellites = record { stands = false; count = 0 };
-  systems = record { g = absent; r = absent; e = absent; c = absent; j = absent; i = absent; s = absent };
+  grid = record { heights = axis-of (pos 4500) (pos 5000) (pos 500); latitudes = axis-of (pos 10) (pos 0) (negsuc 9); longitudes = axis-of (pos 0) (pos 10) (pos 10) };
+  stations = absent-count;
+  satellites = absent-count;
+  systems = absent-systems;
   descriptions = 0;
 }
 
@@ -144,7 +130,7 @@ rows =
     ∷ []
 
 pub reckonings : All (λ (r : Row). Answers (r .0) (says (r .1))) rows
-unfolding rows header held fine two-layers kinds ends odd texts axis absent truth sound? dec-by ×-dec ⊎-dec ¬-dec all-dec pick header-rules? records? fillers? room? epoch-rules? written? within? axis? end? step? together? between? ×₃-dec ×₄-dec multiple? le? lt? int? dimension? limits? run? follows? nowhere? present? ℕ-discrete decLe decLt known? timely? same-told strip? closed? goes-round? after rounded mean valued? weighted weight terms spread corners by-column value worth is-value?
+unfolding rows header held fine two-layers kinds ends odd texts judged-sound known? timely? same-told strip? closed? goes-round? after rounded mean valued? weighted weight terms spread corners by-column value worth is-value?
 reckonings = all-answer rows tt
 
 -- ---- the sample's corners, for many questions in one call: the node at 1.0, 0.0, just beyond LON2, the node at 0.0, 1.0
@@ -152,7 +138,7 @@ abbrev of-sample : ℤ → ℤ → ℕ → Question
 of-sample = question one-map texts sample-held 0 0 0
 
 pub corners-asked : Answers (of-sample (pos 100) (pos 0) 0) (tecu (pos 10000)) × Answers (of-sample (pos 0) (pos 101) 0) (refused 21) × Answers (of-sample (pos 0) (pos 100) 0) (tecu (pos 40000))
-unfolding one-map sample-held texts axis absent truth sound? dec-by ×-dec ⊎-dec ¬-dec all-dec pick header-rules? records? fillers? room? epoch-rules? written? within? axis? end? step? together? between? ×₃-dec ×₄-dec multiple? le? lt? int? dimension? limits? run? follows? nowhere? present? ℕ-discrete decLe decLt known? timely? same-told strip? closed? goes-round? after rounded mean valued? weighted weight terms spread corners by-column value worth is-value?
+unfolding one-map sample-held texts judged-sound known? timely? same-told strip? closed? goes-round? after rounded mean valued? weighted weight terms spread corners by-column value worth is-value?
 corners-asked = (
   reckoned (of-sample (pos 100) (pos 0) 0) (gives (tecu (pos 10000))) tt,
   reckoned (of-sample (pos 0) (pos 101) 0) past-east tt,
@@ -166,11 +152,10 @@ sample-open lat lon t = record { known = (omega arith, omega arith); sound = sou
 far-apart : {a : Axis} {n : ℕ} → 7200 < n → ¬ Turns a (0 ∷ n ∷ [])
 far-apart h t = omega (arith, t .close 0 (omega arith))
 
-pub not-served : (¬ Turns (axis (pos 0) (pos 3540) (pos 60)) (0 ∷ 7200 ∷ [])) × (¬ Turns (axis (pos 0) (pos 3550) (pos 50)) (0 ∷ 7201 ∷ []))
-    × (¬ GoesRound (axis (pos 0) (pos 3500) (pos 50)))
-unfolding axis
+pub not-served : (¬ Turns (axis-of (pos 0) (pos 3540) (pos 60)) (0 ∷ 7200 ∷ [])) × (¬ Turns (axis-of (pos 0) (pos 3550) (pos 50)) (0 ∷ 7201 ∷ []))
+    × (¬ GoesRound (axis-of (pos 0) (pos 3500) (pos 50)))
 not-served = (λ t. omega (arith, t .step), far-apart (omega arith), denied)
   where
-    denied : ¬ GoesRound (axis (pos 0) (pos 3500) (pos 50))
+    denied : ¬ GoesRound (axis-of (pos 0) (pos 3500) (pos 50))
     denied (inl e) = let z : _≡_ {A = ℕ} 3550 3600 = ap natAbs e in omega arith
     denied (inr e) = let z : _≡_ {A = ℕ} 3500 3600 = ap natAbs e in omega arith

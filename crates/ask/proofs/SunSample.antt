@@ -2,24 +2,22 @@
 -- the column after the last is the first; two maps, at second 0 and at second 7,200. In the first map the column at 355.0 has 10.0 and the one
 -- at 0.0 has 20.0 TECU; in the second the columns at 325.0 and at 330.0 have 30.0 and 40.0; all others have 0. The last question has maps of its own.
 use mathlib.Core.Path.{_≡_, refl}
-use mathlib.Core.Bool.{true, false}
 use mathlib.Core.Logic.{inl, inr}
 use mathlib.Core.List.{[], _∷_, _++_}
 use Prim.Native.Nat.{ℕ, zero, suc, _+_, _≤_, _<_}
-use native.Mathlib.Decide.{ℕ-discrete, decLe, decLt}
+use native.Mathlib.Decide.{ℕ-discrete, decLt}
 use native.Mathlib.Omega.{arith}
 use lib.IntN.{ℤ, pos, negsuc}
 use lib.ListN.{replicate}
 use Rattle.kit.specs.Answer.{pick, ×-dec, ⊎-dec, ¬-dec, all-dec}
-use Rattle.kit.specs.Range.{within?}
-use Rattle.kit.specs.Truth.{truth, dec-by}
+use Rattle.kit.specs.Truth.{dec-by}
 use Rattle.kit.proofs.TruthLaws.{truth-true}
-use Rattle.kit.specs.Integer.{le?, lt?, int?, between?}
-use Rattle.mapset.specs.Areas.{Areas, present?, nowhere?, Sound, six}
-use Rattle.mapset.specs.Judged.{toward?}
-use Rattle.mapset.specs.Decisions.{end?, step?, multiple?, ×₃-dec, ×₄-dec, together?, dimension?, limits?, follows?}
-use Rattle.mapset.specs.SoundDecided.{written?, axis?, records?, fillers?, header-rules?, room?, run?, epoch-rules?, sound?}
+use Rattle.kit.specs.Integer.{le?, int?, between?}
+use Rattle.mapset.specs.Areas.{Areas, present?, Sound, six}
+use Rattle.mapset.specs.SoundDecided.{sound?}
 use Rattle.mapset.specs.declared.Header.{Header}
+use Rattle.mapset.specs.Said.{axis-of}
+use Rattle.mapset.specs.Samples.{plain-header}
 use Rattle.ask_round.specs.Rounded.{rounded}
 use Rattle.ask_cells.specs.Place.{first, next, InCell}
 use Rattle.ask_spans.specs.Time.{epoch, gap, alone, shared, nearest, between}
@@ -30,20 +28,12 @@ use Rattle.ask.specs.Sun.{Turns}
 use Rattle.ask.specs.Ask.{Question, question, tecu, Inside, Answers}
 use Rattle.ask.proofs.AskLaws.{answered}
 use Rattle.ask.proofs.Once.{answers-once}
-use Rattle.ask.proofs.Sample.{axis, absent, texts}
+use Rattle.ask.proofs.Reckoned.{judged-sound}
+use Rattle.ask.proofs.Sample.{texts}
 use Rattle.ask_cells.specs.declared.Cell.{Cell}
 
 unfoldable pub header : Header
-header = record {
-  version = record { tenths = 11; kind = 73; code = 0 };
-  times = record { first = 0; last = 7200; interval = 7200; maps = 2 };
-  model = record { cutoff = 0; radius = 63710; dimension = 2 };
-  grid = record { heights = axis (pos 4500) (pos 4500) (pos 0); latitudes = axis (pos 0) (pos 0) (pos 50); longitudes = axis (pos 0) (pos 3550) (pos 50) };
-  stations = record { stands = false; count = 0 };
-  satellites = record { stands = false; count = 0 };
-  systems = record { g = absent; r = absent; e = absent; c = absent; j = absent; i = absent; s = absent };
-  descriptions = 0;
-}
+header = plain-header (record { first = 0; last = 7200; interval = 7200; maps = 2 }) (axis-of (pos 0) (pos 0) (pos 50)) (axis-of (pos 0) (pos 3550) (pos 50))
 
 unfoldable pub held : Areas
 held =
@@ -59,20 +49,17 @@ unfoldable pub fine : Areas
 fine =
     six (pos 1 ∷ replicate 143 (pos 0)) [] [] (negsuc 2 ∷ negsuc 2 ∷ replicate 4 (negsuc 0)) (0 ∷ 7200 ∷ []) (0 ∷ 0 ∷ [])
 
-is-sound : truth (sound? header texts held) ≡ true
-unfolding truth sound? dec-by ×-dec ⊎-dec ¬-dec all-dec pick header-rules? records? fillers? room? epoch-rules? written? within? axis? end? step? together? between? ×₃-dec ×₄-dec multiple? toward? le? lt? int? dimension? limits? run? follows? nowhere? present? ℕ-discrete decLe decLt header texts held axis absent
-is-sound = refl
-
 sound : Sound header texts held
-sound = truth-true (sound? header texts held) is-sound
+unfolding judged-sound header texts held
+sound = truth-true (sound? header texts held) refl
 
-is-sound-fine : truth (sound? header texts fine) ≡ true
-unfolding truth sound? dec-by ×-dec ⊎-dec ¬-dec all-dec pick header-rules? records? fillers? room? epoch-rules? written? within? axis? end? step? together? between? ×₃-dec ×₄-dec multiple? toward? le? lt? int? dimension? limits? run? follows? nowhere? present? ℕ-discrete decLe decLt header texts fine axis absent
-is-sound-fine = refl
+sound-fine : Sound header texts fine
+unfolding judged-sound header texts fine
+sound-fine = truth-true (sound? header texts fine) refl
 
 -- the grid goes round, its step is 5.0, its maps are 7,200 s apart
 turns : Turns (header .grid .longitudes) (0 ∷ 7200 ∷ [])
-unfolding header axis
+unfolding header
 turns = record { round = inl refl; step = omega arith; close = close }
   where
     close : (i : ℕ) → i + 1 < 2 → epoch (0 ∷ 7200 ∷ []) (i + 1) ≤ epoch (0 ∷ 7200 ∷ []) i + 7200
@@ -86,7 +73,7 @@ cell column right across wide =
 
 -- 357.50: halfway from the last column to the first
 strip : InCell 10 (header .grid) (pos 0) (pos 35750) (cell 71 0 250 500)
-unfolding header axis cell
+unfolding header cell
 strip = record {
   row = record { far = 0; from-first = refl; sits = record { place = refl; less = omega arith; node = omega arith; next = inl refl } };
   tall = refl;
@@ -96,7 +83,7 @@ strip = record {
 
 -- by method 0 at the first epoch: (10.0 + 20.0) / 2 = 15.0
 pub strip-answer : Answers (ask-at 0 (pos 35750) 0) (tecu (pos 15000))
-unfolding ask-at header axis cell held rounded mean valued? weighted weight ⊎-dec all-dec terms spread corners by-column decLt value worth is-value? between? present? pick ×-dec ¬-dec dec-by le? int? ℕ-discrete
+unfolding ask-at header cell held rounded mean valued? weighted weight ⊎-dec all-dec terms spread corners by-column decLt value worth is-value? between? present? pick ×-dec ¬-dec dec-by le? int? ℕ-discrete
 strip-answer =
     answered (ask-at 0 (pos 35750) 0) sound (inl (omega arith)) (alone 0)
     (nearest 0 refl (record { map = omega arith; near = λ j h. omega arith; earlier = λ j h. absurd (omega arith) }))
@@ -106,7 +93,7 @@ strip-answer =
 -- ---- halfway between the maps, at second 3,600, each map is moved by 15.0 degrees: asked at 342.50, the first looks at 357.50, in the strip,
 -- and the second at 327.50
 inside : Inside (ask-at 2 (pos 34250) 3600)
-unfolding ask-at header axis cell
+unfolding ask-at header cell
 inside = record {
   layer = omega arith;
   cell = cell 68 69 250 500;
@@ -119,7 +106,7 @@ inside = record {
 }
 
 moved-first : InCell 120 (header .grid) (pos 0) (pos 429000) (cell 71 0 3000 6000)
-unfolding header axis cell
+unfolding header cell
 moved-first = record {
   row = record { far = 0; from-first = refl; sits = record { place = refl; less = omega arith; node = omega arith; next = inl refl } };
   tall = refl;
@@ -128,7 +115,7 @@ moved-first = record {
 }
 
 moved-second : InCell 120 (header .grid) (pos 0) (pos 393000) (cell 65 66 3000 6000)
-unfolding header axis cell
+unfolding header cell
 moved-second = record {
   row = record { far = 0; from-first = refl; sits = record { place = refl; less = omega arith; node = omega arith; next = inl refl } };
   tall = refl;
@@ -138,7 +125,7 @@ moved-second = record {
 
 -- by method 2: (10.0 + 20.0 + 30.0 + 40.0) / 4 = 25.0
 pub sun-answer : Answers (ask-at 2 (pos 34250) 3600) (tecu (pos 25000))
-unfolding ask-at header axis cell held rounded mean valued? weighted weight ⊎-dec all-dec terms spread corners by-column decLt value worth is-value? between? present? pick ×-dec ¬-dec dec-by le? int? ℕ-discrete
+unfolding ask-at header cell held rounded mean valued? weighted weight ⊎-dec all-dec terms spread corners by-column decLt value worth is-value? between? present? pick ×-dec ¬-dec dec-by le? int? ℕ-discrete
 sun-answer =
     answered (ask-at 2 (pos 34250) 3600) sound (inr turns) (shared 0 3600 3600) (between 0 refl (omega arith) (omega arith) (omega arith))
     (cell 71 0 3000 6000) (cell 65 66 3000 6000) (record { first-in = moved-first; second-in = inr (omega arith, moved-second) })
@@ -146,7 +133,7 @@ sun-answer =
 
 -- by method 3 the earlier of the two, which are equally near: (10.0 + 20.0) / 2 = 15.0
 pub nearest-sun-answer : Answers (ask-at 3 (pos 34250) 3600) (tecu (pos 15000))
-unfolding ask-at header axis cell held rounded mean valued? weighted weight ⊎-dec all-dec terms spread corners by-column decLt value worth is-value? between? present? pick ×-dec ¬-dec dec-by le? int? ℕ-discrete
+unfolding ask-at header cell held rounded mean valued? weighted weight ⊎-dec all-dec terms spread corners by-column decLt value worth is-value? between? present? pick ×-dec ¬-dec dec-by le? int? ℕ-discrete
 nearest-sun-answer =
     answered (ask-at 3 (pos 34250) 3600) sound (inr turns) (alone 0) (nearest 0 refl (record { map = omega arith; near = near; earlier = λ j h. absurd (omega arith) }))
     (cell 71 0 3000 6000) (cell 71 0 3000 6000) (record { first-in = moved-first; second-in = inl (refl, refl) })
@@ -163,9 +150,9 @@ unfoldable pub fine-question : Question
 fine-question = question header texts fine 0 2 0 (pos 0) (pos 34250) 3600
 
 once-answer : Answers fine-question (tecu (pos 0))
-unfolding fine-question ask-at header axis cell fine rounded mean valued? weighted weight ⊎-dec all-dec terms spread corners by-column decLt value worth is-value? between? present? pick ×-dec ¬-dec dec-by le? int? ℕ-discrete
+unfolding fine-question ask-at header cell fine rounded mean valued? weighted weight ⊎-dec all-dec terms spread corners by-column decLt value worth is-value? between? present? pick ×-dec ¬-dec dec-by le? int? ℕ-discrete
 once-answer =
-    answered fine-question (truth-true (sound? header texts fine) is-sound-fine) (inr turns) (shared 0 3600 3600) (between 0 refl (omega arith) (omega arith) (omega arith))
+    answered fine-question sound-fine (inr turns) (shared 0 3600 3600) (between 0 refl (omega arith) (omega arith) (omega arith))
     (cell 71 0 3000 6000) (cell 65 66 3000 6000) (record { first-in = moved-first; second-in = inr (omega arith, moved-second) })
     (omega arith, omega arith) (omega arith, omega arith) (record { layer = inside .layer; cell = inside .cell; place = inside .place }) (tecu (pos 0)) refl
 

@@ -11,7 +11,7 @@ use Rattle.kit.proofs.Parts.{parts-le, le-parts, abs-parts, abs-scale, one-zero
 use Rattle.kit.specs.Answer.{pick, ×-dec}
 use Rattle.kit.proofs.AnswerLaws.{pick-yes, pick-no, pick-elim}
 use Rattle.kit.specs.Integer.{Between}
-use Rattle.mapset.specs.Areas.{Present, present?, kind-number}
+use Rattle.mapset.specs.Areas.{Present, present?}
 use Rattle.mapset.specs.declared.Kind.{Kind}
 use Rattle.mapset.specs.declared.Kind.the-variants.{Tec as tec, Rms as rms, Height as height}
 use Rattle.ask_nodes.specs.Value.{IsValue, thousandths, is-value?, worth, kind-of, value}
@@ -113,12 +113,6 @@ pub other-kind : (k : ℕ) → ¬ (k ≡ 0) → ¬ (k ≡ 1) → kind-of k ≡ h
 other-kind zero m n = absurd (m refl)
 other-kind (suc zero) m n = absurd (n refl)
 other-kind (suc (suc k)) m n = refl
-
-pub kind-back : (k b : ℕ) → k < 3 → kind-number (kind-of k) * b ≡ k * b
-kind-back zero b h = refl
-kind-back (suc zero) b h = refl
-kind-back (suc (suc zero)) b h = refl
-kind-back (suc (suc (suc k))) b h = absurd (omega arith)
 
 pub tecu-node : (kind : ℕ) (v : ℤ) → kind < 2 → N.Tecu (record { 0 = v }) ≡ in-node (kind-of kind) (some v)
 tecu-node zero v h = refl

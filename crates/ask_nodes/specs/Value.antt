@@ -8,7 +8,7 @@ use lib.ListN.{getD}
 use Rattle.kit.specs.Answer.{pick, ×-dec, ¬-dec}
 use Rattle.kit.specs.Truth.{dec-by}
 use Rattle.kit.specs.Integer.{int?, Between, between?}
-use Rattle.mapset.specs.Areas.{present?}
+use Rattle.mapset.specs.Areas.{present?, first-of}
 use Rattle.mapset.specs.declared.Kind.{Kind}
 use Rattle.mapset.specs.declared.Kind.the-variants.{Tec as tec, Rms as rms, Height as height}
 use Rattle.ask_nodes.specs.declared.Weighed.{Weighed}
@@ -51,7 +51,7 @@ abbrev pub number-at : Shape → Weighed → ℕ
 number-at s n = block s n * s .columns + n .column
 
 abbrev pub exponent-at : Shape → Weighed → ℕ
-exponent-at s n = s .kind * (s .maps * (s .layers * s .rows)) + block s n
+exponent-at s n = first-of (kind-of (s .kind)) (s .maps * (s .layers * s .rows)) + block s n
 
 unfoldable pub value : Shape → List ℤ → List ℤ → List ℕ → Weighed → Option ℤ
 value s values exponents marks n =

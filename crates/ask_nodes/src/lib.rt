@@ -3,7 +3,7 @@ ghost use mathlib.Core.Path.{_≡_};
 ghost use Prim.Native.Nat.{_*_, _≤_, _<_};
 ghost use lib.IntN.{pos};
 ghost use Rattle.kit.specs.Truth.{truth};
-ghost use Rattle.mapset.specs.Areas.{present?};
+ghost use Rattle.mapset.specs.Areas.{present?, first-of};
 ghost use Rattle.ask_nodes.specs.Value.{kind-of, block, value};
 ghost use Rattle.ask_nodes.specs.Nodes.{power-of, plain, Reached};
 ghost use Rattle.ask_nodes.specs.Units.{in-node};
@@ -105,8 +105,8 @@ pub fn block_of(n: Weighed, s: Shape) -> u64
 
 // Where the exponents of the kind start.
 pub fn first_exponent(s: Shape) -> u64
-    requires { ⌜ (s .kind < 3) × (s .layers * s .rows ≤ 2_000_000) × (s .maps * (s .layers * s .rows) ≤ 2_000_000) ⌝ }
-    ensures { λ r. ⌜ r ≡ s .kind * (s .maps * (s .layers * s .rows)) ⌝ }
+    requires { ⌜ (s .layers * s .rows ≤ 2_000_000) × (s .maps * (s .layers * s .rows) ≤ 2_000_000) ⌝ }
+    ensures { λ r. ⌜ r ≡ first-of (kind-of (s .kind)) (s .maps * (s .layers * s .rows)) ⌝ }
 {
     let blocks = (s.maps * (s.layers * s.rows)) as usize;
     mapset::blocks_before(kind_of(s.kind), blocks) as u64

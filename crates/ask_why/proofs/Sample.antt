@@ -19,7 +19,6 @@ use Rattle.ask_nodes.specs.declared.Node.the-variants as N
 use Rattle.ask_sums.specs.Mean.{by-column, corners, spread}
 use Rattle.ask.specs.Ask.{tecu}
 use Rattle.ask.specs.declared.Asked.the-variants as A
-use Rattle.ask.proofs.Sample.{axis}
 use Rattle.ask.proofs.SunSample.{header, held, ask-at, sun-answer}
 use Rattle.ask_why.specs.Explain.{places, Explains}
 use Rattle.ask_why.specs.Parts.{add, collect}
@@ -32,7 +31,7 @@ unfoldable cell : ℕ → ℕ → Cell
 cell column right = record { row = 0; down = 0; tall = 500; column = column; right = right; across = 3000; wide = 6000 }
 
 moved-first : InCell 120 (header .grid) (pos 0) (pos 429000) (cell 71 0)
-unfolding header axis cell
+unfolding header cell
 moved-first = record {
   row = record { far = 0; from-first = refl; sits = record { place = refl; less = omega arith; node = omega arith; next = inl refl } };
   tall = refl;
@@ -41,7 +40,7 @@ moved-first = record {
 }
 
 moved-second : InCell 120 (header .grid) (pos 0) (pos 393000) (cell 65 66)
-unfolding header axis cell
+unfolding header cell
 moved-second = record {
   row = record { far = 0; from-first = refl; sits = record { place = refl; less = omega arith; node = omega arith; next = inl refl } };
   tall = refl;
@@ -60,7 +59,7 @@ pub sun-explained : Explains (ask-at 2 (pos 34250) 3600) (record {
   denominator = 21_600_000_000;
   nodes = places (node 1 0 (pos 20000) ∷ node 1 71 (pos 10000) ∷ node 2 65 (pos 30000) ∷ node 2 66 (pos 40000) ∷ []);
 })
-unfolding ask-at header axis cell held add collect spread corners by-column value worth is-value? between? present? pick ×-dec ⊎-dec ¬-dec dec-by le? int? ℕ-discrete decLt
+unfolding ask-at header cell held add collect spread corners by-column value worth is-value? between? present? pick ×-dec ⊎-dec ¬-dec dec-by le? int? ℕ-discrete decLt
 sun-explained =
     explains (ask-at 2 (pos 34250) 3600) (opened (ask-at 2 (pos 34250) 3600) (tecu (pos 25000)) sun-answer tt .sound) (shared 0 3600 3600) (between 0 refl (omega arith) (omega arith) (omega arith))
     (cell 71 0) (cell 65 66) (record { first-in = moved-first; second-in = inr (omega arith, moved-second) }) (A.Tecu (record { 0 = pos 25000 })) sun-answer refl

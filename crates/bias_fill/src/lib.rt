@@ -48,21 +48,13 @@ fn put_three(out: &mut [i32], at: usize, a: i32, b: i32, c: i32)
     out[at + 2] = c;
 }
 
-fn put_two(out: &mut [i32], at: usize, a: i32, b: i32)
-    requires { ⌜ at + 2 ≤ length (now out) ⌝ }
-    ensures { λ _. ⌜ now (out .exit) ≡ sets (now (out .entry)) at (a ∷ b ∷ []) ⌝ }
-{
-    out[at] = a;
-    out[at + 1] = b;
-}
-
 // System, number, bias, RMS.
 fn put_satellite(out: &mut [i32], at: usize, s: Satellite)
     requires { ⌜ (s .number < 2147483648) × (at + 4 ≤ length (now out)) ⌝ }
     ensures { λ _. ⌜ now (out .exit) ≡ sets (now (out .entry)) at (four s) ⌝ }
 {
-    put_two(out, at, letter(s.system), small(s.number));
-    put_two(out, at + 2, s.bias, s.rms);
+    kit::put_two(out, at, letter(s.system), small(s.number));
+    kit::put_two(out, at + 2, s.bias, s.rms);
 }
 
 // System, bias, RMS.

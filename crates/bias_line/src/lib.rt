@@ -5,7 +5,6 @@ ghost use Prim.Native.Nat.{_+_, _≤_};
 ghost use lib.ListN.{length};
 ghost use Rattle.forms.specs.Columns.{columns};
 ghost use Rattle.layout.specs.Text.{pad};
-ghost use Rattle.layout.specs.Names.{holds};
 ghost use Rattle.biases.specs.Read as read;
 ghost use Rattle.bias_line.specs.Lines.{toldPair, toldSatellite, toldStation, pair-after, system-letter};
 use biases::Place;

@@ -4,63 +4,29 @@ use mathlib.Core.List.{List, [], _∷_, _++_}
 use Prim.Native.Nat.{ℕ}
 use lib.IntN.{pos, negsuc}
 use Prim.Native.String.{String}
-use native.Mathlib.Decide.{ℕ-discrete, decLe, decLt}
-use Rattle.kit.specs.Answer.{ok, refused, need, bind, amap, get, pick, ×-dec, ⊎-dec, ¬-dec, all-dec, same, sames}
-use Rattle.kit.specs.Integer.{int?, le?, lt?, between?}
-use Rattle.kit.specs.Range.{within?, natural?}
-use Rattle.days.specs.Years.{isLeap, monthDays, yearDays}
-use Rattle.calendar.specs.Calendar.{dated, second}
-use Rattle.days.specs.Sums.{sum}
-use Rattle.forms.specs.Read.{readField, numberOf, formed?}
-use Rattle.mapset.specs.Decisions.{×₃-dec, ×₄-dec, end?, step?, multiple?, together?, limits?, dimension?, follows?}
+use Rattle.kit.specs.Answer.{Answer, ok, refused}
 use Rattle.mapset.specs.MapSet.{MapSet}
-use Rattle.layout.specs.Text.{pad}
-use Rattle.layout.specs.Labels.{bytes, name}
-use Rattle.reading.specs.Feed.{why, on-line, front, opens?, split, feed}
-use Rattle.reading.specs.Fields.{lookup, label, number, blank, blanks, scan, fields, cells}
-use Rattle.reading.specs.Maps.{on-date, kind?, true?, after?, implies?, in-time?, height?, loose, on-comment, on-exponent, start-tec, start-other, start-map, on-start, end-map, on-end as on-map-end, epoch-tec, epoch-other, on-epoch, open-block, on-block, on-file, taken, step, finish, run, short}
-use Rattle.layout.specs.Layout.{exponent?}
-use Rattle.reading.specs.Head.{meant, place, none?, complete?, made, made-texts, once, on-end, at-head, head-step, heading}
-use Rattle.reading.specs.Read.{versioned, version-of, begin, read}
-use Rattle.reading.proofs.Vectors.{lines}
+use Rattle.layout.specs.Labels.{bytes}
+use Rattle.reading.specs.Feed.{Why, why}
+use Rattle.reading.proofs.Vectors.{whole-reading}
+use Rattle.layout.specs.Samples.{lines, mix-line, one-map-lines, pair-axes, pair-map}
 use Rattle.biases.specs.Biases.{Biases}
 use Rattle.biases.specs.Rules.{title, of-satellite, of-station, Makes}
 use Rattle.biases.specs.Read.{role, system-of, satellite-meant, station-meant, satellite-of, station-of, same-satellite?, same-station?, new, new-satellite, new-station, on-role, gather, biases}
 use Rattle.biases.proofs.Exact.{read-biases}
 
--- 14 lines before the aux blocks, of which the first is the version record, and the rest behind them
-abbrev before : String → List String
-before v =
-    v
-    ∷ "maker               agency              15-nov-26 06:00     PGM / RUN BY / DATE"
-    ∷ "  1995    10    15     0     0     0                        EPOCH OF FIRST MAP"
-    ∷ "  1995    10    15     0     0     0                        EPOCH OF LAST MAP"
-    ∷ "     0                                                      INTERVAL"
-    ∷ "     1                                                      # OF MAPS IN FILE"
-    ∷ "  COSZ                                                      MAPPING FUNCTION"
-    ∷ "     0.0                                                    ELEVATION CUTOFF"
-    ∷ "carrier phase                                               OBSERVABLES USED"
-    ∷ "  6371.0                                                    BASE RADIUS"
-    ∷ "     2                                                      MAP DIMENSION"
-    ∷ "   450.0 450.0   0.0                                        HGT1 / HGT2 / DHGT"
-    ∷ "     5.0   5.0   5.0                                        LAT1 / LAT2 / DLAT"
-    ∷ "     0.0   5.0   5.0                                        LON1 / LON2 / DLON"
-    ∷ []
+-- what the bias reader tells of a text. To unfold this is to unfold each step of `biases`
+unfoldable pub whole-biases : List ℕ → Answer Why Biases
+unfolding whole-reading title of-satellite of-station role system-of satellite-of satellite-meant station-of station-meant same-satellite? same-station? new new-satellite new-station on-role gather biases
+whole-biases = biases
 
-abbrev after : List String
-after =
-    "                                                            END OF HEADER"
-    ∷ "     1                                                      START OF TEC MAP"
-    ∷ "  1995    10    15     0     0     0                        EPOCH OF CURRENT MAP"
-    ∷ "     5.0   0.0   5.0   5.0 450.0                            LAT/LON1/LON2/DLON/H"
-    ∷ "   11   12"
-    ∷ "     1                                                      END OF TEC MAP"
-    ∷ "                                                            END OF FILE"
-    ∷ []
+-- a text with this first line, and these aux blocks behind line 14
+abbrev text-with : String → List String → List ℕ
+text-with v ls = lines (v ∷ (one-map-lines ++ (pair-axes ++ (ls ++ pair-map "     5.0   0.0   5.0   5.0 450.0                            LAT/LON1/LON2/DLON/H" []))))
 
--- the text with these lines in between, of version 1.0
+-- of version 1.0
 abbrev text-of : List String → List ℕ
-text-of ls = lines (before "     1.0            IONOSPHERE MAPS     GPS                 IONEX VERSION / TYPE" ++ (ls ++ after))
+text-of = text-with "     1.0            IONOSPHERE MAPS     GPS                 IONEX VERSION / TYPE"
 
 unfoldable pub told : Biases
 told =
@@ -99,12 +65,12 @@ two-blocks =
     ∷ []
 
 pub two-blocks-read : biases (text-of two-blocks) ≡ ok told
-unfolding two-blocks told read begin feed split front opens? pad pick ×-dec ⊎-dec ¬-dec all-dec same sames need bind amap get ℕ-discrete decLe decLt int? le? lt? between? within? natural? dated second isLeap monthDays yearDays sum readField numberOf formed? ×₃-dec ×₄-dec end? step? multiple? together? limits? dimension? follows? name on-line lookup label number blank blanks scan fields cells on-date exponent? kind? true? after? implies? in-time? height? loose on-comment on-exponent start-tec start-other start-map on-start end-map on-map-end epoch-tec epoch-other on-epoch open-block on-block on-file taken step finish run short meant place none? complete? made made-texts once on-end at-head head-step heading versioned version-of title of-satellite of-station role system-of satellite-of satellite-meant station-of station-meant same-satellite? same-station? new new-satellite new-station on-role gather biases
+unfolding two-blocks told whole-biases
 two-blocks-read = refl
 
 -- and of 1.1
-pub later-read : biases (lines (before "     1.1            IONOSPHERE MAPS     MIX                 IONEX VERSION / TYPE" ++ (two-blocks ++ after))) ≡ ok told
-unfolding two-blocks told read begin feed split front opens? pad pick ×-dec ⊎-dec ¬-dec all-dec same sames need bind amap get ℕ-discrete decLe decLt int? le? lt? between? within? natural? dated second isLeap monthDays yearDays sum readField numberOf formed? ×₃-dec ×₄-dec end? step? multiple? together? limits? dimension? follows? name on-line lookup label number blank blanks scan fields cells on-date exponent? kind? true? after? implies? in-time? height? loose on-comment on-exponent start-tec start-other start-map on-start end-map on-map-end epoch-tec epoch-other on-epoch open-block on-block on-file taken step finish run short meant place none? complete? made made-texts once on-end at-head head-step heading versioned version-of title of-satellite of-station role system-of satellite-of satellite-meant station-of station-meant same-satellite? same-station? new new-satellite new-station on-role gather biases
+pub later-read : biases (text-with mix-line two-blocks) ≡ ok told
+unfolding two-blocks told whole-biases
 later-read = refl
 
 pub two-blocks-made : (m : MapSet) × Makes m told (text-of two-blocks)
@@ -119,7 +85,7 @@ six-first =
     ∷ []
 
 pub six-first-read : biases (text-of six-first) ≡ refused (why 6 16 17)
-unfolding six-first read begin feed split front opens? pad pick ×-dec ⊎-dec ¬-dec all-dec same sames need bind amap get ℕ-discrete decLe decLt int? le? lt? between? within? natural? dated second isLeap monthDays yearDays sum readField numberOf formed? ×₃-dec ×₄-dec end? step? multiple? together? limits? dimension? follows? name on-line lookup label number blank blanks scan fields cells on-date exponent? kind? true? after? implies? in-time? height? loose on-comment on-exponent start-tec start-other start-map on-start end-map on-map-end epoch-tec epoch-other on-epoch open-block on-block on-file taken step finish run short meant place none? complete? made made-texts once on-end at-head head-step heading versioned version-of title of-satellite of-station role system-of satellite-of satellite-meant station-of station-meant same-satellite? same-station? new new-satellite new-station on-role gather biases
+unfolding six-first whole-biases
 six-first-read = refl
 
 -- 7 for the letter before 7 for the number
@@ -131,7 +97,7 @@ letter-first =
     ∷ []
 
 pub letter-first-read : biases (text-of letter-first) ≡ refused (why 7 16 4)
-unfolding letter-first read begin feed split front opens? pad pick ×-dec ⊎-dec ¬-dec all-dec same sames need bind amap get ℕ-discrete decLe decLt int? le? lt? between? within? natural? dated second isLeap monthDays yearDays sum readField numberOf formed? ×₃-dec ×₄-dec end? step? multiple? together? limits? dimension? follows? name on-line lookup label number blank blanks scan fields cells on-date exponent? kind? true? after? implies? in-time? height? loose on-comment on-exponent start-tec start-other start-map on-start end-map on-map-end epoch-tec epoch-other on-epoch open-block on-block on-file taken step finish run short meant place none? complete? made made-texts once on-end at-head head-step heading versioned version-of title of-satellite of-station role system-of satellite-of satellite-meant station-of station-meant same-satellite? same-station? new new-satellite new-station on-role gather biases
+unfolding letter-first whole-biases
 letter-first-read = refl
 
 -- 7 for the number 0
@@ -143,7 +109,7 @@ number-zero =
     ∷ []
 
 pub number-zero-read : biases (text-of number-zero) ≡ refused (why 7 16 5)
-unfolding number-zero read begin feed split front opens? pad pick ×-dec ⊎-dec ¬-dec all-dec same sames need bind amap get ℕ-discrete decLe decLt int? le? lt? between? within? natural? dated second isLeap monthDays yearDays sum readField numberOf formed? ×₃-dec ×₄-dec end? step? multiple? together? limits? dimension? follows? name on-line lookup label number blank blanks scan fields cells on-date exponent? kind? true? after? implies? in-time? height? loose on-comment on-exponent start-tec start-other start-map on-start end-map on-map-end epoch-tec epoch-other on-epoch open-block on-block on-file taken step finish run short meant place none? complete? made made-texts once on-end at-head head-step heading versioned version-of title of-satellite of-station role system-of satellite-of satellite-meant station-of station-meant same-satellite? same-station? new new-satellite new-station on-role gather biases
+unfolding number-zero whole-biases
 number-zero-read = refl
 
 -- blank and G are one system, over two blocks
@@ -158,7 +124,7 @@ twice =
     ∷ []
 
 pub twice-read : biases (text-of twice) ≡ refused (why 5 19 61)
-unfolding twice read begin feed split front opens? pad pick ×-dec ⊎-dec ¬-dec all-dec same sames need bind amap get ℕ-discrete decLe decLt int? le? lt? between? within? natural? dated second isLeap monthDays yearDays sum readField numberOf formed? ×₃-dec ×₄-dec end? step? multiple? together? limits? dimension? follows? name on-line lookup label number blank blanks scan fields cells on-date exponent? kind? true? after? implies? in-time? height? loose on-comment on-exponent start-tec start-other start-map on-start end-map on-map-end epoch-tec epoch-other on-epoch open-block on-block on-file taken step finish run short meant place none? complete? made made-texts once on-end at-head head-step heading versioned version-of title of-satellite of-station role system-of satellite-of satellite-meant station-of station-meant same-satellite? same-station? new new-satellite new-station on-role gather biases
+unfolding twice whole-biases
 twice-read = refl
 
 -- a station with its system given twice
@@ -171,7 +137,7 @@ twice-station =
     ∷ []
 
 pub twice-station-read : biases (text-of twice-station) ≡ refused (why 5 17 61)
-unfolding twice-station read begin feed split front opens? pad pick ×-dec ⊎-dec ¬-dec all-dec same sames need bind amap get ℕ-discrete decLe decLt int? le? lt? between? within? natural? dated second isLeap monthDays yearDays sum readField numberOf formed? ×₃-dec ×₄-dec end? step? multiple? together? limits? dimension? follows? name on-line lookup label number blank blanks scan fields cells on-date exponent? kind? true? after? implies? in-time? height? loose on-comment on-exponent start-tec start-other start-map on-start end-map on-map-end epoch-tec epoch-other on-epoch open-block on-block on-file taken step finish run short meant place none? complete? made made-texts once on-end at-head head-step heading versioned version-of title of-satellite of-station role system-of satellite-of satellite-meant station-of station-meant same-satellite? same-station? new new-satellite new-station on-role gather biases
+unfolding twice-station whole-biases
 twice-station-read = refl
 
 -- 6 before 5
@@ -184,7 +150,7 @@ six-before-five =
     ∷ []
 
 pub six-before-five-read : biases (text-of six-before-five) ≡ refused (why 6 17 27)
-unfolding six-before-five read begin feed split front opens? pad pick ×-dec ⊎-dec ¬-dec all-dec same sames need bind amap get ℕ-discrete decLe decLt int? le? lt? between? within? natural? dated second isLeap monthDays yearDays sum readField numberOf formed? ×₃-dec ×₄-dec end? step? multiple? together? limits? dimension? follows? name on-line lookup label number blank blanks scan fields cells on-date exponent? kind? true? after? implies? in-time? height? loose on-comment on-exponent start-tec start-other start-map on-start end-map on-map-end epoch-tec epoch-other on-epoch open-block on-block on-file taken step finish run short meant place none? complete? made made-texts once on-end at-head head-step heading versioned version-of title of-satellite of-station role system-of satellite-of satellite-meant station-of station-meant same-satellite? same-station? new new-satellite new-station on-role gather biases
+unfolding six-before-five whole-biases
 six-before-five-read = refl
 
 -- a byte behind the fields: 6 at its own column
@@ -196,7 +162,7 @@ behind =
     ∷ []
 
 pub behind-read : biases (text-of behind) ≡ refused (why 6 16 51)
-unfolding behind read begin feed split front opens? pad pick ×-dec ⊎-dec ¬-dec all-dec same sames need bind amap get ℕ-discrete decLe decLt int? le? lt? between? within? natural? dated second isLeap monthDays yearDays sum readField numberOf formed? ×₃-dec ×₄-dec end? step? multiple? together? limits? dimension? follows? name on-line lookup label number blank blanks scan fields cells on-date exponent? kind? true? after? implies? in-time? height? loose on-comment on-exponent start-tec start-other start-map on-start end-map on-map-end epoch-tec epoch-other on-epoch open-block on-block on-file taken step finish run short meant place none? complete? made made-texts once on-end at-head head-step heading versioned version-of title of-satellite of-station role system-of satellite-of satellite-meant station-of station-meant same-satellite? same-station? new new-satellite new-station on-role gather biases
+unfolding behind whole-biases
 behind-read = refl
 
 -- a fault of the maps, on a later line, before those of the biases
@@ -209,5 +175,5 @@ map-first =
     ∷ []
 
 pub map-first-read : biases (text-of map-first) ≡ refused (why 4 18 61)
-unfolding map-first read begin feed split front opens? pad pick ×-dec ⊎-dec ¬-dec all-dec same sames need bind amap get ℕ-discrete decLe decLt int? le? lt? between? within? natural? dated second isLeap monthDays yearDays sum readField numberOf formed? ×₃-dec ×₄-dec end? step? multiple? together? limits? dimension? follows? name on-line lookup label number blank blanks scan fields cells on-date exponent? kind? true? after? implies? in-time? height? loose on-comment on-exponent start-tec start-other start-map on-start end-map on-map-end epoch-tec epoch-other on-epoch open-block on-block on-file taken step finish run short meant place none? complete? made made-texts once on-end at-head head-step heading versioned version-of title of-satellite of-station role system-of satellite-of satellite-meant station-of station-meant same-satellite? same-station? new new-satellite new-station on-role gather biases
+unfolding map-first whole-biases
 map-first-read = refl

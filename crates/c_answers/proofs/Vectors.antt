@@ -1,15 +1,15 @@
 -- What the exports tell, in 01's and 02's numbers and in the order of `include/ionex.h`: the refusals that have a form of their own, the six needs, and a header
 -- record as its 45 numbers.
 use mathlib.Core.Path.{_≡_, refl}
-use mathlib.Core.Bool.{true, false}
 use mathlib.Core.List.{[], _∷_}
 use Prim.Native.Nat.{ℕ}
 use native.Mathlib.Decide.{decLe}
 use lib.IntN.{pos, negsuc}
 use Rattle.kit.specs.Answer.{pick, refused}
 use Rattle.calendar.specs.Calendar.{Refusal}
-use Rattle.mapset.specs.declared.System.{System}
 use Rattle.mapset.specs.declared.Header.{Header}
+use Rattle.mapset.specs.Said.{axis-of}
+use Rattle.mapset.specs.Samples.{given-count, given-system, absent-system}
 use Rattle.read_outcome.specs.Outcome.{at-place, eleven}
 use Rattle.read_outcome.specs.Outcome as R
 use Rattle.write_text.specs.Write.{told}
@@ -38,12 +38,6 @@ own-too-short = (refl, refl, refl, refl)
 pub needs-listed : listed (record { tec = 1; rms = 2; height = 3; exponents = 4; epochs = 5; marks = 6 }) ≡ 1 ∷ 2 ∷ 3 ∷ 4 ∷ 5 ∷ 6 ∷ []
 needs-listed = refl
 
-abbrev a-system : ℕ → ℕ → System
-a-system a b = record { stands = true; stations = a; satellites = b }
-
-abbrev no-system : System
-no-system = record { stands = false; stations = 0; satellites = 0 }
-
 abbrev a-header : Header
 a-header =
     record {
@@ -51,13 +45,14 @@ a-header =
       times = record { first = 3022704000; last = 3022707600; interval = 3600; maps = 2 };
       model = record { cutoff = 100; radius = 63710; dimension = 3 };
       grid = record {
-        heights = record { first = pos 4500; last = pos 5000; step = pos 500 };
-        latitudes = record { first = pos 875; last = negsuc 874; step = negsuc 24 };
-        longitudes = record { first = negsuc 1799; last = pos 1800; step = pos 50 };
+        heights = axis-of (pos 4500) (pos 5000) (pos 500);
+        latitudes = axis-of (pos 875) (negsuc 874) (negsuc 24);
+        longitudes = axis-of (negsuc 1799) (pos 1800) (pos 50);
       };
-      stations = record { stands = true; count = 80 };
-      satellites = record { stands = true; count = 32 };
-      systems = record { g = a-system 81 24; r = a-system 51 7; e = a-system 52 8; c = a-system 53 9; j = a-system 54 10; i = no-system; s = a-system 55 11 };
+      stations = given-count 80;
+      satellites = given-count 32;
+      systems =
+          record { g = given-system 81 24; r = given-system 51 7; e = given-system 52 8; c = given-system 53 9; j = given-system 54 10; i = absent-system; s = given-system 55 11 };
       descriptions = 4;
     }
 

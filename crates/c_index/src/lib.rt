@@ -1,6 +1,5 @@
 // A node or a block by an index, as the answer crosses to other languages: its number, and what it brings in an area of the call's own.
 ghost use mathlib.Core.Path.{_≡_};
-ghost use mathlib.Core.List.{[], _∷_};
 ghost use Prim.Native.Nat.{_≤_};
 ghost use lib.ListN.{length};
 ghost use Rattle.kit.specs.Lists.{front};
@@ -22,14 +21,6 @@ fn number_of(why: Why) -> u64
     }
 }
 
-fn put_two(out: &mut [i32], first: i32, second: i32)
-    requires { ⌜ 2 ≤ length (now out) ⌝ }
-    ensures { λ _. ⌜ now (out .exit) ≡ front (first ∷ second ∷ []) (now (out .entry)) ⌝ }
-{
-    out[0] = first;
-    out[1] = second;
-}
-
 // A node crosses: its number, and the number as written with its exponent.
 pub fn put_node(reply: Reply, value: &mut [i32]) -> u64
     requires { ⌜ 2 ≤ length (now value) ⌝ }
@@ -37,7 +28,7 @@ pub fn put_node(reply: Reply, value: &mut [i32]) -> u64
 {
     match reply {
         Reply::Given(z, e, _, _) => {
-            put_two(value, z, e);
+            kit::put_two(value, 0, z, e);
             0
         }
         Reply::Refused(why) => number_of(why),

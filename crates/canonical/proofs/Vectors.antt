@@ -2,15 +2,14 @@
 -- its canonical text.
 use mathlib.Core.Path.{_≡_, refl, ap, _∙_}
 use mathlib.Core.List.{List, [], _∷_, _++_, map}
-use mathlib.Core.Bool.{true, false}
 use Prim.Native.Nat.{ℕ}
 use Prim.Native.String.{String}
 use native.Mathlib.Omega.{arith}
 use native.Mathlib.Decide.{ℕ-discrete, decLe, decLt}
-use lib.IntN.{ℤ, pos, negsuc}
+use lib.IntN.{pos, negsuc}
 use lib.ListN.{take, drop, replicate}
-use Rattle.kit.specs.Answer.{ok, need, bind, amap, get, pick, ×-dec, ⊎-dec, ¬-dec, all-dec, same, sames}
-use Rattle.kit.specs.Integer.{int?, le?, lt?, between?}
+use Rattle.kit.specs.Answer.{ok, pick, ×-dec, all-dec}
+use Rattle.kit.specs.Integer.{int?}
 use Rattle.kit.specs.Range.{within?, natural?}
 use Rattle.days.specs.Years.{isLeap, monthDays, yearDays}
 use Rattle.days.specs.Sums.{sum}
@@ -18,22 +17,18 @@ use Rattle.calendar.specs.Calendar.{dated, second}
 use Rattle.calendar.proofs.DateLaws.{date-once}
 use Rattle.calendar.proofs.FieldLaws.{dated-ok}
 use Rattle.calendar.specs.declared.Epoch.{Epoch}
-use Rattle.forms.specs.Read.{readField, numberOf, formed?}
 use Rattle.forms.specs.Show.{digits, aligned, showField}
 use Rattle.mapset.specs.Areas.{six}
-use Rattle.mapset.specs.Decisions.{×₃-dec, ×₄-dec, end?, step?, multiple?, together?, limits?, dimension?, follows?}
-use Rattle.mapset.specs.declared.System.{System}
-use Rattle.mapset.specs.Lines.{lines-in, end-to-end, described}
-use Rattle.mapset.specs.MapSet.{Block, MapSet}
+use Rattle.mapset.specs.Described.{full}
+use Rattle.mapset.specs.Lines.{lines-in}
+use Rattle.mapset.specs.MapSet.{MapSet}
+use Rattle.mapset.specs.Said.{axis-of}
+use Rattle.mapset.specs.Samples.{given-count, given-system, absent-system, row-of-three}
 use Rattle.layout.specs.Text.{pad}
 use Rattle.layout.specs.Labels.{epoch, head, bytes, name}
-use Rattle.reading.specs.Feed.{on-line, front, opens?, split, feed}
-use Rattle.reading.specs.Fields.{lookup, label, number, blank, scan, fields, cells}
-use Rattle.reading.specs.Maps.{on-date, kind?, true?, after?, implies?, in-time?, height?, loose, on-comment, on-exponent, start-tec, start-other, start-map, on-start, end-map, on-end as on-map-end, epoch-tec, epoch-other, on-epoch, open-block, on-block, on-file, taken, step, finish, run, short}
-use Rattle.layout.specs.Layout.{exponent?}
-use Rattle.reading.specs.Head.{meant, place, none?, complete?, made, made-texts, once, on-description, on-system, on-end, at-head, head-step, heading}
-use Rattle.reading.specs.Read.{versioned, version-of, begin, read}
-use Rattle.reading.proofs.Vectors.{lines}
+use Rattle.reading.specs.Read.{read}
+use Rattle.layout.specs.Samples.{lines, head-texts}
+use Rattle.reading.proofs.Vectors.{whole-reading}
 use Rattle.areas.specs.Flat.{areas-of, areas}
 use Rattle.canonical.specs.Canon.{columns-of, row-of, version-row, date-of, six as date, slot-row, head-rows, description-rows, header-rows, cells-of, value-row, value-rows, block-rows, other-rows, tec-rows, map-rows, canon-rows, trimmed, lines-of, canon}
 use Rattle.canonical.proofs.HeadRows.{date-is}
@@ -99,15 +94,6 @@ full-text =
     ∷ "                                                            END OF FILE"
     ∷ []
 
-abbrev no-system : System
-no-system = record { stands = false; stations = 0; satellites = 0 }
-
-abbrev a-system : ℕ → ℕ → System
-a-system a b = record { stands = true; stations = a; satellites = b }
-
-abbrev row-of-three : ℤ → ℤ → ℤ → ℤ → Block
-row-of-three e a b c = record { exponent = e; values = a ∷ b ∷ c ∷ [] }
-
 -- map 1 under the header's exponent -2; its height map and the first row of map 2 under 0; then -1
 unfoldable pub full-set : MapSet
 full-set =
@@ -117,23 +103,16 @@ full-set =
         times = record { first = 3022704000; last = 3022707600; interval = 3600; maps = 2 };
         model = record { cutoff = 100; radius = 63710; dimension = 2 };
         grid = record {
-          heights = record { first = pos 4500; last = pos 4500; step = pos 0 };
-          latitudes = record { first = pos 50; last = pos 0; step = negsuc 49 };
-          longitudes = record { first = negsuc 49; last = pos 50; step = pos 50 };
+          heights = axis-of (pos 4500) (pos 4500) (pos 0);
+          latitudes = axis-of (pos 50) (pos 0) (negsuc 49);
+          longitudes = axis-of (negsuc 49) (pos 50) (pos 50);
         };
-        stations = record { stands = true; count = 80 };
-        satellites = record { stands = true; count = 32 };
-        systems = record { g = a-system 80 24; r = a-system 51 7; e = no-system; c = no-system; j = no-system; i = no-system; s = a-system 0 1 };
+        stations = given-count 80;
+        satellites = given-count 32;
+        systems = record { g = given-system 80 24; r = given-system 51 7; e = absent-system; c = absent-system; j = absent-system; i = absent-system; s = given-system 0 1 };
         descriptions = 2;
       };
-      texts = record {
-        program = bytes "maker               ";
-        agency = bytes "agency              ";
-        date = bytes "15-nov-26 06:00     ";
-        mapping = bytes "COSZ";
-        observables = bytes "carrier phase                                               ";
-        descriptions = bytes "one shell, spherical harmonics of degree 15                 " ++ replicate 1140 32;
-      };
+      texts = full head-texts (bytes "one shell, spherical harmonics of degree 15                 " ++ replicate 1140 32);
       maps = record {
         tec =
             record { epoch = 3022704000; blocks = row-of-three (negsuc 1) (pos 11) (pos 12) (pos 9999) ∷ row-of-three (negsuc 1) (pos 13) (negsuc 13) (pos 15) ∷ [] }
@@ -145,7 +124,7 @@ full-set =
     }
 
 pub full-read : read (lines full-text) ≡ ok full-set
-unfolding full-text full-set read begin feed split front opens? pad pick ×-dec ⊎-dec ¬-dec all-dec same sames need bind amap get ℕ-discrete decLe decLt int? le? lt? between? within? natural? dated second isLeap monthDays yearDays sum readField numberOf formed? ×₃-dec ×₄-dec end? step? multiple? together? limits? dimension? follows? name on-line lookup label number blank scan fields cells on-date exponent? kind? true? after? implies? in-time? height? loose on-comment on-exponent start-tec start-other start-map on-start end-map on-map-end epoch-tec epoch-other on-epoch open-block on-block on-file taken step finish run short meant place none? complete? made made-texts described end-to-end once on-description on-system on-end at-head head-step heading versioned version-of
+unfolding full-text full-set whole-reading
 full-read = refl
 
 -- TEC, RMS and height values, the exponents of the three kinds, epochs, marks; an absent map reads as 9999 under -1

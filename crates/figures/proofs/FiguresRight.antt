@@ -5,16 +5,15 @@ use mathlib.Core.List.{List, [], _∷_}
 use mathlib.Core.Option.{Option, none, some}
 use Prim.Native.Nat.{ℕ, _≤_}
 use native.Mathlib.Omega.{arith}
-use native.Mathlib.Decide.{ℕ-discrete, decLe, decLt}
 use lib.Dec.{T, eqb, leb, eqb→eq, leb→le}
 use lib.IntN.{ℤ, pos}
 use lib.ListN.{length}
-use Rattle.kit.specs.Answer.{Answer, ok, refused, All, need, amap, pick, ×-dec, ⊎-dec, ¬-dec, all-dec, same, sames}
+use Rattle.kit.specs.Answer.{Answer, ok, refused, All, need, amap, same, sames}
 use Rattle.kit.proofs.AnswerLaws.{yields}
-use Rattle.kit.specs.Integer.{int?, le?, lt?, between?}
-use Rattle.kit.specs.Truth.{truth, dec-by}
+use Rattle.kit.specs.Integer.{int?}
+use Rattle.kit.specs.Truth.{truth}
 use Rattle.kit.proofs.TruthLaws.{truth-ok}
-use Rattle.kit.specs.Range.{within?, natural?}
+use Rattle.kit.specs.Range.{natural?}
 use Rattle.days.specs.Years.{isLeap, monthDays, yearDays}
 use Rattle.calendar.specs.Calendar.{dated, second}
 use Rattle.days.specs.Sums.{sum}
@@ -26,9 +25,6 @@ use Rattle.forms.specs.Read.{readField, numberOf, formed?}
 use Rattle.forms.proofs.FieldLaws.{read-made, made-read}
 use Rattle.forms.specs.declared.Field.{Field}
 use Rattle.forms.specs.declared.Field.the-variants.{Number, Bad}
-use Rattle.mapset.specs.Areas.{present?, nowhere?}
-use Rattle.mapset.specs.Decisions.{end?, step?, multiple?, ×₃-dec, ×₄-dec, together?, dimension?, limits?, follows?}
-use Rattle.mapset.specs.SoundDecided.{written?, axis?, records?, fillers?, header-rules?, room?, run?, epoch-rules?, sound?}
 use Rattle.mapset.specs.MapSet.{MapSet}
 use Rattle.layout.specs.Text.{pad}
 use Rattle.layout.specs.Records.{v-last}
@@ -44,8 +40,8 @@ use Rattle.ask_cells.specs.Found.{strip?, after}
 use Rattle.ask_nodes.specs.Value.{is-value?, worth, value}
 use Rattle.ask_sums.specs.Mean.{by-column, corners, spread, terms, weighted, weight}
 use Rattle.ask_sums.specs.Sums.{valued?, mean}
-use Rattle.ask.specs.Sample.{axis, absent, header, texts}
-use Rattle.ask.proofs.Reckoned.{gives, holds, reckoned, known?, timely?, same-told}
+use Rattle.ask.specs.Sample.{header, texts}
+use Rattle.ask.proofs.Reckoned.{judged-sound, gives, holds, reckoned, known?, timely?, same-told}
 use Rattle.figures.specs.Figures.{Figure, is-second, is-date, no-date, is-number, no-number, is-line, no-text, is-answer, Midnight, Right, table}
 
 abbrev midnight : ℕ → ℕ → ℕ → Taken
@@ -156,8 +152,6 @@ all-right [] h = tt
 all-right (f ∷ fs) h = let b = passed (test f) f (wrong fs) h in (sound f (b .0), all-right fs (b .1))
 
 pub figures : All Right table
-unfolding table truth dated second sum yearDays monthDays isLeap natural? within? readField numberOf formed? pick ×-dec ⊎-dec ¬-dec all-dec same sames
-    decLe decLt ℕ-discrete int? le? lt? between? cells number blank pad need amap read begin feed split short header texts axis absent sound? dec-by
-    header-rules? records? fillers? room? epoch-rules? written? axis? end? step? together? ×₃-dec ×₄-dec multiple? dimension? limits? run? follows? nowhere?
-    present? known? timely? same-told strip? after rounded mean valued? weighted weight terms spread corners by-column value worth is-value?
+unfolding table dated second sum yearDays monthDays isLeap natural? readField numberOf formed? same sames cells number blank pad need amap read begin feed split
+    short header texts judged-sound known? timely? same-told strip? after rounded mean valued? weighted weight terms spread corners by-column value worth is-value?
 figures = all-right table refl

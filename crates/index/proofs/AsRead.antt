@@ -39,7 +39,8 @@ use Rattle.index.specs.Made.{Placed, just-rows, placed-from, opened, map
 use Rattle.index.proofs.Lines.{Lies, lies}
 use Rattle.index.proofs.Begin.{rows-exponent, lies-rows, lies-maps}
 use Rattle.index.proofs.Told.{Matched, matched}
-use Rattle.index.proofs.Kept.{first-in, Has, Agree, agree}
+use Rattle.mapset.proofs.FirstLaws.{first-in}
+use Rattle.index.proofs.Kept.{Has, Agree, agree}
 use Rattle.index.proofs.Cover.{Among, cover}
 
 -- ---- lengths

@@ -7,7 +7,7 @@ use Prim.Native.Nat.{ℕ, suc, _+_, _-_, _≤_}
 use native.Mathlib.Omega.{arith}
 use native.Mathlib.Decide.{ℕ-discrete, decLe}
 use lib.IntN.{ℤ}
-use lib.ListN.{length, drop, length-append, length-replicate}
+use lib.ListN.{length, drop, length-append}
 use Rattle.kit.specs.Answer.{Answer, ok, refused, All, ×-dec, all-dec, same, pick}
 use Rattle.kit.proofs.AnswerLaws.{pick-yes, pick-no, pick-elim, yields}
 use Rattle.kit.specs.Range.{within?}
@@ -21,6 +21,7 @@ use Rattle.layout.specs.Layout.{Opens}
 use Rattle.reading.specs.Feed.{Fault, row, front, opens?, split, feed, NoRow}
 use Rattle.reading.specs.Fields.{fields, cells}
 use Rattle.reading.specs.Maps.{on-row}
+use Rattle.reading.proofs.LineLaws.{padded}
 use Rattle.reading.proofs.RecordLaws.{blank-spaces, rec-name, rec-fields, named-rec, cells-of, cells-yields}
 use Rattle.kit.proofs.ListLaws.{all-append, all-drop}
 use Rattle.index.specs.Stands as at
@@ -192,13 +193,9 @@ record Rest (c : ℕ) (u : List ℕ) (x : List ℤ × List ℕ) : Type 0 where
   values : ValueRows (x .0) rows
   count : length (x .0) ≡ c
 
-padded : (l : List ℕ) → Clean l → length (pad l) ≡ 80
-unfolding pad
-padded l k = let h = k .0 in simp (length-append, length-replicate) (omega arith)
-
 -- a row of all values, or of the first 16
 row-of : (c : ℕ) (l : List ℕ) (zs : List ℤ) → Clean l → cells 1 (on-row c) (pad l) ≡ ok zs → Cells zs (pad l) × (length zs ≡ on-row c)
-row-of c l zs k e = let p = padded l k in yields _ (cells-yields 1 (on-row c) (pad l) (omega arith)) e
+row-of c l zs k e = let p = padded l (k .0) in yields _ (cells-yields 1 (on-row c) (pad l) (omega arith)) e
 
 last-row : (c : ℕ) (l s : List ℕ) (zs : List ℤ) → 1 ≤ c → c ≤ 16 → Clean l → ¬ All Blank l → Over s → cells 1 (on-row c) (pad l) ≡ ok zs → Rest c (l ++ s) (zs, l)
 last-row c l s zs a b k n o e =
@@ -213,7 +210,7 @@ last-row c l s zs a b k n o e =
       seam = refl;
       ends = refl;
       shown = at.last k n o;
-      values = v-last {zs = zs} (omega arith) (omega arith) (padded l k) (r .0);
+      values = v-last {zs = zs} (omega arith) (omega arith) (padded l (k .0)) (r .0);
       count = omega arith;
     }
 
@@ -232,7 +229,7 @@ more-rows c l e u zs a k n y w x q =
       seam = refl;
       ends = append-assoc l e (x .1) ∙ ap (λ j. l ++ (e ++ j)) (q .ends);
       shown = subst (λ v. Shown (pad l ∷ q .rows) (l ++ (e ++ v)) (l ++ (e ++ (q .gap ++ q .bytes)))) (sym (q .seam)) (at.line l k n y (q .blanks) (q .shown));
-      values = v-full {zs = zs} (omega arith) (padded l k) (r .0) (q .values);
+      values = v-full {zs = zs} (omega arith) (padded l (k .0)) (r .0) (q .values);
       count = length-append zs (x .0) ∙ omega arith;
     }
 
@@ -298,7 +295,7 @@ module _ (h : Header) (d : ℕ) where
         rows = q .rows;
         shown = subst (λ b. Shown (pad l ∷ q .rows) (l ++ (e ++ u)) b) (sym (append-assoc l e (x .1) ∙ ap (λ j. l ++ (e ++ j)) (q .ends)))
             (subst (λ w. Shown (pad l ∷ q .rows) (l ++ (e ++ w)) (l ++ (e ++ (q .gap ++ q .bytes)))) (sym (q .seam)) (at.line l k (named-full l n) y (q .blanks) (q .shown)));
-        opened = named-rec (pad l) (padded l k) n f;
+        opened = named-rec (pad l) (padded l (k .0)) n f;
         opens = o;
         values = q .values;
         count = q .count;

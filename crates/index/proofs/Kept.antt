@@ -19,9 +19,10 @@ use Rattle.layout.specs.Layout.{Exponent, per-map}
 use Rattle.reading.specs.Maps.{kind?}
 use Rattle.areas.specs.Events as event
 use Rattle.areas.specs.Events.{Event}
-pub use Rattle.areas.proofs.FirstLaws.{first-in}
+use Rattle.mapset.proofs.FirstLaws.{first-in}
 use Rattle.areas.specs.Stores.{is, put-values, put-exponent, Inside, scan}
-use Rattle.areas.specs.Places.{before, place, first-of}
+use Rattle.mapset.specs.Areas.{first-of}
+use Rattle.areas.specs.Places.{before, place}
 use Rattle.areas.proofs.Sorted.{is-self}
 use Rattle.index.specs.Stands.{Stands}
 use Rattle.index.specs.Made.{put-starts}

@@ -2,23 +2,24 @@
 -- 02's words.
 use mathlib.Core.Path.{_≡_, refl}
 use mathlib.Core.List.{List, [], _∷_}
-use Prim.Native.Nat.{ℕ, _+_, _*_, _-_, _<_}
+use Prim.Native.Nat.{ℕ, _+_, _-_, _<_}
 use native.Mathlib.Decide.{ℕ-discrete, decLe}
 use native.Mathlib.Omega.{arith}
-use lib.IntN.{pos, negsuc}
+use lib.IntN.{negsuc}
 use lib.ListN.{getD, drop}
 use Rattle.kit.specs.Answer.{need, amap, pick, ×-dec, all-dec, same, sames}
 use Rattle.kit.specs.Range.{within?, natural?}
 use Rattle.forms.specs.Read.{readField, numberOf, formed?}
 use Rattle.mapset.specs.Grid.{layers, rows, columns}
 use Rattle.mapset.specs.Areas.{Present}
-use Rattle.mapset.specs.declared.Axis.{Axis}
 use Rattle.mapset.specs.declared.Header.{Header}
+use Rattle.mapset.specs.Samples.{nodes-of}
 use Rattle.layout.specs.Text.{pad}
 use Rattle.layout.specs.Labels.{name}
 use Rattle.reading.specs.Feed.{opens?}
 use Rattle.reading.specs.Fields.{lookup, label, number, blank, scan, fields, cells}
-use Rattle.reading.proofs.Vectors.{lines, small-text, small-set}
+use Rattle.layout.specs.Samples.{lines}
+use Rattle.reading.proofs.Vectors.{small-text, small-set}
 use Rattle.areas.specs.Flat.{areas-of}
 use Rattle.areas.specs.Scan.{or-else, second-of, brought, body, events}
 use Rattle.read_lines.specs.Cuts.{cuts}
@@ -34,9 +35,6 @@ unfolding small-text small-set placed cuts opens? clean? blank? opened maps-of p
 small-index = refl
 
 -- a header of n maps, of so many layers and rows
-abbrev nodes-of : ℕ → Axis
-nodes-of k = record { first = pos 0; last = pos (10 * (k - 1)); step = pos 10 }
-
 abbrev sized : (n l r : ℕ) → Header → Header
 sized n l r h =
     record {

@@ -8,11 +8,11 @@ use Rattle.kit.specs.Answer.{All}
 use Rattle.kit.specs.Range.{Within}
 use Rattle.mapset.specs.Grid.{layers, rows, columns}
 use Rattle.mapset.specs.Header.{HeaderRules}
-use Rattle.mapset.specs.Areas.{Areas, Present, blocks}
+use Rattle.mapset.specs.Areas.{Areas, Present, blocks, first-of}
 use Rattle.mapset.specs.declared.Header.{Header}
 use Rattle.mapset.specs.Described.{FullTexts}
 use Rattle.layout.specs.Layout.{Exponent, per-map}
-use Rattle.areas.specs.Places.{before, place, first-of}
+use Rattle.areas.specs.Places.{before, place}
 use Rattle.areas.specs.Valid.{values-in}
 use Rattle.ask_nodes.specs.Value.{kind-of}
 use Rattle.index.specs.Stands.{Stands}

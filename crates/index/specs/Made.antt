@@ -15,7 +15,8 @@ use Rattle.reading.specs.Fields.{label}
 use Rattle.areas.specs.Flat.{areas}
 use Rattle.areas.specs.Events as event
 use Rattle.areas.specs.Events.{Event}
-use Rattle.areas.specs.Places.{before, first-of}
+use Rattle.mapset.specs.Areas.{first-of}
+use Rattle.areas.specs.Places.{before}
 use Rattle.areas.specs.Scan.{by-label, exponent-in, events}
 use Rattle.read_lines.specs.Cuts.{Cut, cuts}
 use Rattle.index.specs.Found.{clean?, blank?}

@@ -8,7 +8,7 @@ use native.Mathlib.Omega.{arith}
 use native.Mathlib.Decide.{decLe}
 use native.Mathlib.Nat.{le-trans}
 use lib.IntN.{ℤ, pos}
-use lib.ListN.{length, getD, take, drop, length-drop, length-append, length-replicate, List·getD-append}
+use lib.ListN.{length, getD, take, drop, length-drop, length-append, List·getD-append}
 use lib.Seq.{drop-drop, take-take, take-add, length-take-le, getD-append-add}
 use Rattle.kit.specs.Answer.{Answer, ok, refused, pick, amap}
 use Rattle.kit.proofs.AnswerLaws.{pick-yes, pick-no, yields}
@@ -22,6 +22,7 @@ use Rattle.layout.specs.Text.{pad}
 use Rattle.reading.specs.Feed.{Fault, fault, NoRow}
 use Rattle.reading.specs.Fields.{cells, number}
 use Rattle.reading.specs.Maps.{on-row}
+use Rattle.reading.proofs.LineLaws.{padded}
 use Rattle.reading.proofs.RecordLaws.{cells-yields}
 use Rattle.read_lines.specs.Cuts.{cuts}
 use Rattle.read_lines.specs.Lines as L
@@ -103,10 +104,6 @@ module _ (t : List ℕ) (at c : ℕ) (inside : at ≤ length t) where
         }
 
 -- ---- the fields of a row
-
-padded : (l : List ℕ) → length l ≤ 80 → length (pad l) ≡ 80
-unfolding pad
-padded l k = simp (length-append, length-replicate) (omega arith)
 
 module _ (c m : ℕ) (bs : List ℕ) (zs : List ℤ) (z : ℤ) where
   tail-of : (x : Answer Fault (List ℤ)) → amap (λ zs. z ∷ zs) x ≡ ok zs → (ys : List ℤ) × ((x ≡ ok ys) × (zs ≡ z ∷ ys))

@@ -11,7 +11,8 @@ use Rattle.layout.specs.Layout.{plain, aux, mode}
 use Rattle.areas.specs.Events as event
 use Rattle.areas.specs.Scan.{at-first, brought}
 use Rattle.areas.specs.Stores.{put-exponent, with-mark, put-mark, Inside, scan, fill}
-use Rattle.areas.specs.Places.{before, first-of}
+use Rattle.mapset.specs.Areas.{first-of}
+use Rattle.areas.specs.Places.{before}
 use Rattle.index.specs.Index.{Entries, entries}
 use Rattle.index.specs.Made.{Placed, placed-from, just-rows, opened, maps-of, put-starts}
 use Rattle.read_events.specs.Brings.{due, Takes}

@@ -1,11 +1,10 @@
 // The second time over a text that is accepted: its blocks' positions and exponents, and its marks, are stored.
 ghost use mathlib.Core.Path.{_≡_};
-ghost use Prim.Native.Nat.{_+_, _-_, _*_, _<_, _≤_, _^_};
+ghost use Prim.Native.Nat.{_+_, _-_, _*_, _<_, _≤_};
 ghost use lib.ListN.{length, replicate, set};
-ghost use Rattle.kit.specs.Answer.{All};
 ghost use Rattle.layout.specs.Text.{pad};
-ghost use Rattle.areas.specs.Stores.{fill};
-ghost use Rattle.areas.specs.Places.{first-of, before};
+ghost use Rattle.mapset.specs.Areas.{first-of};
+ghost use Rattle.areas.specs.Places.{before};
 ghost use Rattle.index.specs.Index.{entries};
 ghost use Rattle.index.specs.Made.{placed-from};
 ghost use Rattle.read_events.specs.Brings.{due};

@@ -24,11 +24,11 @@ use Rattle.mapset.proofs.Groups.{header-groups, groups-header, from-zero, to-th
 use Rattle.mapset.specs.declared.Header.{Header}
 use Rattle.mapset.specs.Described.{FullTexts}
 use Rattle.layout.specs.Layout.{Exponent, per-map}
-use Rattle.areas.specs.Places.{before, first-of}
+use Rattle.areas.specs.Places.{before}
 use Rattle.ask_nodes.specs.Value.{kind-of}
 use Rattle.index.specs.Index.{Index, Fit, Node, Inside, entries, index, node, done, entry, given, stop, go, position, exponent}
 use Rattle.index.proofs.FoundLaws.{stands-found, found-stands}
-use Rattle.index.proofs.Kept.{first-in}
+use Rattle.mapset.proofs.FirstLaws.{first-in}
 use Rattle.index.proofs.AsRead.{done-in, before-in}
 use Rattle.index_block.specs.Hits.{between, block-from, At}
 use Rattle.index_node.specs.Told.{InGrid, told-part, Inside as InText, Numbers, Finds, Bounded}
@@ -80,17 +80,6 @@ entry-in x q i = before-in (x .header .times .maps) (per-map (x .header)) (q .ma
 
 pub entry-small : (x : Index) (q : Node) → Inside (x .header) q → entry (x .header) q < 3 * blocks (x .header)
 entry-small x q i = first-in (kind-of (q .kind)) (blocks (x .header)) _ (entry-in x q i)
-
--- ---- the place of an entry
-
-pub entry-tec : (k s x y : ℕ) → k ≡ 0 → y ≡ x → y ≡ first-of (kind-of k) s + x
-entry-tec k s x y e h = rw e (omega arith)
-
-pub entry-rms : (k s x y : ℕ) → k ≡ 1 → y ≡ s + x → y ≡ first-of (kind-of k) s + x
-entry-rms k s x y e h = rw e (omega arith)
-
-pub entry-height : (k s x y : ℕ) → k < 3 → ¬ (k ≡ 0) → ¬ (k ≡ 1) → y ≡ s + s + x → y ≡ first-of (kind-of k) s + x
-entry-height k s x y l n m h = let e : k ≡ 2 = omega arith in rw e (omega arith)
 
 -- ---- 50
 

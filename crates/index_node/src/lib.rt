@@ -3,10 +3,10 @@ ghost use mathlib.Core.Path.{_≡_};
 ghost use Prim.Native.Nat.{_+_, _*_, _<_, _≤_};
 ghost use Rattle.kit.specs.Truth.{Says};
 ghost use Rattle.mapset.specs.Described.{full};
-ghost use Rattle.mapset.specs.Areas.{blocks};
+ghost use Rattle.mapset.specs.Areas.{blocks, first-of};
 ghost use Rattle.mapset.specs.Grid.{rows, columns, Limits};
 ghost use Rattle.layout.specs.Layout.{per-map};
-ghost use Rattle.areas.specs.Places.{before, first-of};
+ghost use Rattle.areas.specs.Places.{before};
 ghost use Rattle.ask_nodes.specs.Value.{kind-of};
 ghost use Rattle.index.specs.Index.{entries, index, node, Fit};
 ghost use Rattle.index_node.specs.Told.{InGrid, Inside as InText, Numbers, Finds, told-part, Bounded, HandsBack};
@@ -93,19 +93,13 @@ fn done_before(header: Header, layer: u64, row: u64) -> u64
 
 // The place of a block's entry: the three kinds stand behind each other.
 fn entry_of(header: Header, kind: u64, map: u64, d: u64) -> usize
-    requires { ⌜ Limits (header .times .maps) (header .grid) × ((kind < 3) × ((1 ≤ map) × (before (per-map header) map d < blocks header))) ⌝ }
+    requires { ⌜ Limits (header .times .maps) (header .grid) × ((1 ≤ map) × (before (per-map header) map d < blocks header)) ⌝ }
     ensures { λ r. ⌜ r ≡ first-of (kind-of kind) (blocks header) + before (per-map header) map d ⌝ }
 {
     let size = axes::per_map(header.grid);
     let all = (header.times.maps as u64) * size;
     let place = (map - 1) * size + d;
-    if kind == 0 {
-        return place as usize;
-    }
-    if kind == 1 {
-        return (all + place) as usize;
-    }
-    (all + all + place) as usize
+    mapset::blocks_before(ask_nodes::kind_of(kind), all as usize) + (place as usize)
 }
 
 // What an entry's position and exponent answer.

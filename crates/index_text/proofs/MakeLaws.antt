@@ -14,7 +14,7 @@ use Rattle.mapset.specs.declared.Header.{Header}
 use Rattle.mapset.specs.Described.{FullTexts}
 use Rattle.mapset.specs.Grid.{columns, Limits}
 use Rattle.mapset.specs.MapSet.{MapSet}
-use Rattle.mapset.specs.Areas.{Areas, six, Room}
+use Rattle.mapset.specs.Areas.{Areas, six, Room, first-of}
 use Rattle.mapset.proofs.SoundLaws.{few-blocks}
 use Rattle.layout.specs.Layout.{per-map, plain, Rows, Makes, makes}
 use Rattle.reading.specs.Feed.{why}
@@ -24,7 +24,7 @@ use Rattle.areas.specs.Flat.{areas}
 use Rattle.areas.specs.Events as event
 use Rattle.areas.specs.Scan.{at-first, brought, events}
 use Rattle.areas.specs.Stores.{put-exponent, put-mark, Inside, scan, fill, scanned, cleared as all-cleared, lengths}
-use Rattle.areas.specs.Places.{before, first-of}
+use Rattle.areas.specs.Places.{before}
 use Rattle.areas.specs.Fronts.{fronts as all-fronts}
 use Rattle.areas.proofs.Needs.{needs}
 use Rattle.areas.proofs.Made.{rows-formed, made-formed}
@@ -37,7 +37,7 @@ use Rattle.index.specs.Index.{Entries, entries}
 use Rattle.index.specs.Made.{just-rows, placed-from, opened, put-starts, positions-of, entries-of, fronts}
 use Rattle.index.proofs.Lines.{lies}
 use Rattle.index.proofs.Begin.{lies-rows, body-is}
-use Rattle.index.proofs.Kept.{first-in}
+use Rattle.mapset.proofs.FirstLaws.{first-in}
 use Rattle.index.proofs.AsRead.{positions-length}
 use Rattle.index_fill.specs.Enter.{Roomy, entered-by, cleared, begun, Entered, entered}
 use Rattle.index_text.specs.Making.{needed-and-lent, with-room, made-of, made, pairs, ReadAs}

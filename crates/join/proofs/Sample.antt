@@ -1,51 +1,41 @@
 -- Three sets that are refused in both groupings, by different numbers; and two that are joined.
 use mathlib.Core.Path.{_≡_, refl}
-use mathlib.Core.Bool.{false}
 use mathlib.Core.List.{List, [], _∷_}
 use Prim.Native.Nat.{ℕ}
 use native.Mathlib.Decide.{ℕ-discrete, decLe, decLt}
 use lib.IntN.{pos, negsuc}
 use lib.ListN.{length, replicate}
-use Rattle.kit.specs.Answer.{ok, refused, need, bind, pick, ×-dec, ⊎-dec, ¬-dec, all-dec}
+use Rattle.kit.specs.Answer.{Answer, ok, refused, need, bind, pick, ×-dec, ⊎-dec, ¬-dec, all-dec}
 use Rattle.kit.specs.Integer.{int?, le?, lt?, between?}
 use Rattle.kit.specs.Range.{within?}
 use Rattle.kit.specs.Truth.{dec-by}
-use Rattle.mapset.specs.declared.System.{System}
+use Rattle.mapset.specs.Described.{full}
 use Rattle.mapset.specs.Lines.{end-to-end, described}
 use Rattle.mapset.specs.Decisions.{×₃-dec, ×₄-dec, end?, step?, multiple?, together?, limits?, dimension?, follows?}
 use Rattle.mapset.specs.SoundDecided.{written?, axis?, records?, fillers?, header-rules?, run?, epoch-rules?}
 use Rattle.mapset.specs.MapSet.{Block, TecMap, OtherMap, MapSet}
+use Rattle.mapset.specs.Said.{axis-of, blank-texts}
+use Rattle.mapset.specs.Samples.{absent-count, shell-header}
 use Rattle.layout.specs.Layout.{exponent?}
+use Rattle.areas.specs.Nest.{a-block}
 use Rattle.areas.specs.ValidDecided.{value?}
 use Rattle.join.specs.FormedDecided.{block-rules?, map-rules?, rising?, maps-rules?, formed?}
 use Rattle.join.specs.Join.{alike?, meet?, in-limits?, join}
 use Rattle.join.specs.Join as J
 
-abbrev none : System
-none = record { stands = false; stations = 0; satellites = 0 }
-
-abbrev spaces : ℕ → List ℕ
-spaces n = replicate n 32
+-- two sets joined. To unfold this is to unfold each test of `join`
+unfoldable pub whole-join : (earlier later : MapSet) → Answer ℕ MapSet
+unfolding join need pick ×-dec ⊎-dec ¬-dec all-dec ℕ-discrete decLe decLt int? le? lt? between? within? dec-by ×₃-dec ×₄-dec end? step? multiple? together? limits? dimension? follows? written? described end-to-end axis? header-rules? records? fillers? run? exponent? value? block-rules? map-rules? rising? maps-rules? epoch-rules? formed? alike? meet? in-limits? J.axis? J.grid?
+whole-join = join
 
 -- DESCRIPTION lines, one node, maps at the seconds given, and RMS maps
 abbrev pub a-set : (lines : List (List ℕ)) (radius interval first last n : ℕ) → List TecMap → List OtherMap → MapSet
 a-set lines radius interval first last n tec rms =
     record {
-      header = record {
-        version = record { tenths = 11; kind = 73; code = 6 };
-        times = record { first = first; last = last; interval = interval; maps = n };
-        model = record { cutoff = 0; radius = radius; dimension = 2 };
-        grid = record {
-          heights = record { first = pos 4500; last = pos 4500; step = pos 0 };
-          latitudes = record { first = pos 50; last = pos 50; step = pos 50 };
-          longitudes = record { first = pos 0; last = pos 0; step = pos 50 };
-        };
-        stations = record { stands = false; count = 0 };
-        satellites = record { stands = false; count = 0 };
-        systems = record { g = none; r = none; e = none; c = none; j = none; i = none; s = none };
-        descriptions = length lines;
-      };
-      texts = record { program = spaces 20; agency = spaces 20; date = spaces 20; mapping = spaces 4; observables = spaces 60; descriptions = described lines };
+      header =
+          shell-header radius (record { first = first; last = last; interval = interval; maps = n })
+          (axis-of (pos 50) (pos 50) (pos 50)) (axis-of (pos 0) (pos 0) (pos 50)) absent-count (length lines);
+      texts = full blank-texts (described lines);
       maps = record { tec = tec; rms = rms; height = [] };
     }
 
@@ -53,7 +43,7 @@ abbrev line-of : ℕ → List ℕ
 line-of b = replicate 60 b
 
 abbrev node : ℕ → List Block
-node v = record { exponent = negsuc 0; values = pos v ∷ [] } ∷ []
+node v = a-block (negsuc 0) (pos v ∷ []) ∷ []
 
 abbrev tec-at : ℕ → ℕ → TecMap
 tec-at e v = record { epoch = e; blocks = node v }
@@ -69,7 +59,7 @@ abbrev tuesday : MapSet
 tuesday = a-set (line-of 84 ∷ line-of 85 ∷ []) 63710 900 3600 4500 2 (tec-at 3600 3 ∷ tec-at 4500 4 ∷ []) (rms-of 2 14 ∷ [])
 
 pub two-days : join monday tuesday ≡ ok (a-set (line-of 84 ∷ line-of 85 ∷ []) 63710 0 0 4500 3 (tec-at 0 1 ∷ tec-at 3600 3 ∷ tec-at 4500 4 ∷ []) (rms-of 1 11 ∷ rms-of 3 14 ∷ []))
-unfolding join need pick ×-dec ⊎-dec ¬-dec all-dec ℕ-discrete decLe decLt int? le? lt? between? within? dec-by ×₃-dec ×₄-dec end? step? multiple? together? limits? dimension? follows? written? described end-to-end axis? header-rules? records? fillers? run? exponent? value? block-rules? map-rules? rising? maps-rules? epoch-rules? formed? alike? meet? in-limits? J.axis? J.grid?
+unfolding whole-join
 two-days = refl
 
 abbrev other-radius : MapSet
@@ -79,9 +69,9 @@ abbrev late : MapSet
 late = a-set [] 63710 900 9000 9000 1 (tec-at 9000 5 ∷ []) []
 
 pub leftwards-40 : bind (join other-radius tuesday) (λ ab. join ab late) ≡ refused 40
-unfolding bind join need pick ×-dec ⊎-dec ¬-dec all-dec ℕ-discrete decLe decLt int? le? lt? between? within? dec-by ×₃-dec ×₄-dec end? step? multiple? together? limits? dimension? follows? written? described end-to-end axis? header-rules? records? fillers? run? exponent? value? block-rules? map-rules? rising? maps-rules? epoch-rules? formed? alike? meet? in-limits? J.axis? J.grid?
+unfolding bind whole-join
 leftwards-40 = refl
 
 pub rightwards-41 : bind (join tuesday late) (λ bc. join other-radius bc) ≡ refused 41
-unfolding bind join need pick ×-dec ⊎-dec ¬-dec all-dec ℕ-discrete decLe decLt int? le? lt? between? within? dec-by ×₃-dec ×₄-dec end? step? multiple? together? limits? dimension? follows? written? described end-to-end axis? header-rules? records? fillers? run? exponent? value? block-rules? map-rules? rising? maps-rules? epoch-rules? formed? alike? meet? in-limits? J.axis? J.grid?
+unfolding bind whole-join
 rightwards-41 = refl

@@ -1,7 +1,5 @@
 // Two map sets joined into six lent areas: judged first, and stored only where they may be joined and each area is long enough.
 ghost use mathlib.Core.Path.{_≡_};
-ghost use Prim.Native.Nat.{_≤_};
-ghost use lib.ListN.{length, take};
 ghost use Rattle.kit.specs.Lists.{front};
 ghost use Rattle.mapset.specs.Described.{full};
 ghost use Rattle.mapset.specs.Areas.{six};

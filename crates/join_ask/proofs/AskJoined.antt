@@ -214,7 +214,7 @@ module _ (a b : MapSet) (m : MayJoin a b) (kind method layer : ℕ) (lat lon : �
                 rw count-b at (w .2),
                 rw count-b at (w .3),
               );
-          agrees = λ known inside w z. value-late na nb (layers g) (rows g) (columns g) (by-grid g) (areas b) six-a six-b some-a kind layer known inside w (z .row) (z .column) (z .map);
+          agrees = λ _ inside w z. value-late na nb (layers g) (rows g) (columns g) (by-grid g) (areas b) six-a six-b some-a kind layer inside w (z .row) (z .column) (z .map);
         }
 
     early-whole : 2 ≤ na → second ≤ epoch ca (na - 1 - 1) → Within-whole g (a .header) (joined a b .header) (a .texts) (b .texts) (by-grid g) joint kind method layer lat lon second (na - 1) 0
@@ -238,7 +238,7 @@ module _ (a b : MapSet) (m : MayJoin a b) (kind method layer : ℕ) (lat lon : �
                 w .0,
                 w .1,
               );
-          agrees = λ known inside w z. value-early na nb (layers g) (rows g) (columns g) (by-grid g) (areas b) six-a six-b some-a kind layer known inside w (z .row) (z .column) (z .map);
+          agrees = λ _ inside w z. value-early na nb (layers g) (rows g) (columns g) (by-grid g) (areas b) six-a six-b some-a kind layer inside w (z .row) (z .column) (z .map);
         }
 
     -- ---- the theorems, where neither set gives 24 (methods 0 and 1 never do)

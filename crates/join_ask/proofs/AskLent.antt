@@ -17,6 +17,7 @@ use Rattle.mapset.specs.declared.Kind.the-variants.{Tec, Rms, Height}
 use Rattle.mapset.specs.declared.Header.{Header}
 use Rattle.mapset.specs.Described.{FullTexts}
 use Rattle.mapset.proofs.Groups.{marked}
+use Rattle.mapset.proofs.FirstLaws.{first-in}
 use Rattle.areas.specs.Flat.{areas-of, areas}
 use Rattle.areas.specs.Fronts.{fronts}
 use Rattle.areas.specs.Valid.{needed, Valid}
@@ -70,17 +71,17 @@ module _ (h : Header) (t : FullTexts) (a : Areas) (v : Valid h t a) where
     abbrev long : Question
     long = question h t a kind method layer lat lon second
 
-    value-needed : kind < 3 → layer < layers (h .grid) → (w : Weighed) → Stands (h .grid) n w
+    value-needed : layer < layers (h .grid) → (w : Weighed) → Stands (h .grid) n w
         → value (layout h kind layer) (area (kind-of kind) (needed h a)) (needed h a .exponents) (needed h a .marks) w ≡ value (layout h kind layer) (area (kind-of kind) a) (a .exponents) (a .marks) w
     unfolding value needed
-    value-needed k l w s =
+    value-needed l w s =
         let L = layers (h .grid) in
         let R = rows (h .grid) in
         let b : block (layout h kind layer) w < n * (L * R) = rw (← mul-assoc n L R) (digits-lt (digits-lt (s .map) l) (s .row)) in
         worth-same (kind-of kind) (getD ms (w .map) 0) _ _ (getD (area (kind-of kind) a) (number-at (layout h kind layer) w) (pos 0)) (getD (a .exponents) (exponent-at (layout h kind layer) w) (pos 0))
         (λ p. (
           number-needed (kind-of kind) (w .map) (number-at (layout h kind layer) w) (s .map) p (digits-lt b (s .column)),
-          getD-take (3 * blocks h) (a .exponents) (exponent-at (layout h kind layer) w) (pos 0) (digits-lt k b),
+          getD-take (3 * blocks h) (a .exponents) (exponent-at (layout h kind layer) w) (pos 0) (first-in (kind-of kind) (blocks h) (block (layout h kind layer) w) b),
         ))
         ∙ ap (λ x. worth (kind-of kind) x (getD (area (kind-of kind) a) (number-at (layout h kind layer) w) (pos 0)) (getD (a .exponents) (exponent-at (layout h kind layer) w) (pos 0)))
         (getD-take n (a .marks) (w .map) 0 (s .map))
@@ -116,7 +117,7 @@ module _ (h : Header) (t : FullTexts) (a : Areas) (v : Valid h t a) where
             rw (few-epochs long (v .sound)) at (z .2),
             rw (few-epochs long (v .sound)) at (z .3),
           );
-          agrees = λ k l w s. sym (value-needed k l w s) ∙ ap (λ y. value (layout h kind layer) (area (kind-of kind) (needed h a)) (needed h a .exponents) (needed h a .marks) y) (staying w);
+          agrees = λ _ l w s. sym (value-needed l w s) ∙ ap (λ y. value (layout h kind layer) (area (kind-of kind) (needed h a)) (needed h a .exponents) (needed h a .marks) y) (staying w);
         })
 
     ask-long : (r : Told) → Answers short r → Answers long r
@@ -134,7 +135,7 @@ module _ (h : Header) (t : FullTexts) (a : Areas) (v : Valid h t a) where
             rw (few-epochs short sound-needed) at (z .2),
             rw (few-epochs short sound-needed) at (z .3),
           );
-          agrees = λ k l w s. value-needed k l w s ∙ ap (λ y. value (layout h kind layer) (area (kind-of kind) a) (a .exponents) (a .marks) y) (staying w);
+          agrees = λ _ l w s. value-needed l w s ∙ ap (λ y. value (layout h kind layer) (area (kind-of kind) a) (a .exponents) (a .marks) y) (staying w);
         })
 
 -- ---- lent map sets

@@ -2,7 +2,7 @@
 use mathlib.Core.Path.{_≡_, refl, sym, ap, _∙_}
 use mathlib.Core.List.{List, _++_}
 use mathlib.Core.Option.{none, some}
-use Prim.Native.Nat.{ℕ, zero, suc, _+_, _-_, _*_, _≤_, _<_}
+use Prim.Native.Nat.{ℕ, _+_, _-_, _*_, _≤_, _<_}
 use native.Mathlib.Omega.{arith}
 use native.Mathlib.Nat.{add-mul, mul-assoc, mul-le-mul-right}
 use lib.Arith.{digits-lt}
@@ -11,7 +11,7 @@ use lib.ListN.{length, take, getD, replicate, length-append, length-replicate}
 use lib.Seq.{length-take-le, getD-take}
 use Rattle.kit.specs.Answer.{pick, ×-dec}
 use Rattle.kit.proofs.AnswerLaws.{pick-no, pick-elim}
-use Rattle.mapset.specs.Areas.{Areas, Present, Nowhere, present?, nowhere?}
+use Rattle.mapset.specs.Areas.{Areas, Present, Nowhere, present?, nowhere?, first-of}
 use Rattle.mapset.specs.declared.Kind.{Kind}
 use Rattle.mapset.specs.declared.Kind.the-variants.{Tec, Rms, Height}
 use Rattle.mapset.proofs.Groups.{marked}
@@ -39,18 +39,14 @@ worth-same k mark v e v′ e′ f = by (present? k mark)
 -- ---- a kind that has a map
 -- ---- thirds
 module _ (s : ℕ) (E : Kind → List ℤ) (l : (k : Kind) → length (E k) ≡ s) where
-  thirds-at : (kind i : ℕ) → kind < 3 → i < s → getD (E Tec ++ (E Rms ++ E Height)) (kind * s + i) (pos 0) ≡ getD (E (kind-of kind)) i (pos 0)
-  thirds-at zero i h b =
-      let e : 0 * s + i ≡ i = omega arith in
+  thirds-at : (kd : Kind) (i : ℕ) → i < s → getD (E Tec ++ (E Rms ++ E Height)) (first-of kd s + i) (pos 0) ≡ getD (E kd) i (pos 0)
+  thirds-at Tec i b =
+      let e : 0 + i ≡ i = omega arith in
       ap (λ n. getD (E Tec ++ (E Rms ++ E Height)) n (pos 0)) e ∙ at-front (pos 0) (E Tec) (E Rms ++ E Height) i (omega (arith, l Tec))
-  thirds-at (suc zero) i h b =
-      let e : 1 * s + i ≡ s + i = omega arith in
-      ap (λ n. getD (E Tec ++ (E Rms ++ E Height)) n (pos 0)) e ∙ at-behind (pos 0) (E Tec) (E Rms ++ E Height) s i (l Tec)
-      ∙ at-front (pos 0) (E Rms) (E Height) i (omega (arith, l Rms))
-  thirds-at (suc (suc kind)) i h b =
-      let z : suc (suc kind) ≡ 2 = omega arith in
-      let e : 2 * s + i ≡ s + (s + i) = omega arith in
-      ap (λ n. getD (E Tec ++ (E Rms ++ E Height)) n (pos 0)) (ap (λ q. q * s + i) z ∙ e)
+  thirds-at Rms i b = at-behind (pos 0) (E Tec) (E Rms ++ E Height) s i (l Tec) ∙ at-front (pos 0) (E Rms) (E Height) i (omega (arith, l Rms))
+  thirds-at Height i b =
+      let e : s + s + i ≡ s + (s + i) = omega arith in
+      ap (λ n. getD (E Tec ++ (E Rms ++ E Height)) n (pos 0)) e
       ∙ at-behind (pos 0) (E Tec) (E Rms ++ E Height) s (s + i) (l Tec) ∙ at-behind (pos 0) (E Rms) (E Height) s i (l Rms)
 
 pick-length : {P : Type 0} (d : Dec P) (N : ℕ) (l : List ℤ) → length l ≡ pick d 0 N → length (pick d (replicate N (pos 9999)) l) ≡ N
@@ -63,11 +59,11 @@ area-length m B C a f Tec n = f .tec
 area-length m B C a f Rms n = f .rms ∙ pick-no (nowhere? Rms (a .marks)) 0 (m * B * C) n
 area-length m B C a f Height n = f .height ∙ pick-no (nowhere? Height (a .marks)) 0 (m * B * C) n
 
-exponent-of : (m B C : ℕ) (a : Areas) → Sixfold m B C a → (kind i : ℕ) → kind < 3 → i < m * B
-    → getD (a .exponents) (kind * (m * B) + i) (pos 0) ≡ getD (third (kind-of kind) (m * B) (a .exponents)) i (pos 0)
-exponent-of m B C a f kind i h l =
-    ap (λ es. getD es (kind * (m * B) + i) (pos 0)) (sym (thirds-back (m * B) (a .exponents) (f .exponents)))
-    ∙ thirds-at (m * B) (λ k. third k (m * B) (a .exponents)) (third-length (m * B) (a .exponents) (f .exponents)) kind i h l
+exponent-of : (m B C : ℕ) (a : Areas) → Sixfold m B C a → (kd : Kind) (i : ℕ) → i < m * B
+    → getD (a .exponents) (first-of kd (m * B) + i) (pos 0) ≡ getD (third kd (m * B) (a .exponents)) i (pos 0)
+exponent-of m B C a f kd i l =
+    ap (λ es. getD es (first-of kd (m * B) + i) (pos 0)) (sym (thirds-back (m * B) (a .exponents) (f .exponents)))
+    ∙ thirds-at (m * B) (λ k. third k (m * B) (a .exponents)) (third-length (m * B) (a .exponents) (f .exponents)) kd i l
 
 -- ---- the front of one list, then another
 module _ {X : Type 0} (z : X) (K : ℕ) (f g : List X) (h : K ≤ length f) where
@@ -136,21 +132,21 @@ module _ (m n B C : ℕ) (a b : Areas) (f : Sixfold m B C a) (g : Sixfold n B C 
       length-append (take (k * B) (third kd (m * B) (a .exponents))) (third kd (n * B) (b .exponents))
       ∙ omega (arith, length-take-le (k * B) (third kd (m * B) (a .exponents)) (third-fewer kd), third-length (n * B) (b .exponents) (g .exponents) kd, add-mul k n B)
 
-  exponent-joined : (kind i : ℕ) → kind < 3 → i < (k + n) * B → getD (j .exponents) (kind * ((k + n) * B) + i) (pos 0) ≡ getD (E (kind-of kind)) i (pos 0)
+  exponent-joined : (kd : Kind) (i : ℕ) → i < (k + n) * B → getD (j .exponents) (first-of kd ((k + n) * B) + i) (pos 0) ≡ getD (E kd) i (pos 0)
   unfolding beside
-  exponent-joined kind i h l = thirds-at ((k + n) * B) E E-length kind i h l
+  exponent-joined kd i l = thirds-at ((k + n) * B) E E-length kd i l
 
-  exponent-early : (kind i : ℕ) → kind < 3 → i < k * B → getD (a .exponents) (kind * (m * B) + i) (pos 0) ≡ getD (j .exponents) (kind * ((k + n) * B) + i) (pos 0)
-  exponent-early kind i h l =
-      exponent-of m B C a f kind i h (omega (arith, blocks-fewer))
-      ∙ sym (exponent-joined kind i h (omega (arith, add-mul k n B))
-      ∙ in-front (pos 0) (k * B) (third (kind-of kind) (m * B) (a .exponents)) (third (kind-of kind) (n * B) (b .exponents)) (third-fewer (kind-of kind)) i l)
+  exponent-early : (kd : Kind) (i : ℕ) → i < k * B → getD (a .exponents) (first-of kd (m * B) + i) (pos 0) ≡ getD (j .exponents) (first-of kd ((k + n) * B) + i) (pos 0)
+  exponent-early kd i l =
+      exponent-of m B C a f kd i (omega (arith, blocks-fewer))
+      ∙ sym (exponent-joined kd i (omega (arith, add-mul k n B))
+      ∙ in-front (pos 0) (k * B) (third kd (m * B) (a .exponents)) (third kd (n * B) (b .exponents)) (third-fewer kd) i l)
 
-  exponent-late : (kind i : ℕ) → kind < 3 → i < n * B → getD (b .exponents) (kind * (n * B) + i) (pos 0) ≡ getD (j .exponents) (kind * ((k + n) * B) + (k * B + i)) (pos 0)
-  exponent-late kind i h l =
-      exponent-of n B C b g kind i h l
-      ∙ sym (exponent-joined kind (k * B + i) h (omega (arith, add-mul k n B))
-      ∙ behind (pos 0) (k * B) (third (kind-of kind) (m * B) (a .exponents)) (third (kind-of kind) (n * B) (b .exponents)) (third-fewer (kind-of kind)) i)
+  exponent-late : (kd : Kind) (i : ℕ) → i < n * B → getD (b .exponents) (first-of kd (n * B) + i) (pos 0) ≡ getD (j .exponents) (first-of kd ((k + n) * B) + (k * B + i)) (pos 0)
+  exponent-late kd i l =
+      exponent-of n B C b g kd i l
+      ∙ sym (exponent-joined kd (k * B + i) (omega (arith, add-mul k n B))
+      ∙ behind (pos 0) (k * B) (third kd (m * B) (a .exponents)) (third kd (n * B) (b .exponents)) (third-fewer kd) i)
 
   -- ---- numbers of a kind that is there
   number-early : (kd : Kind) (i x : ℕ) → i < k → Present kd (getD (a .marks) i 0) → x < k * B * C → getD (area kd a) x (pos 0) ≡ getD (area kd j) x (pos 0)
@@ -171,7 +167,7 @@ module _ (m n B C : ℕ) (a b : Areas) (f : Sixfold m B C a) (g : Sixfold n B C 
 
 -- ---- a node
 module _ (m n L R C : ℕ) (a b : Areas) (f : Sixfold m (L * R) C a) (g : Sixfold n (L * R) C b) (some-maps : 1 ≤ m)
-    (kind layer : ℕ) (known : kind < 3) (inside : layer < L) (w : Weighed) (row : w .row < R) (column : w .column < C) where
+    (kind layer : ℕ) (inside : layer < L) (w : Weighed) (row : w .row < R) (column : w .column < C) where
   abbrev pub of-maps : ℕ → Shape
   of-maps N = record { kind = kind; layer = layer; maps = N; layers = L; rows = R; columns = C }
 
@@ -203,7 +199,7 @@ module _ (m n L R C : ℕ) (a b : Areas) (f : Sixfold m (L * R) C a) (g : Sixfol
       worth-same kd (getD (a .marks) (w .map) 0) _ _ _ _
       (λ p. (
         number-early m n (L * R) C a b f g some-maps kd (w .map) (number-at (of-maps m) w) h p (number-in (m - 1) h),
-        exponent-early m n (L * R) C a b f g some-maps kind (block (of-maps m) w) known (block-in (m - 1) h),
+        exponent-early m n (L * R) C a b f g some-maps kd (block (of-maps m) w) (block-in (m - 1) h),
       ))
       ∙ ap (λ x. worth kd x (getD (area kd joint) (number-at (of-maps m) w) (pos 0)) (getD (joint .exponents) (exponent-at (of-maps (m - 1 + n)) w) (pos 0))) (sym (mark-early m n (L * R) C a b f g some-maps (w .map) h))
       ∙ ap (λ i. value (of-maps (m - 1 + n)) (area kd joint) (joint .exponents) (joint .marks) (record { weight = w .weight; map = i; row = w .row; column = w .column })) o
@@ -216,8 +212,8 @@ module _ (m n L R C : ℕ) (a b : Areas) (f : Sixfold m (L * R) C a) (g : Sixfol
       (λ p. (
         number-late m n (L * R) C a b f g some-maps kd (w .map) (number-at (of-maps n) w) h p
             ∙ ap (λ x. getD (area kd joint) x (pos 0)) (sym (number-later (m - 1) n)),
-        exponent-late m n (L * R) C a b f g some-maps kind (block (of-maps n) w) known (block-in n h)
-            ∙ ap (λ x. getD (joint .exponents) (kind * ((m - 1 + n) * (L * R)) + x) (pos 0)) (sym (block-later (m - 1) n)),
+        exponent-late m n (L * R) C a b f g some-maps kd (block (of-maps n) w) (block-in n h)
+            ∙ ap (λ x. getD (joint .exponents) (first-of kd ((m - 1 + n) * (L * R)) + x) (pos 0)) (sym (block-later (m - 1) n)),
       ))
       ∙ ap (λ x. worth kd x (getD (area kd joint) (number-at (of-maps n) (later (m - 1) w)) (pos 0)) (getD (joint .exponents) (exponent-at (of-maps (m - 1 + n)) (later (m - 1) w)) (pos 0)))
       (sym (mark-late m n (L * R) C a b f g some-maps (w .map)))

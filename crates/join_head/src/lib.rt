@@ -1,7 +1,6 @@
 // The headers of two map sets: whether the sets can be joined by them, and the header of both.
 ghost use mathlib.Core.Path.{_≡_};
 ghost use Prim.Native.Nat.{_+_, _-_, _≤_};
-ghost use Rattle.kit.specs.Integer.{int?};
 ghost use Rattle.kit.specs.Truth.{truth};
 ghost use Rattle.mapset.specs.Grid.{Limits};
 ghost use Rattle.join.specs.Join as join;

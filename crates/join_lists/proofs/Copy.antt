@@ -11,9 +11,10 @@ use lib.Seq.{paste, paste-zero, paste-suc, take-at, drop-at, drop-drop, length-t
 use Rattle.kit.specs.Lists.{front}
 use Rattle.mapset.specs.declared.Kind.{Kind}
 use Rattle.mapset.specs.declared.Kind.the-variants.{Tec, Rms, Height}
+use Rattle.mapset.specs.Areas.{first-of}
+use Rattle.mapset.proofs.FirstLaws.{first-within}
 use Rattle.areas.specs.Nest.{third}
-use Rattle.areas.specs.Places.{first-of}
-use Rattle.join_lists.specs.Lists.{or-absent, third-of-two, thirds-of-two}
+use Rattle.join_lists.specs.Lists.{or-absent, ThirdsFit, third-of-two, thirds-of-two}
 
 -- after j turns
 pub record Copied {A : Type 0} (d : List A) (at : ℕ) (s : List A) (n j : ℕ) (o : List A) : Type 0 where
@@ -63,7 +64,7 @@ module _ {A : Type 0} where
   front-length (y ∷ x) (z ∷ l) h = ap suc (front-length x l (omega arith))
 
   -- two pastes, the second behind the first, are one
-  pub paste-both : (d : List A) (at : ℕ) (x y : List A) → at + (length x + length y) ≤ length d
+  paste-both : (d : List A) (at : ℕ) (x y : List A) → at + (length x + length y) ≤ length d
       → paste (paste d at x (length x)) (at + length x) y (length y) ≡ paste d at (x ++ y) (length x + length y)
   paste-both d at x y h =
       let p : List A = take at d ++ take (length x) x in
@@ -97,44 +98,52 @@ or-absent-length true n l h = sym (length-take-le n l h)
 or-absent-length false n l h = sym (length-replicate n (pos 9999))
 
 -- ---- the exponents of three kinds: k of m from i on, n from j on
-module _ (k m n : ℕ) (a b l : List ℤ) (less : k ≤ m) (early : 3 * m ≤ length a) (late : 3 * n ≤ length b) (room : 3 * (k + n) ≤ length l) where
+module _ (k m n : ℕ) (a b l : List ℤ) (fit : ThirdsFit k m n a b l) where
   abbrev part : ℕ → ℕ → List ℤ
   part i j = take k (drop i a) ++ take n (drop j b)
 
   early-length : (i : ℕ) → i + m ≤ length a → length (take k (drop i a)) ≡ k
-  early-length i h = length-take-le k (drop i a) (omega (arith, length-drop i a))
+  early-length i h = length-take-le k (drop i a) (omega (arith, length-drop i a, fit .0))
 
   late-length : (j : ℕ) → j + n ≤ length b → length (take n (drop j b)) ≡ n
   late-length j h = length-take-le n (drop j b) (omega (arith, length-drop j b))
 
-  part-length : (i j : ℕ) → i + m ≤ length a → j + n ≤ length b → k + n ≡ length (part i j)
-  part-length i j h g = sym (length-append (take k (drop i a)) (take n (drop j b)) ∙ (λ t. early-length i h t + late-length j g t))
+  in-early : (d : Kind) → first-of d m + m ≤ length a
+  in-early d = omega (arith, first-within d m, fit .1)
+
+  in-late : (d : Kind) → first-of d n + n ≤ length b
+  in-late d = omega (arith, first-within d n, fit .2)
 
   third-part : (d : Kind) → part (first-of d m) (first-of d n) ≡ third-of-two k m n a b d
-  third-part d = ap (λ r. r ++ third d n b) (sym (take-take k m (drop (first-of d m) a) less))
+  third-part d = ap (λ r. r ++ third d n b) (sym (take-take k m (drop (first-of d m) a) (fit .0)))
 
-  -- one kind's copy, as the code cuts its parts
-  copied : (o d : List ℤ) (at i e j f : ℕ) → i + k ≡ e → j + n ≡ f → i + m ≤ length a → j + n ≤ length b
-      → o ≡ paste d at (take (e - i) (drop i a) ++ take (f - j) (drop j b)) (length (take (e - i) (drop i a)) + length (take (f - j) (drop j b)))
-      → o ≡ paste d at (part i j) (k + n)
-  copied o d at i e j f p q h g z =
-      let u : e - i ≡ k = omega arith in
-      let v : f - j ≡ n = omega arith in
-      z ∙ (λ t. paste d at (take (u t) (drop i a) ++ take (v t) (drop j b)) (length (take (u t) (drop i a)) + length (take (v t) (drop j b))))
-      ∙ (λ t. paste d at (part i j) (early-length i h t + late-length j g t))
+  third-long : (d : Kind) → k + n ≡ length (third-of-two k m n a b d)
+  third-long d =
+      let i = first-of d m in
+      let j = first-of d n in
+      sym (length-append (take k (drop i a)) (take n (drop j b)) ∙ (λ t. early-length i (in-early d) t + late-length j (in-late d) t)) ∙ ap length (third-part d)
+
+  -- one kind's two copies, as the code cuts its parts
+  pub third-copied : (d : Kind) (at i j : ℕ) → at ≡ first-of d (k + n) → i ≡ first-of d m → j ≡ first-of d n → (o₁ o₂ : List ℤ)
+      → o₁ ≡ paste l at (take (i + k - i) (drop i a)) (length (take (i + k - i) (drop i a)))
+      → o₂ ≡ paste o₁ (at + k) (take (j + n - j) (drop j b)) (length (take (j + n - j) (drop j b)))
+      → o₂ ≡ paste l (first-of d (k + n)) (third-of-two k m n a b d) (k + n)
+  third-copied d at i j p q r o₁ o₂ x y =
+      let u : i + k - i ≡ k = omega arith in
+      let v : j + n - j ≡ n = omega arith in
+      let e : length (take k (drop i a)) ≡ k = early-length i (omega (arith, q, in-early d)) in
+      let f : length (take n (drop j b)) ≡ n = late-length j (omega (arith, r, in-late d)) in
+      let c : o₁ ≡ paste l at (take k (drop i a)) (length (take k (drop i a))) = x ∙ (λ t. paste l at (take (u t) (drop i a)) (length (take (u t) (drop i a)))) in
+      y ∙ (λ t. paste (c t) (at + sym e t) (take (v t) (drop j b)) (length (take (v t) (drop j b))))
+      ∙ paste-both l at (take k (drop i a)) (take n (drop j b)) (omega (arith, e, f, p, first-within d (k + n), fit .3))
+      ∙ (λ t. paste l (p t) (part (q t) (r t)) (e t + f t))
+      ∙ ap (λ z. paste l (first-of d (k + n)) z (k + n)) (third-part d)
 
   pub three-kinds : (o₁ o₂ o₃ : List ℤ)
-      → o₁ ≡ paste l 0 (take k a ++ take n b) (length (take k a) + length (take n b))
-      → o₂ ≡ paste o₁ (k + n) (take (m + k - m) (drop m a) ++ take (n + n - n) (drop n b)) (length (take (m + k - m) (drop m a)) + length (take (n + n - n) (drop n b)))
-      → o₃ ≡ paste o₂ (k + n + (k + n)) (take (m + m + k - (m + m)) (drop (m + m) a) ++ take (n + n + n - (n + n)) (drop (n + n) b))
-      (length (take (m + m + k - (m + m)) (drop (m + m) a)) + length (take (n + n + n - (n + n)) (drop (n + n) b)))
+      → o₁ ≡ paste l 0 (third-of-two k m n a b Tec) (k + n)
+      → o₂ ≡ paste o₁ (k + n) (third-of-two k m n a b Rms) (k + n)
+      → o₃ ≡ paste o₂ (k + n + (k + n)) (third-of-two k m n a b Height) (k + n)
       → o₃ ≡ front (thirds-of-two k m n a b) l
   three-kinds o₁ o₂ o₃ x y z =
-      let p : o₁ ≡ paste l 0 (part 0 0) (k + n) = x ∙ (λ t. paste l 0 (part 0 0) (early-length 0 (omega arith) t + late-length 0 (omega arith) t)) in
-      let q : o₂ ≡ paste o₁ (k + n) (part m n) (k + n) = copied o₂ o₁ (k + n) m (m + k) n (n + n) refl refl (omega arith) (omega arith) y in
-      let r : o₃ ≡ paste o₂ (k + n + (k + n)) (part (m + m) (n + n)) (k + n) =
-      copied o₃ o₂ (k + n + (k + n)) (m + m) (m + m + k) (n + n) (n + n + n) refl refl (omega arith) (omega arith) z in
-      r ∙ ap (λ d. paste d (k + n + (k + n)) (part (m + m) (n + n)) (k + n)) (q ∙ ap (λ d. paste d (k + n) (part m n) (k + n)) p)
-      ∙ three-copies (part 0 0) (part m n) (part (m + m) (n + n)) l (k + n) (part-length 0 0 (omega arith) (omega arith)) (part-length m n (omega arith) (omega arith))
-      (part-length (m + m) (n + n) (omega arith) (omega arith)) room
-      ∙ (λ t. front (third-part Tec t ++ (third-part Rms t ++ third-part Height t)) l)
+      z ∙ ap (λ o. paste o (k + n + (k + n)) (third-of-two k m n a b Height) (k + n)) (y ∙ ap (λ o. paste o (k + n) (third-of-two k m n a b Rms) (k + n)) x)
+      ∙ three-copies (third-of-two k m n a b Tec) (third-of-two k m n a b Rms) (third-of-two k m n a b Height) l (k + n) (third-long Tec) (third-long Rms) (third-long Height) (fit .3)

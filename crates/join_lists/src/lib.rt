@@ -2,12 +2,14 @@
 ghost use mathlib.Core.Path.{_≡_};
 ghost use mathlib.Core.Bool.{cond};
 ghost use mathlib.Core.List.{_++_};
-ghost use Prim.Native.Nat.{_+_, _*_, _≤_};
+ghost use Prim.Native.Nat.{_+_, _≤_};
 ghost use lib.ListN.{length, replicate};
 ghost use lib.IntN.{pos};
 ghost use lib.Seq.{paste};
 ghost use Rattle.kit.specs.Lists.{front};
-ghost use Rattle.join_lists.specs.Lists.{or-absent, values-of-two, thirds-of-two};
+ghost use Rattle.mapset.specs.Areas.{first-of};
+ghost use Rattle.join_lists.specs.Lists.{or-absent, values-of-two, ThirdsFit, third-of-two, thirds-of-two};
+use mapset::Kind;
 
 fn copy_i32(src: &[i32], out: &mut [i32], at: usize)
     requires { ⌜ at + length (now src) ≤ length (now out) ⌝ }
@@ -76,29 +78,28 @@ pub fn join_values(
     put_values(late, n, b, out, m);
 }
 
-// The exponents of a kind: all of one list, then all of the other.
-fn put_third(a: &[i32], b: &[i32], out: &mut [i32], at: usize)
-    requires { ⌜ at + (length (now a) + length (now b)) ≤ length (now out) ⌝ }
-    ensures { λ _. ⌜ now (out .exit) ≡ paste (now (out .entry)) at (now (a .entry) ++ now (b .entry)) (length (now (a .entry)) + length (now (b .entry))) ⌝ }
+// The exponents of a kind: the first k of its m in the one list, then its n in the other.
+fn put_third(kind: Kind, k: usize, m: usize, n: usize, a: &[i32], b: &[i32], out: &mut [i32])
+    requires { ⌜ ThirdsFit k m n (now a) (now b) (now out) ⌝ }
+    ensures { λ _. ⌜ now (out .exit) ≡ paste (now (out .entry)) (first-of kind (k + n)) (third-of-two k m n (now (a .entry)) (now (b .entry)) kind) (k + n) ⌝ }
 {
-    copy_i32(a, out, at);
-    copy_i32(b, out, at + a.len());
+    let i = mapset::blocks_before(kind, m);
+    let j = mapset::blocks_before(kind, n);
+    let at = mapset::blocks_before(kind, k + n);
+    let early = i + k;
+    let late = j + n;
+    copy_i32(&a[i..early], out, at);
+    copy_i32(&b[j..late], out, at + k);
 }
 
-// The exponents of the three kinds: of each the first k of its m in the one list, then its n in the other.
+// The exponents of the three kinds.
 pub fn join_exponents(k: usize, m: usize, n: usize, a: &[i32], b: &[i32], out: &mut [i32])
-    requires { ⌜ (k ≤ m) × (3 * m ≤ length (now a)) × (3 * n ≤ length (now b)) × (3 * (k + n) ≤ length (now out)) ⌝ }
+    requires { ⌜ ThirdsFit k m n (now a) (now b) (now out) ⌝ }
     ensures { λ _. ⌜ now (out .exit) ≡ front (thirds-of-two k m n (now (a .entry)) (now (b .entry))) (now (out .entry)) ⌝ }
 {
-    let s = k + n;
-    let p = m + m;
-    let q = n + n;
-    let rms = m + k;
-    let height = p + k;
-    let end = q + n;
-    put_third(&a[..k], &b[..n], out, 0);
-    put_third(&a[m..rms], &b[n..q], out, s);
-    put_third(&a[p..height], &b[q..end], out, s + s);
+    put_third(Kind::Tec, k, m, n, a, b, out);
+    put_third(Kind::Rms, k, m, n, a, b, out);
+    put_third(Kind::Height, k, m, n, a, b, out);
 }
 
 pub fn join_epochs(a: &[u64], b: &[u64], out: &mut [u64])

@@ -1,5 +1,6 @@
 ghost use mathlib.Core.Path.{_≡_};
 ghost use mathlib.Core.Bool.{cond};
+ghost use mathlib.Core.List.{[], _∷_};
 ghost use Prim.Native.Nat.{_+_, _<_, _≤_, _^_};
 ghost use lib.IntN.{pos, negℤ, natAbs};
 ghost use lib.ListN.{length};
@@ -69,6 +70,15 @@ pub fn between(low: i32, high: i32, x: i32) -> bool
     ensures { λ r. ⌜ r ≡ truth (between? low high x) ⌝ }
 {
     wide::between(low as i64, high as i64, x as i64)
+}
+
+// Two of them into an area, from a position on.
+pub fn put_two(out: &mut [i32], at: usize, a: i32, b: i32)
+    requires { ⌜ at + 2 ≤ length (now out) ⌝ }
+    ensures { λ _. ⌜ now (out .exit) ≡ sets (now (out .entry)) at (a ∷ b ∷ []) ⌝ }
+{
+    out[at] = a;
+    out[at + 1] = b;
 }
 
 // ---- Bytes

@@ -4,3 +4,4 @@ pub mod Records
 pub mod Labels
 pub mod Names
 pub mod Layout
+pub mod Samples

@@ -2,3 +2,4 @@ pub mod DescribedLaws
 pub mod JudgedLaws
 pub mod SoundLaws
 pub mod Groups
+pub mod FirstLaws

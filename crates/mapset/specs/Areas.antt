@@ -46,11 +46,11 @@ Nowhere k ms = All (λ m. ¬ Present k m) ms
 unfoldable pub nowhere? : (k : Kind) (ms : List ℕ) → Dec (Nowhere k ms)
 nowhere? k ms = all-dec (λ m. ¬-dec (present? k m)) ms
 
--- ---- a kind's number: as many kinds stand before it in the area of exponents
-abbrev pub kind-number : Kind → ℕ
-kind-number Tec = 0
-kind-number Rms = 1
-kind-number Height = 2
+-- ---- where a kind's exponents begin, s of each kind
+abbrev pub first-of : Kind → ℕ → ℕ
+first-of Tec s = 0
+first-of Rms s = s
+first-of Height s = s + s
 
 -- ---- needs
 abbrev pub blocks : Header → ℕ

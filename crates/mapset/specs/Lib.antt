@@ -9,3 +9,4 @@ pub mod Judged
 pub mod Said
 pub mod SoundDecided
 pub mod Sound
+pub mod Samples

@@ -4,7 +4,7 @@ ghost use mathlib.Core.Path.{_≡_};
 ghost use Prim.Native.Nat.{_*_, _<_};
 ghost use Rattle.kit.specs.Answer.{pick};
 ghost use Rattle.kit.specs.Truth.{truth};
-ghost use Rattle.mapset.specs.Areas.{present?, nowhere?, kind-number};
+ghost use Rattle.mapset.specs.Areas.{present?, nowhere?, first-of};
 ghost use Rattle.mapset.specs.Decisions.{takes-code?, follows?};
 
 pub mod axes;
@@ -161,7 +161,7 @@ pub fn need(kind: Kind, marks: &[u8], values: usize) -> usize
 // How many blocks stand before those of a kind, where each kind has so many.
 pub fn blocks_before(kind: Kind, blocks: usize) -> usize
     requires { ⌜ 2 * blocks < 9223372036854775808 ⌝ }
-    ensures { λ r. ⌜ r ≡ kind-number kind * blocks ⌝ }
+    ensures { λ r. ⌜ r ≡ first-of kind blocks ⌝ }
 {
     match kind {
         Kind::Tec => 0,

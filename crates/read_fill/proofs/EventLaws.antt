@@ -7,11 +7,11 @@ use lib.ListN.{length, set, getD}
 use lib.Seq.{sets}
 use lib.IntN.{ℤ}
 use Rattle.kit.specs.Answer.{All}
-use Rattle.mapset.specs.Areas.{Areas, six}
+use Rattle.mapset.specs.Areas.{Areas, six, first-of}
 use Rattle.mapset.specs.declared.Kind.{Kind}
 use Rattle.mapset.specs.declared.Kind.the-variants.{Tec, Rms, Height}
 use Rattle.areas.specs.Stores.{with-mark, Inside, lengths, scanned}
-use Rattle.areas.specs.Places.{first-of, before}
+use Rattle.areas.specs.Places.{before}
 use Rattle.read_fill.specs.Rows.{Valued}
 use Rattle.read_events.specs.Brings.{tells, due}
 use Rattle.read_fill.specs.Scan.{Resumes, Resumed}

@@ -4,7 +4,8 @@ ghost use Prim.Native.Nat.{_+_, _-_, _*_, _<_, _≤_};
 ghost use lib.ListN.{length, set, getD, replicate};
 ghost use lib.IntN.{pos, negsuc};
 ghost use Rattle.areas.specs.Stores.{with-mark, fill};
-ghost use Rattle.areas.specs.Places.{first-of, before};
+ghost use Rattle.mapset.specs.Areas.{first-of};
+ghost use Rattle.areas.specs.Places.{before};
 use mapset::Kind;
 use mapset::Size;
 

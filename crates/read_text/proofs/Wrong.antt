@@ -11,7 +11,8 @@ use Rattle.mapset.specs.declared.Header.{Header}
 use Rattle.mapset.specs.declared.Texts.{Texts}
 use Rattle.mapset.specs.declared.Descriptions.{Descriptions}
 use Rattle.mapset.specs.Areas.{Areas}
-use Rattle.reading.proofs.Vectors.{lines, two-faults, eight-before-seven, small-text, small-set, small-read, two-text, two-set, two-read}
+use Rattle.layout.specs.Samples.{lines}
+use Rattle.reading.proofs.Vectors.{two-faults, eight-before-seven, small-text, small-set, small-read, two-text, two-set, two-read}
 use Rattle.areas.specs.Flat.{areas-of, areas}
 use Rattle.areas.specs.Fronts.{fronts}
 use Rattle.read_needs.specs.Needs.{first-short}

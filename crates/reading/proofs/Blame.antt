@@ -5,9 +5,9 @@ use lib.Dec.{T}
 use native.Mathlib.Omega.{arith}
 use mathlib.Core.Option.{Option, none, some}
 use native.Mathlib.Decide.{ℕ-discrete}
-use Prim.Native.Nat.{ℕ, zero, suc, _+_, _≤_, _<_}
-use mathlib.Core.List.{List, [], _∷_}
-use lib.ListN.{length, take, drop}
+use Prim.Native.Nat.{ℕ, zero, suc, _+_, _*_, _≤_, _<_}
+use mathlib.Core.List.{List, [], _∷_, _++_}
+use lib.ListN.{length, take, drop, replicate, length-drop}
 use lib.IntN.{ℤ}
 use Rattle.kit.specs.Answer.{All, Answer, ok, refused, need, bind, amap, get, pick}
 use Rattle.kit.proofs.AnswerLaws.{pick-elim}
@@ -33,7 +33,7 @@ use Rattle.reading.specs.Head.{meant, once, on-description, on-system, o
 use Rattle.reading.specs.Read.{versioned, version-of}
 use Rattle.reading.specs.declared.Place.{Place}
 use Rattle.reading.specs.declared.Place.the-variants.{Ended, Between, Early, Inside}
-use Rattle.reading.specs.Refusals.{among, Checks, Later, four, five, six, six-value, seven, eight, nine, First, three, six-first}
+use Rattle.reading.specs.Refusals.{among, Checks, Later, four, five, six, seven, eight, nine, First, three, six-first}
 
 -- if it is refused, P holds of the reason
 pub data Blames {W A : Type 0} (P : W → Type 0) : Answer W A → Type 0 where
@@ -78,15 +78,6 @@ pub blames-map : {W A : Type 0} {P R : W → Type 0} {x : Answer W A} → ((w : 
 blames-map f b-ok = b-ok
 blames-map f (b-no p) = b-no (f _ p)
 
-pub not-ten : {f : Fault} → Later f → ¬ (f .number ≡ 10)
-not-ten four e = omega arith
-not-ten five e = omega arith
-not-ten (six l h) e = omega arith
-not-ten (six-value h) e = omega arith
-not-ten (seven t) e = omega arith
-not-ten (eight t) e = omega arith
-not-ten nine e = omega arith
-
 -- ---- 6: a field or an X column
 
 take-short : (w : ℕ) (bs : List ℕ) → length (take w bs) ≤ w
@@ -130,10 +121,13 @@ module _ {P : Fault → Type 0} where
 in-fields : (l : Label) (r : List ℕ) → Blames Later (fields l r)
 in-fields l r = fields-blame l r (λ x h. six l h)
 
-pub cells-blame : (c m : ℕ) (bs : List ℕ) → 1 ≤ c → Blames Later (cells c m bs)
+-- m values from column c on, and at most w columns behind them
+pub cells-blame : {P : Fault → Type 0} (c m w : ℕ) (bs : List ℕ) → length bs ≤ 5 * m + w
+    → ((x : ℕ) → Checks c (replicate m (I 5) ++ (X w ∷ [])) x → P (fault 6 x)) → Blames P (cells c m bs)
 unfolding cells
-cells-blame c zero bs k = blank-blames bs c (λ i h. six-value (omega arith)) b-ok
-cells-blame c (suc m) bs k = number-blames _ c (six-value k) (λ z. amap-blames _ (cells-blame (c + 5) m (drop 5 bs) (omega arith)))
+cells-blame c zero w bs n k = blank-blames bs c (λ i h. k (c + i) (inl (omega arith, omega arith))) b-ok
+cells-blame c (suc m) w bs n k =
+    number-blames _ c (k c (inl refl)) (λ z. amap-blames _ (cells-blame (c + 5) m w (drop 5 bs) (omega (arith, length-drop 5 bs)) (λ x h. k x (inr h))))
 
 -- ---- 7: the fields of a date
 abbrev InDate : Taken → Type 0

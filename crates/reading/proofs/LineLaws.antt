@@ -1,6 +1,6 @@
 -- The text's lines and their rows are the only ones.
 use mathlib.Core.Path.{_≡_, refl, ap, _∙_}
-use Prim.Native.Nat.{ℕ, zero, suc, _-_}
+use Prim.Native.Nat.{ℕ, zero, suc, _-_, _≤_}
 use native.Mathlib.Omega.{arith}
 use mathlib.Core.List.{List, [], _∷_, _++_}
 use native.Mathlib.Decide.{ℕ-discrete, decLe}
@@ -120,6 +120,10 @@ laid n (l ∷ ls) rs h =
 
 -- ---- each row has 80 columns, all printable
 
+pub padded : (l : List ℕ) → length l ≤ 80 → length (pad l) ≡ 80
+unfolding pad
+padded l k = simp (length-append, length-replicate) (omega arith)
+
 abbrev pub Sized : Feed → Type 0
 Sized (over n) = Unit {0}
 Sized (bad w) = Unit {0}
@@ -130,12 +134,12 @@ spaces zero = tt
 spaces (suc n) = ((omega arith, omega arith), spaces n)
 
 pub sized : (n : ℕ) (ls : List (List ℕ)) → Sized (feed n ls)
-unfolding feed pad
+unfolding feed
 sized n [] = tt
 sized n (l ∷ ls) =
     pick-elim Sized (decLe (length l) 80)
     (λ fits. pick-elim Sized (all-dec (within? 32 126) l)
     (λ p. pick-elim Sized (all-dec (λ b. ℕ-discrete b 32) l) (λ _. sized (suc n) ls)
-    (λ _. ((simp (length-append, length-replicate) (omega arith), all-append (Within 32 126) l _ p (spaces (80 - length l))), sized (suc n) ls)))
+    (λ _. ((padded l fits, unfold pad in all-append (Within 32 126) l _ p (spaces (80 - length l))), sized (suc n) ls)))
     (λ _. tt))
     (λ _. tt)

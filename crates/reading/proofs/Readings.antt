@@ -3,40 +3,26 @@
 use mathlib.Core.Path.{_≡_, refl}
 use mathlib.Core.List.{List, [], _∷_, _++_}
 use mathlib.Core.Bool.{Bool, true, false}
-use Prim.Native.Nat.{ℕ, _*_, _-_}
+use Prim.Native.Nat.{ℕ}
 use Prim.Native.String.{String}
 use lib.IntN.{ℤ, pos, negsuc}
 use lib.ListN.{take, drop, replicate}
-use native.Mathlib.Decide.{ℕ-discrete, decLe, decLt}
-use Rattle.kit.specs.Answer.{Answer, refused, ok, All, need, bind, amap, get, pick, ×-dec, ⊎-dec, ¬-dec, all-dec, same, sames}
-use Rattle.kit.specs.Integer.{int?, le?, lt?, between?}
-use Rattle.kit.specs.Range.{within?, natural?}
+use native.Mathlib.Decide.{decLe}
+use Rattle.kit.specs.Answer.{Answer, refused, ok, All, bind, ×-dec}
 use Rattle.kit.specs.Truth.{truth}
-use Rattle.days.specs.Years.{isLeap, monthDays, yearDays}
-use Rattle.calendar.specs.Calendar.{dated, second}
-use Rattle.days.specs.Sums.{sum}
-use Rattle.forms.specs.Read.{readField, numberOf, formed?}
-use Rattle.mapset.specs.Decisions.{×₃-dec, ×₄-dec, end?, step?, multiple?, together?, limits?, dimension?, follows?}
-use Rattle.mapset.specs.declared.Axis.{Axis}
-use Rattle.mapset.specs.Lines.{end-to-end, described, no-lines}
+use Rattle.mapset.specs.Decisions.{×₃-dec, ×₄-dec, limits?}
+use Rattle.mapset.specs.Said.{axis-of}
+use Rattle.mapset.specs.Samples.{nodes-of}
 use Rattle.mapset.specs.Header.{Said, number as number-said, along, counts}
 use Rattle.mapset.specs.MapSet.{MapSet}
 use Rattle.layout.specs.Text.{pad}
-use Rattle.layout.specs.Labels.{bytes, name, head, content}
-use Rattle.reading.specs.Feed.{Fault, fault, why, on-line, front, opens?, split, feed, bad-column}
-use Rattle.reading.specs.Fields.{lookup, label, number, blanks, blank, scan, fields, cells}
-use Rattle.reading.specs.Maps.{on-date, kind?, true?, after?, implies?, in-time?, height?, loose, on-comment, on-exponent, start-tec, start-other, start-map, on-start, end-map, on-end as on-map-end, epoch-tec, epoch-other, on-epoch, open-block, on-block, on-file, taken, step, finish, run, short}
-use Rattle.layout.specs.Layout.{exponent?}
-use Rattle.reading.specs.Head.{meant, place, none?, complete?, made, made-texts, once, on-description, on-system, on-end, at-head, head-step, heading}
-use Rattle.reading.specs.Read.{versioned, version-of, begin, read}
-use Rattle.reading.proofs.Vectors.{lines, small-text, two-text}
-
--- a text with another line n; with one more line in front of line n
-abbrev put : ℕ → String → List String → List String
-put n s ls = take (n - 1) ls ++ (s ∷ drop n ls)
-
-abbrev add : ℕ → String → List String → List String
-add n s ls = take (n - 1) ls ++ (s ∷ drop (n - 1) ls)
+use Rattle.layout.specs.Labels.{bytes, head, content}
+use Rattle.reading.specs.Feed.{Fault, fault, why}
+use Rattle.reading.specs.Fields.{fields}
+use Rattle.layout.specs.Samples.{lines}
+use Rattle.reading.specs.Head.{meant}
+use Rattle.reading.specs.Read.{read}
+use Rattle.reading.proofs.Vectors.{whole-reading, put, add, small-text, two-text}
 
 abbrev description-line : String
 description-line = "one shell                                                   DESCRIPTION"
@@ -117,7 +103,7 @@ readings =
     ∷ []
 
 pub refused-readings : All Refuses readings
-unfolding readings small-text two-text read begin feed split front opens? bad-column pad pick ×-dec ⊎-dec ¬-dec all-dec same sames need bind amap get ℕ-discrete decLe decLt int? le? lt? between? within? natural? dated second isLeap monthDays yearDays sum readField numberOf formed? ×₃-dec ×₄-dec end? step? multiple? together? limits? dimension? follows? name on-line lookup label number blanks blank scan fields cells on-date exponent? kind? true? after? implies? in-time? height? loose on-comment on-exponent start-tec start-other start-map on-start end-map on-map-end epoch-tec epoch-other on-epoch open-block on-block on-file taken step finish run short meant place none? complete? made made-texts described end-to-end no-lines once on-description on-system on-end at-head head-step heading versioned version-of
+unfolding readings small-text two-text whole-reading
 refused-readings = (refl, (refl, (refl, (refl, (refl, (refl, (refl, (refl, (refl, (refl, (refl, (refl, (refl, (refl, (refl, (refl, (refl, (refl, (refl, (refl, (refl, (refl, (refl, (refl, (refl, (refl, (refl, (refl, (refl, (refl, (refl, (refl, (refl, (refl, (refl, (refl, (refl, (refl, (refl, (refl, (refl, (refl, (refl, (refl, (refl, (refl, (refl, tt)))))))))))))))))))))))))))))))))))))))))))))))
 
 -- ---- accepted: twenty DESCRIPTION lines, 80 bytes, exponents of 0 and -3, and epochs 21,600 s apart
@@ -131,7 +117,7 @@ accepted-texts =
     ∷ []
 
 pub accepted-readings : All (λ t. (s : MapSet) × (read (lines t) ≡ ok s)) accepted-texts
-unfolding accepted-texts small-text two-text read begin feed split front opens? bad-column pad pick ×-dec ⊎-dec ¬-dec all-dec same sames need bind amap get ℕ-discrete decLe decLt int? le? lt? between? within? natural? dated second isLeap monthDays yearDays sum readField numberOf formed? ×₃-dec ×₄-dec end? step? multiple? together? limits? dimension? follows? name on-line lookup label number blanks blank scan fields cells on-date exponent? kind? true? after? implies? in-time? height? loose on-comment on-exponent start-tec start-other start-map on-start end-map on-map-end epoch-tec epoch-other on-epoch open-block on-block on-file taken step finish run short meant place none? complete? made made-texts described end-to-end no-lines once on-description on-system on-end at-head head-step heading versioned version-of
+unfolding accepted-texts small-text two-text whole-reading
 accepted-readings = ((_, refl), ((_, refl), ((_, refl), ((_, refl), ((_, refl), tt)))))
 
 -- ---- a header record by itself: its place in `contents`, its columns, and what it says or its refusal
@@ -148,7 +134,7 @@ abbrev takes : ℕ → Answer Fault Said
 takes n = ok (number-said n)
 
 abbrev takes-axis : (first last step : ℤ) → Answer Fault Said
-takes-axis a b d = ok (along (record { first = a; last = b; step = d }))
+takes-axis a b d = ok (along (axis-of a b d))
 
 abbrev refuses : ℕ → Answer Fault Said
 refuses c = refused (fault 7 c)
@@ -243,13 +229,10 @@ edges =
     ∷ []
 
 pub header-edges : All Judges edges
-unfolding edges pad pick ×-dec ⊎-dec ¬-dec all-dec same sames need bind amap ℕ-discrete decLe decLt int? le? lt? between? within? natural? dated second isLeap monthDays yearDays sum readField numberOf formed? ×₃-dec end? step? multiple? together? number blanks blank scan fields on-date meant
+unfolding edges whole-reading
 header-edges = (refl, (refl, (refl, (refl, (refl, (refl, (refl, (refl, (refl, (refl, (refl, (refl, (refl, (refl, (refl, (refl, (refl, (refl, (refl, (refl, (refl, (refl, (refl, (refl, (refl, (refl, (refl, (refl, (refl, (refl, (refl, (refl, (refl, (refl, (refl, (refl, (refl, (refl, (refl, (refl, (refl, (refl, (refl, (refl, (refl, (refl, (refl, (refl, (refl, (refl, (refl, (refl, (refl, (refl, (refl, (refl, (refl, (refl, (refl, (refl, (refl, (refl, (refl, (refl, (refl, (refl, (refl, (refl, (refl, (refl, (refl, (refl, (refl, (refl, tt))))))))))))))))))))))))))))))))))))))))))))))))))))))))))))))))))))))))))
 
 -- ---- 361 rows, 721 columns, 64 layers, 2,000,000 nodes, and one more of each
-abbrev nodes-of : ℕ → Axis
-nodes-of k = record { first = pos 0; last = pos (10 * (k - 1)); step = pos 10 }
-
 -- n maps of L layers, R rows and C columns
 pub record GridSize : Type 0 where
   pub n : ℕ

@@ -1,7 +1,7 @@
 -- Refusals, in 01's words: a refusal is decided by the lines up to its own, and the lines before it were without fault.
 use mathlib.Core.Path.{_≡_, refl, sym, ap, _∙_}
 use mathlib.Core.Logic.{_⊎_, inl, inr, ⊎-elim}
-use Prim.Native.Nat.{ℕ, zero, suc, _+_, _≤_, _<_}
+use Prim.Native.Nat.{ℕ, zero, suc, _+_, _*_, _-_, _≤_, _<_}
 use native.Mathlib.Omega.{arith}
 use native.Mathlib.Decide.{ℕ-discrete, decLe}
 use mathlib.Core.List.{List, [], _∷_}
@@ -16,9 +16,9 @@ use Rattle.mapset.specs.declared.Header.{Header}
 use Rattle.layout.specs.Text.{Clean, pad}
 use Rattle.layout.specs.Layout.{Force, Slots, Lines, Mode}
 use Rattle.reading.specs.Feed.{Fault, Why, why, on-line, over, bad, row, bad-column, feed}
-use Rattle.reading.specs.Maps.{short}
+use Rattle.reading.specs.Maps.{short, on-row}
 use Rattle.reading.specs.Head.{Turn, more, done}
-use Rattle.reading.proofs.LineLaws.{feed-blank, feed-row}
+use Rattle.reading.proofs.LineLaws.{feed-blank, feed-row, padded}
 use Rattle.reading.proofs.Blame.{Blames, blamed, amap-blames, cells-blame, step-blames, head-step-blames, version-blames}
 use Rattle.reading.specs.Refusals.{Later, four, five, six, six-value, seven, eight, nine, First, three, six-first, Placed, Cause, too-long, bad-byte, by-row}
 use Rattle.reading.proofs.Machine.{State, first, header, maps, Out, turn, from, Move, on-row-of, from-bad, Over, from-over, from-row, amap-id}
@@ -49,18 +49,20 @@ NumberIn first f = First f
 NumberIn (header c a e got ds) f = Later f
 NumberIn (maps h q p c) f = Later f
 
-row-blames : (s : State) (r : List ℕ) → Blames (NumberIn s) (on-row-of s r)
+row-blames : (s : State) (r : List ℕ) → length r ≡ 80 → Blames (NumberIn s) (on-row-of s r)
 unfolding on-row-of
-row-blames first r = amap-blames _ (version-blames r)
-row-blames (header c a e got ds) r = amap-blames _ (head-step-blames c e got ds r a)
-row-blames (maps h q p zero) r = amap-blames _ (step-blames h p r q)
-row-blames (maps h q p (suc c)) r = amap-blames _ (cells-blame 1 _ r (omega arith))
+row-blames first r n = amap-blames _ (version-blames r)
+row-blames (header c a e got ds) r n = amap-blames _ (head-step-blames c e got ds r a)
+row-blames (maps h q p zero) r n = amap-blames _ (step-blames h p r q)
+row-blames (maps h q p (suc c)) r n =
+    let m = on-row (suc c) in
+    amap-blames _ (cells-blame 1 m (80 - 5 * m) r (omega arith) (λ x k. six-value m (omega arith, omega arith) k))
 
 later-range : {f : Fault} → Later f → Within 4 9 (f .number)
 later-range four = (omega arith, omega arith)
 later-range five = (omega arith, omega arith)
 later-range (six l h) = (omega arith, omega arith)
-later-range (six-value h) = (omega arith, omega arith)
+later-range (six-value m k h) = (omega arith, omega arith)
 later-range (seven t) = (omega arith, omega arith)
 later-range (eight t) = (omega arith, omega arith)
 later-range nine = (omega arith, omega arith)
@@ -247,7 +249,7 @@ refusal (l ∷ ls) s n w e = by (sort n l) (on-row-of s (pad l)) refl (λ s′. 
     by (dirty a b f) x q ih = inl (bad-line s n l ls _ w refl (bad-byte a b refl refl) (λ z. absurd (omega arith)) (λ ls. ap (from s) (f ls) ∙ from-bad s _) e)
     by (blank a b f) x q ih = on s s (λ a. a) n l ls w (λ ls. ap (from s) (f ls) ∙ sym (amap-id (from s (feed (suc n) ls)))) (λ o. o) (λ z. (z, b)) (ih s) e
     by (shown a b f) (refused t) q ih =
-        let y : NumberIn s t = blamed (rw q at (row-blames s (pad l))) in
+        let y : NumberIn s t = blamed (rw q at (row-blames s (pad l) (padded l (a .0)))) in
         inl (bad-line s n l ls _ w refl (by-row a b (three-to-nine s t y) (placed s t y)) (three-first s t y) (shown-row s n l (refused t) q f) e)
     by (shown a b f) (ok m) q ih = on s (m .to) (m .back) n l ls w (shown-row s n l (ok m) q f) (λ o. not-both (sym q ∙ o .stops (pad l) .1)) (λ z. absurd (yields _ (moves-on s (pad l)) q z)) (ih (m .to)) e
 
@@ -298,7 +300,7 @@ reaches (suc k) (l ∷ ls) s n w h f g = by (sort n l) (on-row-of s (pad l)) ref
         let e′ : (ls : List (List ℕ)) → from s (feed n (l ∷ ls)) ≡ amap (λ a. a) (from s (feed (suc n) ls)) = λ ls. ap (from s) (e ls) ∙ sym (amap-id (from s (feed (suc n) ls))) in
         ap (from s) (e ls) ∙ ih s (then-fine s s (λ a. a) n l (take k ls) e′ f)
     by (shown a b e) (refused t) q ih =
-        let y = three-to-nine s t (blamed (rw q at (row-blames s (pad l)))) in
+        let y = three-to-nine s t (blamed (rw q at (row-blames s (pad l) (padded l (a .0))))) in
         not-fine s n (l ∷ take k ls) (shown-row s n l (refused t) q e (take k ls)) (λ z. omega arith) f
     by (shown a b e) (ok m) q ih =
         let e′ = shown-row s n l (ok m) q e in

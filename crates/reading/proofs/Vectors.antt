@@ -1,13 +1,12 @@
 -- Texts that tell: an order of refusals that no rule of the layout shows, two small texts that are accepted, and numbers without a digit before the point.
 use mathlib.Core.Path.{_≡_, refl}
 use mathlib.Core.List.{List, [], _∷_, _++_}
-use mathlib.Core.Bool.{true, false}
-use Prim.Native.Nat.{ℕ}
+use Prim.Native.Nat.{ℕ, _-_}
 use lib.IntN.{ℤ, pos, negsuc}
 use lib.ListN.{take, drop, replicate}
 use Prim.Native.String.{String}
 use native.Mathlib.Decide.{ℕ-discrete, decLe, decLt}
-use Rattle.kit.specs.Answer.{ok, refused, need, bind, amap, get, pick, ×-dec, ⊎-dec, ¬-dec, all-dec, same, sames}
+use Rattle.kit.specs.Answer.{Answer, ok, refused, need, bind, amap, get, pick, ×-dec, ⊎-dec, ¬-dec, all-dec, same, sames}
 use Rattle.kit.specs.Integer.{int?, le?, lt?, between?}
 use Rattle.kit.specs.Range.{within?, natural?}
 use Rattle.days.specs.Years.{isLeap, monthDays, yearDays}
@@ -15,66 +14,53 @@ use Rattle.calendar.specs.Calendar.{dated, second}
 use Rattle.days.specs.Sums.{sum}
 use Rattle.forms.specs.Read.{readField, numberOf, formed?}
 use Rattle.mapset.specs.Decisions.{×₃-dec, ×₄-dec, end?, step?, multiple?, together?, limits?, dimension?, follows?}
-use Rattle.mapset.specs.declared.System.{System}
+use Rattle.mapset.specs.Described.{full}
 use Rattle.mapset.specs.Lines.{end-to-end, described, no-lines}
 use Rattle.mapset.specs.MapSet.{Block, MapSet}
+use Rattle.mapset.specs.Said.{axis-of}
+use Rattle.mapset.specs.Samples.{given-count, shell-header, plain-header, row-of-three}
 use Rattle.layout.specs.Text.{pad}
 use Rattle.layout.specs.Labels.{version, bytes, name}
 use Rattle.layout.specs.Layout.{Makes, exponent?}
-use Rattle.reading.specs.Feed.{fault, why, on-line, front, opens?, split, feed}
-use Rattle.reading.specs.Fields.{lookup, label, number, blank, scan, fields, cells}
+use Rattle.layout.specs.Samples.{lines, mix-line, head-lines, one-map-lines, head-texts, pair-axes, pair-map}
+use Rattle.reading.specs.Feed.{Why, fault, why, on-line, front, opens?, split, feed, bad-column}
+use Rattle.reading.specs.Fields.{lookup, label, number, blanks, blank, scan, fields, cells}
 use Rattle.reading.specs.Maps.{on-date, kind?, true?, after?, implies?, in-time?, height?, loose, on-comment, on-exponent, start-tec, start-other, start-map, on-start, end-map, on-end as on-map-end, epoch-tec, epoch-other, on-epoch, open-block, on-block, on-file, taken, step, finish, run, short}
-use Rattle.reading.specs.Head.{meant, place, none?, complete?, made, made-texts, once, on-description, on-end, at-head, head-step, heading}
+use Rattle.reading.specs.Head.{meant, place, none?, complete?, made, made-texts, once, on-description, on-system, on-end, at-head, head-step, heading}
 use Rattle.reading.specs.Read.{versioned, version-of, begin, read}
 use Rattle.reading.proofs.Exact.{made-read}
 
-abbrev pub lines : List String → List ℕ
-lines [] = []
-lines (s ∷ ss) = bytes s ++ (10 ∷ lines ss)
+-- what a text reads as. To unfold this is to unfold each step of `read`
+unfoldable pub whole-reading : List ℕ → Answer Why MapSet
+unfolding read begin feed split front opens? bad-column pad pick ×-dec ⊎-dec ¬-dec all-dec same sames need bind amap get ℕ-discrete decLe decLt int? le? lt? between? within? natural? dated second isLeap monthDays yearDays sum readField numberOf formed? ×₃-dec ×₄-dec end? step? multiple? together? limits? dimension? follows? name on-line lookup label number blanks blank scan fields cells on-date exponent? kind? true? after? implies? in-time? height? loose on-comment on-exponent start-tec start-other start-map on-start end-map on-map-end epoch-tec epoch-other on-epoch open-block on-block on-file taken step finish run short meant place none? complete? made made-texts described end-to-end no-lines once on-description on-system on-end at-head head-step heading versioned version-of
+whole-reading = read
 
-abbrev no-system : System
-no-system = record { stands = false; stations = 0; satellites = 0 }
+-- a text with another line n; with one more line in front of line n
+abbrev pub put : ℕ → String → List String → List String
+put n s ls = take (n - 1) ls ++ (s ∷ drop n ls)
+
+abbrev pub add : ℕ → String → List String → List String
+add n s ls = take (n - 1) ls ++ (s ∷ drop (n - 1) ls)
 
 -- dimension 3 with DHGT 0 (8) and 451 rows (7): 8 comes first
 pub two-faults : List String
 two-faults =
-    "     1.1            IONOSPHERE MAPS     MIX                 IONEX VERSION / TYPE"
-    ∷ "maker               agency              15-nov-26 06:00     PGM / RUN BY / DATE"
-    ∷ "  1995    10    15     0     0     0                        EPOCH OF FIRST MAP"
-    ∷ "  1995    10    15     0     0     0                        EPOCH OF LAST MAP"
-    ∷ "     0                                                      INTERVAL"
-    ∷ "     1                                                      # OF MAPS IN FILE"
-    ∷ "  COSZ                                                      MAPPING FUNCTION"
-    ∷ "     0.0                                                    ELEVATION CUTOFF"
-    ∷ "double-difference carrier phase                             OBSERVABLES USED"
-    ∷ "  6371.0                                                    BASE RADIUS"
-    ∷ "     3                                                      MAP DIMENSION"
-    ∷ "   450.0 450.0   0.0                                        HGT1 / HGT2 / DHGT"
-    ∷ "    90.0 -90.0  -0.4                                        LAT1 / LAT2 / DLAT"
+    put 11 "     3                                                      MAP DIMENSION"
+    (mix-line ∷ (one-map-lines
+    ++ ("    90.0 -90.0  -0.4                                        LAT1 / LAT2 / DLAT"
     ∷ "     0.0   0.0   5.0                                        LON1 / LON2 / DLON"
     ∷ "                                                            END OF HEADER"
-    ∷ []
+    ∷ [])))
 
 pub eight-before-seven : read (lines two-faults) ≡ refused (why 8 15 0)
-unfolding two-faults read begin feed split front opens? pad pick ×-dec ⊎-dec ¬-dec all-dec same sames need bind amap get ℕ-discrete decLe decLt int? le? lt? between? within? natural? dated second isLeap monthDays yearDays sum readField numberOf formed? ×₃-dec ×₄-dec end? step? multiple? together? limits? dimension? name on-line lookup label number blank scan fields on-date short meant place none? complete? made once on-description on-end at-head head-step heading versioned version-of
+unfolding two-faults whole-reading
 eight-before-seven = refl
 
--- a small text: one TEC map and its RMS map, of two rows and three columns
+-- a small text: one TEC map and its RMS map, of two rows and three columns; LAT1 / LAT2 / DLAT is line 13
 unfoldable pub small-text : List String
 small-text =
-    "     1.1            IONOSPHERE MAPS     MIX                 IONEX VERSION / TYPE"
-    ∷ "maker               agency              15-nov-26 06:00     PGM / RUN BY / DATE"
-    ∷ "  1995    10    15     0     0     0                        EPOCH OF FIRST MAP"
-    ∷ "  1995    10    15     0     0     0                        EPOCH OF LAST MAP"
-    ∷ "     0                                                      INTERVAL"
-    ∷ "     1                                                      # OF MAPS IN FILE"
-    ∷ "  COSZ                                                      MAPPING FUNCTION"
-    ∷ "     0.0                                                    ELEVATION CUTOFF"
-    ∷ "carrier phase                                               OBSERVABLES USED"
-    ∷ "  6371.0                                                    BASE RADIUS"
-    ∷ "     2                                                      MAP DIMENSION"
-    ∷ "   450.0 450.0   0.0                                        HGT1 / HGT2 / DHGT"
-    ∷ "     5.0   0.0  -5.0                                        LAT1 / LAT2 / DLAT"
+    mix-line ∷ (one-map-lines
+    ++ ("     5.0   0.0  -5.0                                        LAT1 / LAT2 / DLAT"
     ∷ "     0.0  10.0   5.0                                        LON1 / LON2 / DLON"
     ∷ "    80                                                      # OF STATIONS"
     ∷ "                                                            END OF HEADER"
@@ -94,40 +80,19 @@ small-text =
     ∷ "    7    8    9"
     ∷ "     1                                                      END OF RMS MAP"
     ∷ "                                                            END OF FILE"
-    ∷ []
-
-abbrev row-of : ℤ → ℤ → ℤ → ℤ → Block
-row-of e a b c = record { exponent = e; values = a ∷ b ∷ c ∷ [] }
+    ∷ []))
 
 -- the map set that makes it, with n DESCRIPTION lines in these bytes: the second row and the RMS map stand under the exponent -2
 abbrev small-with : ℕ → List ℕ → MapSet
 small-with n bs =
     record {
-      header = record {
-        version = record { tenths = 11; kind = 73; code = 6 };
-        times = record { first = 3022704000; last = 3022704000; interval = 0; maps = 1 };
-        model = record { cutoff = 0; radius = 63710; dimension = 2 };
-        grid = record {
-          heights = record { first = pos 4500; last = pos 4500; step = pos 0 };
-          latitudes = record { first = pos 50; last = pos 0; step = negsuc 49 };
-          longitudes = record { first = pos 0; last = pos 100; step = pos 50 };
-        };
-        stations = record { stands = true; count = 80 };
-        satellites = record { stands = false; count = 0 };
-        systems = record { g = no-system; r = no-system; e = no-system; c = no-system; j = no-system; i = no-system; s = no-system };
-        descriptions = n;
-      };
-      texts = record {
-        program = bytes "maker               ";
-        agency = bytes "agency              ";
-        date = bytes "15-nov-26 06:00     ";
-        mapping = bytes "COSZ";
-        observables = bytes "carrier phase                                               ";
-        descriptions = bs;
-      };
+      header =
+          shell-header 63710 (record { first = 3022704000; last = 3022704000; interval = 0; maps = 1 })
+          (axis-of (pos 50) (pos 0) (negsuc 49)) (axis-of (pos 0) (pos 100) (pos 50)) (given-count 80) n;
+      texts = full head-texts bs;
       maps = record {
-        tec = record { epoch = 3022704000; blocks = row-of (negsuc 0) (pos 100) (pos 9999) (negsuc 4) ∷ row-of (negsuc 1) (pos 1) (pos 2) (pos 3) ∷ [] } ∷ [];
-        rms = record { of = 1; blocks = row-of (negsuc 1) (pos 4) (pos 5) (pos 6) ∷ row-of (negsuc 1) (pos 7) (pos 8) (pos 9) ∷ [] } ∷ [];
+        tec = record { epoch = 3022704000; blocks = row-of-three (negsuc 0) (pos 100) (pos 9999) (negsuc 4) ∷ row-of-three (negsuc 1) (pos 1) (pos 2) (pos 3) ∷ [] } ∷ [];
+        rms = record { of = 1; blocks = row-of-three (negsuc 1) (pos 4) (pos 5) (pos 6) ∷ row-of-three (negsuc 1) (pos 7) (pos 8) (pos 9) ∷ [] } ∷ [];
         height = [];
       };
     }
@@ -136,7 +101,7 @@ unfoldable pub small-set : MapSet
 small-set = small-with 0 no-lines
 
 pub small-read : read (lines small-text) ≡ ok small-set
-unfolding small-text small-set read begin feed split front opens? pad pick ×-dec ⊎-dec ¬-dec all-dec same sames need bind amap get ℕ-discrete decLe decLt int? le? lt? between? within? natural? dated second isLeap monthDays yearDays sum readField numberOf formed? ×₃-dec ×₄-dec end? step? multiple? together? limits? dimension? follows? name on-line lookup label number blank scan fields cells on-date exponent? kind? true? after? implies? in-time? height? loose on-comment on-exponent start-tec start-other start-map on-start end-map on-map-end epoch-tec epoch-other on-epoch open-block on-block on-file taken step finish run short meant place none? complete? made made-texts described end-to-end no-lines once on-description on-end at-head head-step heading versioned version-of
+unfolding small-text small-set whole-reading
 small-read = refl
 
 pub small-made : Makes small-set (lines small-text)
@@ -145,34 +110,25 @@ small-made = made-read (lines small-text) small-read
 -- the small text with two DESCRIPTION lines, one of them blank, and other records between
 unfoldable pub described-text : List String
 described-text =
-    take 2 small-text
-    ++ ("global model of degree 15, one shell                        DESCRIPTION" ∷ take 7 (drop 2 small-text)
-    ++ ("                                                            DESCRIPTION" ∷ drop 9 small-text))
+    add 11 "                                                            DESCRIPTION"
+    (add 3 "global model of degree 15, one shell                        DESCRIPTION" small-text)
 
 -- both are kept, in the text's order, each of 60 columns, and then blanks up to 1,200
 pub described-read : read (lines described-text)
     ≡ ok (small-with 2 (bytes "global model of degree 15, one shell                        " ++ (bytes "                                                            " ++ replicate 1080 32)))
-unfolding small-text described-text read begin feed split front opens? pad pick ×-dec ⊎-dec ¬-dec all-dec same sames need bind amap get ℕ-discrete decLe decLt int? le? lt? between? within? natural? dated second isLeap monthDays yearDays sum readField numberOf formed? ×₃-dec ×₄-dec end? step? multiple? together? limits? dimension? follows? name on-line lookup label number blank scan fields cells on-date exponent? kind? true? after? implies? in-time? height? loose on-comment on-exponent start-tec start-other start-map on-start end-map on-map-end epoch-tec epoch-other on-epoch open-block on-block on-file taken step finish run short meant place none? complete? made made-texts described end-to-end no-lines once on-description on-end at-head head-step heading versioned version-of
+unfolding small-text described-text whole-reading
 described-read = refl
 
 -- a text with two TEC maps of one row and two columns
 unfoldable pub two-text : List String
 two-text =
-    "     1.1            IONOSPHERE MAPS     MIX                 IONEX VERSION / TYPE"
-    ∷ "maker               agency              15-nov-26 06:00     PGM / RUN BY / DATE"
-    ∷ "  1995    10    15     0     0     0                        EPOCH OF FIRST MAP"
-    ∷ "  1995    10    15     1     0     0                        EPOCH OF LAST MAP"
-    ∷ "  3600                                                      INTERVAL"
-    ∷ "     2                                                      # OF MAPS IN FILE"
-    ∷ "  COSZ                                                      MAPPING FUNCTION"
-    ∷ "     0.0                                                    ELEVATION CUTOFF"
-    ∷ "carrier phase                                               OBSERVABLES USED"
-    ∷ "  6371.0                                                    BASE RADIUS"
-    ∷ "     2                                                      MAP DIMENSION"
-    ∷ "   450.0 450.0   0.0                                        HGT1 / HGT2 / DHGT"
-    ∷ "     5.0   5.0   5.0                                        LAT1 / LAT2 / DLAT"
-    ∷ "     0.0   5.0   5.0                                        LON1 / LON2 / DLON"
-    ∷ "                                                            END OF HEADER"
+    mix-line
+    ∷ (head-lines
+    "  1995    10    15     1     0     0                        EPOCH OF LAST MAP"
+    "  3600                                                      INTERVAL"
+    "     2                                                      # OF MAPS IN FILE"
+    ++ (pair-axes
+    ++ ("                                                            END OF HEADER"
     ∷ "     1                                                      START OF TEC MAP"
     ∷ "  1995    10    15     0     0     0                        EPOCH OF CURRENT MAP"
     ∷ "     5.0   0.0   5.0   5.0 450.0                            LAT/LON1/LON2/DLON/H"
@@ -184,7 +140,7 @@ two-text =
     ∷ "   21   22"
     ∷ "     2                                                      END OF TEC MAP"
     ∷ "                                                            END OF FILE"
-    ∷ []
+    ∷ [])))
 
 abbrev pair-of : ℤ → ℤ → Block
 pair-of a b = record { exponent = negsuc 0; values = a ∷ b ∷ [] }
@@ -192,28 +148,10 @@ pair-of a b = record { exponent = negsuc 0; values = a ∷ b ∷ [] }
 unfoldable pub two-set : MapSet
 two-set =
     record {
-      header = record {
-        version = record { tenths = 11; kind = 73; code = 6 };
-        times = record { first = 3022704000; last = 3022707600; interval = 3600; maps = 2 };
-        model = record { cutoff = 0; radius = 63710; dimension = 2 };
-        grid = record {
-          heights = record { first = pos 4500; last = pos 4500; step = pos 0 };
-          latitudes = record { first = pos 50; last = pos 50; step = pos 50 };
-          longitudes = record { first = pos 0; last = pos 50; step = pos 50 };
-        };
-        stations = record { stands = false; count = 0 };
-        satellites = record { stands = false; count = 0 };
-        systems = record { g = no-system; r = no-system; e = no-system; c = no-system; j = no-system; i = no-system; s = no-system };
-        descriptions = 0;
-      };
-      texts = record {
-        program = bytes "maker               ";
-        agency = bytes "agency              ";
-        date = bytes "15-nov-26 06:00     ";
-        mapping = bytes "COSZ";
-        observables = bytes "carrier phase                                               ";
-        descriptions = no-lines;
-      };
+      header =
+          plain-header (record { first = 3022704000; last = 3022707600; interval = 3600; maps = 2 })
+          (axis-of (pos 50) (pos 50) (pos 50)) (axis-of (pos 0) (pos 50) (pos 50));
+      texts = full head-texts no-lines;
       maps = record {
         tec = record { epoch = 3022704000; blocks = pair-of (pos 11) (pos 12) ∷ [] } ∷ record { epoch = 3022707600; blocks = pair-of (pos 21) (pos 22) ∷ [] } ∷ [];
         rms = [];
@@ -222,34 +160,12 @@ two-set =
     }
 
 pub two-read : read (lines two-text) ≡ ok two-set
-unfolding two-text two-set read begin feed split front opens? pad pick ×-dec ⊎-dec ¬-dec all-dec same sames need bind amap get ℕ-discrete decLe decLt int? le? lt? between? within? natural? dated second isLeap monthDays yearDays sum readField numberOf formed? ×₃-dec ×₄-dec end? step? multiple? together? limits? dimension? follows? name on-line lookup label number blank scan fields cells on-date exponent? kind? true? after? implies? in-time? height? loose on-comment on-exponent start-tec start-other start-map on-start end-map on-map-end epoch-tec epoch-other on-epoch open-block on-block on-file taken step finish run short meant place none? complete? made made-texts described end-to-end no-lines once on-description on-end at-head head-step heading versioned version-of
+unfolding two-text two-set whole-reading
 two-read = refl
 
 -- a text with half a degree in its axes and in its block's opening, as these lines spell it
 pub half-text : String → String → String → List String
-half-text lat lon opening =
-    "     1.1            IONOSPHERE MAPS     MIX                 IONEX VERSION / TYPE"
-    ∷ "maker               agency              15-nov-26 06:00     PGM / RUN BY / DATE"
-    ∷ "  1995    10    15     0     0     0                        EPOCH OF FIRST MAP"
-    ∷ "  1995    10    15     0     0     0                        EPOCH OF LAST MAP"
-    ∷ "     0                                                      INTERVAL"
-    ∷ "     1                                                      # OF MAPS IN FILE"
-    ∷ "  COSZ                                                      MAPPING FUNCTION"
-    ∷ "     0.0                                                    ELEVATION CUTOFF"
-    ∷ "carrier phase                                               OBSERVABLES USED"
-    ∷ "  6371.0                                                    BASE RADIUS"
-    ∷ "     2                                                      MAP DIMENSION"
-    ∷ "   450.0 450.0   0.0                                        HGT1 / HGT2 / DHGT"
-    ∷ lat
-    ∷ lon
-    ∷ "                                                            END OF HEADER"
-    ∷ "     1                                                      START OF TEC MAP"
-    ∷ "  1995    10    15     0     0     0                        EPOCH OF CURRENT MAP"
-    ∷ opening
-    ∷ "   11   12"
-    ∷ "     1                                                      END OF TEC MAP"
-    ∷ "                                                            END OF FILE"
-    ∷ []
+half-text lat lon opening = mix-line ∷ (one-map-lines ++ (lat ∷ lon ∷ pair-map opening []))
 
 pub bare-text : List String
 bare-text =
@@ -267,12 +183,12 @@ full-text =
 
 -- `.5` is accepted, and means what `0.5` means
 pub bare-read : (s : MapSet) × (read (lines bare-text) ≡ ok s) × (read (lines full-text) ≡ ok s)
-unfolding half-text bare-text full-text read begin feed split front opens? pad pick ×-dec ⊎-dec ¬-dec all-dec same sames need bind amap get ℕ-discrete decLe decLt int? le? lt? between? within? natural? dated second isLeap monthDays yearDays sum readField numberOf formed? ×₃-dec ×₄-dec end? step? multiple? together? limits? dimension? follows? name on-line lookup label number blank scan fields cells on-date exponent? kind? true? after? implies? in-time? height? loose on-comment on-exponent start-tec start-other start-map on-start end-map on-map-end epoch-tec epoch-other on-epoch open-block on-block on-file taken step finish run short meant place none? complete? made made-texts described end-to-end no-lines once on-description on-end at-head head-step heading versioned version-of
+unfolding half-text bare-text full-text whole-reading
 bare-read = (_, refl, refl)
 
 -- the digit after the point is not left out: 6 at the field's first column
 pub no-digit : read (lines (half-text "      .5    .5    .5                                        LAT1 / LAT2 / DLAT" "      -.    .0    .5                                        LON1 / LON2 / DLON" "")) ≡ refused (why 6 14 3)
-unfolding half-text read begin feed split front opens? pad pick ×-dec ⊎-dec ¬-dec all-dec same sames need bind amap get ℕ-discrete decLe decLt int? le? lt? between? within? natural? dated second isLeap monthDays yearDays sum readField numberOf formed? ×₃-dec ×₄-dec end? step? multiple? together? limits? dimension? follows? name on-line lookup label number blank scan fields cells on-date exponent? kind? true? after? implies? in-time? height? loose on-comment on-exponent start-tec start-other start-map on-start end-map on-map-end epoch-tec epoch-other on-epoch open-block on-block on-file taken step finish run short meant place none? complete? made made-texts described end-to-end no-lines once on-description on-end at-head head-step heading versioned version-of
+unfolding half-text whole-reading
 no-digit = refl
 
 -- ---- versions: GPS and GLO stand under 1.0 and not under 1.1; the version is told before the type, the type before the code
@@ -286,5 +202,5 @@ pub versions-read : (version-of (version-row "     1.0            IONOSPHERE MAP
     × (version-of (version-row "     1.1            IONOSPHERE MAPS     GPS                 ") ≡ refused (fault 3 41))
     × (version-of (version-row "     1.2            GEODESY             GPS                 ") ≡ refused (fault 3 1))
     × (version-of (version-row "     1.1            GEODESY             GPS                 ") ≡ refused (fault 3 21))
-unfolding pick ×-dec ⊎-dec all-dec same sames need bind amap get ℕ-discrete decLe decLt within? natural? readField numberOf formed? name number blank scan fields place versioned version-of
+unfolding whole-reading
 versions-read = (refl, refl, refl, refl, refl, refl)

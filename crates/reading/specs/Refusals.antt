@@ -1,9 +1,9 @@
 -- Refusals, in 01's words; no state of a reader stands here. The lines of a text t are `split t` (`LineLaws.ended`: with their ends they are t).
 use mathlib.Core.Path.{_≡_}
 use mathlib.Core.Logic.{_⊎_}
-use Prim.Native.Nat.{ℕ, suc, _+_, _≤_, _<_}
+use Prim.Native.Nat.{ℕ, suc, _+_, _*_, _-_, _≤_, _<_}
 use mathlib.Core.List.{List, [], _∷_, _++_}
-use lib.ListN.{length, take, getD}
+use lib.ListN.{length, take, replicate, getD}
 use Rattle.kit.specs.Answer.{Answer, ok, refused, All}
 use Rattle.kit.specs.Range.{Within, Printable}
 use Rattle.forms.specs.Columns.{Blank}
@@ -32,12 +32,16 @@ Checks a (X w ∷ is) c = ((a ≤ c) × (c < a + w)) ⊎ Checks (a + w) is c
 Checks a (A w ∷ is) c = Checks (a + w) is c
 Checks a (U w ∷ is) c = Checks (a + w) is c
 
--- after the version record: 4 and 5 at the label; 6 in the layout of a record, or on a line of values; 7 and 8 at the first column of a field, or at 0; 9 at 0
+-- a row of m values: fields of five columns, then blank columns up to 80
+abbrev pub value-items : ℕ → List Item
+value-items m = replicate m (I 5) ++ (X (80 - 5 * m) ∷ [])
+
+-- after the version record: 4 and 5 at the label; 6 in the layout of a record, or in a row of 1 to 16 values; 7 and 8 at the first column of a field, or at 0; 9 at 0
 pub data Later : Fault → Type 0 where
   four : Later (fault 4 61)
   five : Later (fault 5 61)
   six : {c : ℕ} (l : Label) → Checks 1 (layout l) c → Later (fault 6 c)
-  six-value : {c : ℕ} → 1 ≤ c → Later (fault 6 c)
+  six-value : {c : ℕ} (m : ℕ) → Within 1 16 m → Checks 1 (value-items m) c → Later (fault 6 c)
   seven : {c : ℕ} → T (among c (0 ∷ 1 ∷ 3 ∷ 6 ∷ 7 ∷ 9 ∷ 13 ∷ 15 ∷ 19 ∷ 25 ∷ 31 ∷ [])) → Later (fault 7 c)
   eight : {c : ℕ} → T (among c (0 ∷ 1 ∷ 3 ∷ 9 ∷ 15 ∷ 21 ∷ 27 ∷ [])) → Later (fault 8 c)
   nine : Later (fault 9 0)

@@ -4,36 +4,27 @@ use mathlib.Core.Logic.{inl, inr}
 use mathlib.Core.List.{List, [], _∷_, map}
 use Prim.Native.Nat.{ℕ, zero, suc}
 use native.Mathlib.Omega.{arith}
-use native.Mathlib.Decide.{ℕ-discrete, decLe, decLt}
+use native.Mathlib.Decide.{ℕ-discrete, decLe}
 use lib.IntN.{ℤ, pos, negsuc}
 use lib.ListN.{drop, getD}
-use Rattle.kit.specs.Answer.{Answer, ok, refused, need, bind, amap, get, pick, ×-dec, ⊎-dec, ¬-dec, all-dec, same, sames}
-use Rattle.kit.specs.Integer.{int?, le?, lt?, between?}
-use Rattle.kit.specs.Range.{within?, natural?}
+use Rattle.kit.specs.Answer.{Answer, ok, refused, pick, ×-dec, ⊎-dec}
+use Rattle.kit.specs.Range.{within?}
 use Rattle.kit.specs.Truth.{truth}
 use Rattle.kit.proofs.TruthLaws.{truth-true}
-use Rattle.days.specs.Years.{isLeap, monthDays, yearDays}
-use Rattle.days.specs.Sums.{sum}
-use Rattle.calendar.specs.Calendar.{dated, second}
-use Rattle.forms.specs.Read.{readField, numberOf, formed?}
 use Rattle.mapset.specs.MapSet.{MapSet}
-use Rattle.mapset.specs.Decisions.{×₃-dec, ×₄-dec, end?, step?, multiple?, together?, limits?, dimension?, follows?}
 use Rattle.layout.specs.Text.{pad}
 use Rattle.layout.specs.Labels.{aux-start, aux-end, name}
-use Rattle.reading.specs.Feed.{Why, on-line, front, opens?, split, feed}
-use Rattle.reading.specs.Fields.{lookup, label, number, blank, blanks, scan, fields, cells}
-use Rattle.reading.specs.Maps.{on-date, kind?, true?, after?, implies?, in-time?, height?, loose, on-comment, on-exponent, start-tec, start-other, start-map, on-start, end-map, on-end as on-map-end, epoch-tec, epoch-other, on-epoch, open-block, on-block, on-file, taken, step, finish, run, short}
-use Rattle.layout.specs.Layout.{exponent?}
-use Rattle.reading.specs.Head.{meant, place, none?, complete?, made, made-texts, once, on-end, at-head, head-step, heading}
-use Rattle.reading.specs.Read.{versioned, version-of, begin, read}
-use Rattle.reading.proofs.Vectors.{lines}
+use Rattle.reading.specs.Feed.{Why, front, opens?, split}
+use Rattle.reading.specs.Read.{read}
+use Rattle.reading.proofs.Vectors.{whole-reading}
+use Rattle.layout.specs.Samples.{lines}
 use Rattle.areas.specs.Scan.{or-else, second-of, brought, body, events}
 use Rattle.read_lines.specs.Cuts.{cuts}
 use Rattle.index.specs.Found.{clean?, blank?}
 use Rattle.index.specs.Made.{placed, placed-from, opened, maps-of, positions-of}
 use Rattle.biases.specs.Biases.{Biases}
-use Rattle.biases.specs.Rules.{title, of-satellite, of-station}
-use Rattle.biases.specs.Read.{role, system-of, satellite-meant, station-meant, satellite-of, station-of, same-satellite?, same-station?, new, new-satellite, new-station, on-role, gather, biases}
+use Rattle.biases.specs.Read.{biases}
+use Rattle.biases.proofs.Vectors.{whole-biases}
 use Rattle.remarks.specs.Remarks.{Bears, inside, Reworded, Remarked}
 use Rattle.remarks.proofs.Likes.{Like, like-length}
 use Rattle.remarks.proofs.Nothing.{nothing-from-remarks}
@@ -50,7 +41,7 @@ abbrev one-told : ℤ → Biases
 one-told z = record { satellites = record { system = 71; number = 1; bias = z; rms = pos 20 } ∷ []; stations = [] }
 
 pub biases-told : (biases below ≡ ok (one-told (negsuc 1233))) × (biases above ≡ ok (one-told (pos 1234)))
-unfolding below above rest read begin feed split front opens? pad pick ×-dec ⊎-dec ¬-dec all-dec same sames need bind amap get ℕ-discrete decLe decLt int? le? lt? between? within? natural? dated second isLeap monthDays yearDays sum readField numberOf formed? ×₃-dec ×₄-dec end? step? multiple? together? limits? dimension? follows? name on-line lookup label number blank blanks scan fields cells on-date exponent? kind? true? after? implies? in-time? height? loose on-comment on-exponent start-tec start-other start-map on-start end-map on-map-end epoch-tec epoch-other on-epoch open-block on-block on-file taken step finish run short meant place none? complete? made made-texts once on-end at-head head-step heading versioned version-of title of-satellite of-station role system-of satellite-of satellite-meant station-of station-meant same-satellite? same-station? new new-satellite new-station on-role gather biases
+unfolding below above rest whole-biases
 biases-told = (refl, refl)
 
 -- ---- they differ only in a remark
@@ -99,5 +90,5 @@ pub moved :
     × (read longer ≡ ok m)
     × (positions-of (m .header) (placed-from one 0) ≡ 1560 ∷ 0 ∷ 0 ∷ [])
     × (positions-of (m .header) (placed-from longer 0) ≡ 1561 ∷ 0 ∷ 0 ∷ [])
-unfolding one longer rest read begin feed split front opens? pad pick ×-dec ⊎-dec ¬-dec all-dec same sames need bind amap get ℕ-discrete decLe decLt int? le? lt? between? within? natural? dated second isLeap monthDays yearDays sum readField numberOf formed? ×₃-dec ×₄-dec end? step? multiple? together? limits? dimension? follows? name on-line lookup label number blank blanks scan fields cells on-date exponent? kind? true? after? implies? in-time? height? loose on-comment on-exponent start-tec start-other start-map on-start end-map on-map-end epoch-tec epoch-other on-epoch open-block on-block on-file taken step finish run short meant place none? complete? made made-texts once on-end at-head head-step heading versioned version-of cuts clean? blank? placed opened maps-of positions-of or-else second-of brought body events
+unfolding one longer rest cuts clean? blank? placed opened maps-of positions-of or-else second-of brought body events whole-reading
 moved = (_, refl, refl, refl, refl)

@@ -5,28 +5,19 @@ use mathlib.Core.List.{List, [], _∷_, _++_}
 use Prim.Native.Nat.{ℕ, zero, suc}
 use Prim.Native.String.{String}
 use native.Mathlib.Omega.{arith}
-use native.Mathlib.Decide.{ℕ-discrete, decLe, decLt}
+use native.Mathlib.Decide.{ℕ-discrete, decLe}
 use lib.ListN.{drop, getD}
-use Rattle.kit.specs.Answer.{ok, refused, need, bind, amap, get, pick, ×-dec, ⊎-dec, ¬-dec, all-dec, same, sames}
-use Rattle.kit.specs.Integer.{int?, le?, lt?, between?}
-use Rattle.kit.specs.Range.{within?, natural?}
+use Rattle.kit.specs.Answer.{ok, refused, pick, ×-dec, ⊎-dec}
+use Rattle.kit.specs.Range.{within?}
 use Rattle.kit.specs.Truth.{truth}
 use Rattle.kit.proofs.TruthLaws.{truth-true}
-use Rattle.days.specs.Years.{isLeap, monthDays, yearDays}
-use Rattle.days.specs.Sums.{sum}
-use Rattle.calendar.specs.Calendar.{dated, second}
-use Rattle.forms.specs.Read.{readField, numberOf, formed?}
-use Rattle.mapset.specs.Decisions.{×₃-dec, ×₄-dec, end?, step?, multiple?, together?, limits?, dimension?, follows?}
 use Rattle.mapset.specs.MapSet.{MapSet}
 use Rattle.layout.specs.Text.{pad}
 use Rattle.layout.specs.Labels.{comment, aux-start, aux-end, name}
-use Rattle.reading.specs.Feed.{why, on-line, front, opens?, split, feed}
-use Rattle.reading.specs.Fields.{lookup, label, number, blank, blanks, scan, fields, cells}
-use Rattle.reading.specs.Maps.{on-date, kind?, true?, after?, implies?, in-time?, height?, loose, on-comment, on-exponent, start-tec, start-other, start-map, on-start, end-map, on-end as on-map-end, epoch-tec, epoch-other, on-epoch, open-block, on-block, on-file, taken, step, finish, run, short}
-use Rattle.layout.specs.Layout.{exponent?}
-use Rattle.reading.specs.Head.{meant, place, none?, complete?, made, made-texts, once, on-end, at-head, head-step, heading}
-use Rattle.reading.specs.Read.{versioned, version-of, begin, read}
-use Rattle.reading.proofs.Vectors.{lines}
+use Rattle.reading.specs.Feed.{why, front, opens?, split}
+use Rattle.reading.specs.Read.{read}
+use Rattle.reading.proofs.Vectors.{whole-reading}
+use Rattle.layout.specs.Samples.{lines, mix-line, one-map-lines, pair-axes, pair-map}
 use Rattle.remarks.specs.Remarks.{Bears, Remark, inside, Reworded, Close, Remarked}
 use Rattle.remarks.proofs.Likes.{Like, like-length}
 use Rattle.remarks.proofs.Nothing.{nothing-from-remarks}
@@ -50,32 +41,11 @@ like-at (b ∷ t) (b′ ∷ t′) h (suc i) = like-at t t′ (h .1) i
 -- ---- texts: a comment c, an aux block of one line x, and what may stand (d) before a block's values
 
 unfoldable pub rest : List String → List String
-rest d =
-    "maker               agency              15-nov-26 06:00     PGM / RUN BY / DATE"
-    ∷ "  1995    10    15     0     0     0                        EPOCH OF FIRST MAP"
-    ∷ "  1995    10    15     0     0     0                        EPOCH OF LAST MAP"
-    ∷ "     0                                                      INTERVAL"
-    ∷ "     1                                                      # OF MAPS IN FILE"
-    ∷ "  COSZ                                                      MAPPING FUNCTION"
-    ∷ "     0.0                                                    ELEVATION CUTOFF"
-    ∷ "carrier phase                                               OBSERVABLES USED"
-    ∷ "  6371.0                                                    BASE RADIUS"
-    ∷ "     2                                                      MAP DIMENSION"
-    ∷ "   450.0 450.0   0.0                                        HGT1 / HGT2 / DHGT"
-    ∷ "     5.0   5.0   5.0                                        LAT1 / LAT2 / DLAT"
-    ∷ "     0.0   5.0   5.0                                        LON1 / LON2 / DLON"
-    ∷ "                                                            END OF HEADER"
-    ∷ "     1                                                      START OF TEC MAP"
-    ∷ "  1995    10    15     0     0     0                        EPOCH OF CURRENT MAP"
-    ∷ "     5.0   0.0   5.0   5.0 450.0                            LAT/LON1/LON2/DLON/H"
-    ∷ (d ++ ("   11   12"
-    ∷ "     1                                                      END OF TEC MAP"
-    ∷ "                                                            END OF FILE"
-    ∷ []))
+rest d = one-map-lines ++ (pair-axes ++ pair-map "     5.0   0.0   5.0   5.0 450.0                            LAT/LON1/LON2/DLON/H" d)
 
 abbrev pub with-remarks : String → String → List String → List String
 with-remarks c x d =
-    "     1.1            IONOSPHERE MAPS     MIX                 IONEX VERSION / TYPE"
+    mix-line
     ∷ c
     ∷ "DIFFERENTIAL CODE BIASES                                    START OF AUX DATA"
     ∷ x
@@ -110,7 +80,7 @@ pub readings :
     × (read unknown ≡ refused (why 4 2 61))
     × (read (among "   11   12                                                  COMMENT") ≡ refused (why 6 23 61))
     × (read (among wet) ≡ refused (why 6 23 1))
-unfolding one unknown among rest read begin feed split front opens? pad pick ×-dec ⊎-dec ¬-dec all-dec same sames need bind amap get ℕ-discrete decLe decLt int? le? lt? between? within? natural? dated second isLeap monthDays yearDays sum readField numberOf formed? ×₃-dec ×₄-dec end? step? multiple? together? limits? dimension? follows? name on-line lookup label number blank scan fields cells on-date exponent? kind? true? after? implies? in-time? height? loose on-comment on-exponent start-tec start-other start-map on-start end-map on-map-end epoch-tec epoch-other on-epoch open-block on-block on-file taken step finish run short meant place none? complete? made made-texts once on-end at-head head-step heading versioned version-of blanks
+unfolding one unknown among rest whole-reading
 readings = ((_, refl), refl, refl, refl)
 
 -- ---- the first two differ, and only in their remarks

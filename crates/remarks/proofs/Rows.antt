@@ -27,8 +27,7 @@ use Rattle.reading.specs.Fields.{lookup, label, number, blank, scan, fields, ce
 use Rattle.reading.specs.Maps.{on-comment, taken, step, on-row}
 use Rattle.reading.specs.Head.{more, at-head, head-step}
 use Rattle.reading.specs.Read.{version-of}
-use Rattle.reading.proofs.Blame.{Blames, blamed, amap-blames, not-ten, cells-blame}
-use Rattle.reading.specs.Refusals.{Later}
+use Rattle.reading.proofs.Blame.{Blames, blamed, amap-blames, cells-blame}
 use Rattle.reading.proofs.Machine.{State, first, header, maps, turn, Move, on-row-of}
 use Rattle.reading.specs.declared.Place.{Place}
 use Rattle.reading.proofs.RecordLaws.{blank-spaces}
@@ -142,9 +141,9 @@ start-row (header c aux e got ds) r q = rw (skipped c e got ds r (not-end start-
 start-row (maps h p f zero) r q = rw (at-maps start-word r q h p f) y-no
 start-row (maps h p f (suc c)) r q = amap-yields _ (yields-map (λ zs z. absurd z) (no-values start-word r q (on-row (suc c))))
 
-refused-as : {A : Type 0} (x : Answer Fault A) → Yields (λ a. ⊥) x → Blames Later x → (f : Fault) × (x ≡ refused f) × ¬ (f .number ≡ 10)
+refused-as : {A : Type 0} (x : Answer Fault A) → Yields (λ a. ⊥) x → Blames (λ (f : Fault). ¬ (f .number ≡ 10)) x → (f : Fault) × (x ≡ refused f) × ¬ (f .number ≡ 10)
 refused-as (ok a) y b = absurd (yields (ok a) y refl)
-refused-as (refused f) y b = (f, refl, not-ten (blamed b))
+refused-as (refused f) y b = (f, refl, blamed b)
 
 -- a COMMENT does the same as every other, but among the values of a block, where it is refused
 pub comment-row : (s : State) (r r′ : List ℕ) → drop 60 r ≡ name comment → drop 60 r′ ≡ name comment
@@ -154,4 +153,4 @@ comment-row first r r′ q q′ = inl (ap (amap _) (at-first comment-word r q �
 comment-row (header c plain e got ds) r r′ q q′ = inl (ap (amap (turn c plain e got ds)) (at-plain comment-word r q c e got ds ∙ sym (at-plain comment-word r′ q′ c e got ds)))
 comment-row (header c aux e got ds) r r′ q q′ = inl (ap (amap (turn c aux e got ds)) (skipped c e got ds r (not-end comment-word r q) ∙ sym (skipped c e got ds r′ (not-end comment-word r′ q′))))
 comment-row (maps h p f zero) r r′ q q′ = inl (ap (amap _) (at-maps comment-word r q h p f ∙ sym (at-maps comment-word r′ q′ h p f)))
-comment-row (maps h p f (suc c)) r r′ q q′ = inr (refused-as _ (amap-yields _ (no-values comment-word r q (on-row (suc c)))) (amap-blames _ (cells-blame 1 (on-row (suc c)) r (omega arith))))
+comment-row (maps h p f (suc c)) r r′ q q′ = inr (refused-as _ (amap-yields _ (no-values comment-word r q (on-row (suc c)))) (amap-blames _ (cells-blame 1 (on-row (suc c)) (length r) r (omega arith) (λ x h e. omega arith))))

@@ -16,13 +16,13 @@ use Rattle.mapset.specs.declared.Kind.the-variants.{Tec, Rms, Height}
 use Rattle.mapset.specs.declared.Header.{Header}
 use Rattle.mapset.specs.Described.{FullTexts}
 use Rattle.mapset.specs.Grid.{columns}
-use Rattle.mapset.specs.Areas.{Areas, nowhere?, blocks, value-need, Sound}
+use Rattle.mapset.specs.Areas.{Areas, nowhere?, blocks, value-need, Sound, first-of}
 use Rattle.mapset.proofs.Groups.{sound-groups}
+use Rattle.mapset.proofs.FirstLaws.{first-within}
 use Rattle.layout.specs.Layout.{per-map, exponent?}
 use Rattle.areas.specs.Nest.{third}
-use Rattle.areas.specs.Places.{first-of}
 use Rattle.areas.specs.Valid.{needed, values-in, Valid}
-use Rattle.valid.specs.Groups.{kind?, kind-need, Holds, OfKind, of-kind?, RestSays, rest?, Long}
+use Rattle.valid.specs.Groups.{kind?, kind-need, kind-values, kind-exponents, Holds, OfKind, of-kind?, RestSays, rest?, Long}
 use Rattle.valid.specs.Validity.{validity}
 
 module _ (h : Header) (t : FullTexts) (a : Areas) where
@@ -103,34 +103,30 @@ module _ (h : Header) (a : Areas) (l : Long h a) where
   values-are Rms = ap (λ n. take n (a .rms)) (need-is Rms)
   values-are Height = ap (λ n. take n (a .height)) (need-is Height)
 
-  within-three : (k : Kind) → first-of k (blocks h) + blocks h ≤ 3 * blocks h
-  within-three Tec = omega arith
-  within-three Rms = omega arith
-  within-three Height = omega arith
-
-  pub exponents-are : (k : Kind) → take (length ms * B) (drop (first-of k (blocks h)) (a .exponents)) ≡ third k (blocks h) (needed h a .exponents)
+  pub exponents-are : (k : Kind) → third k (blocks h) (a .exponents) ≡ third k (blocks h) (needed h a .exponents)
   unfolding needed
-  exponents-are k = ap (λ n. take (n * B) (drop (first-of k (blocks h)) (a .exponents))) count ∙ sym (take-drop-take (blocks h) (first-of k (blocks h)) (3 * blocks h) (a .exponents) (within-three k))
+  exponents-are k = sym (take-drop-take (blocks h) (first-of k (blocks h)) (3 * blocks h) (a .exponents) (first-within k (blocks h)))
 
-  pub kind-told : (k : Kind) (B′ C′ first : ℕ) {b : Bool} → B′ ≡ B → C′ ≡ C → first ≡ first-of k (blocks h)
-      → b ≡ truth (kind? k B′ C′ ms (take (kind-need k B′ C′ ms) (values-in k a)) (take (length ms * B′) (drop first (a .exponents))))
+  pub kind-told : (k : Kind) (B′ C′ : ℕ) {b : Bool} → B′ ≡ B → C′ ≡ C
+      → b ≡ truth (kind? k B′ C′ ms (kind-values k B′ C′ ms (values-in k a)) (kind-exponents k B′ ms (a .exponents)))
       → b ≡ truth (of-kind? h a k)
   unfolding needed
-  kind-told k B′ C′ first p q r e = (rw (p, q, r) at e) ∙ (λ i. truth (kind? k B C ms (values-are k i) (exponents-are k i)))
+  kind-told k B′ C′ p q e =
+      (rw (p, q) at e) ∙ (λ i. truth (kind? k B C ms (values-are k i) (third k (count i * B) (a .exponents)))) ∙ ap (λ es. truth (kind? k B C ms (values-in k (needed h a)) es)) (exponents-are k)
 
   enough : (k : Kind) → kind-need k B C ms ≤ length (values-in k a)
   enough Tec = omega (arith, tec-need B C ms ∙ ap (λ n. n * B * C) count, l .lengths .0)
   enough Rms = omega (arith, need-is Rms, l .lengths .1 .0)
   enough Height = omega (arith, need-is Height, l .lengths .1 .1 .0)
 
-  pub kind-holds : (k : Kind) (B′ C′ first : ℕ) → B′ ≡ B → C′ ≡ C → first ≡ first-of k (blocks h) → Holds k B′ C′ ms (values-in k a) (a .exponents) first
-  kind-holds k B′ C′ first p q r =
-      rw (p, q, r) (record {
+  pub kind-holds : (k : Kind) (B′ C′ : ℕ) → B′ ≡ B → C′ ≡ C → Holds k B′ C′ ms (values-in k a) (a .exponents)
+  kind-holds k B′ C′ p q =
+      rw (p, q) (record {
         maps = omega (arith, count, l .maps);
         blocks = few-blocks;
         columns = l .limits .1;
         values = enough k;
-        exponents = omega (arith, within-three k, ap (λ n. n * B) count, l .lengths .1 .1 .1);
+        exponents = omega (arith, ap (λ n. n * B) count, l .lengths .1 .1 .1);
       })
 
   pub exponents-told : {b : Bool} → b ≡ truth (all-dec exponent? (take (3 * blocks h) (a .exponents))) → b ≡ truth (all-dec exponent? (needed h a .exponents))

@@ -1,7 +1,7 @@
 -- The rules of `Valid` in the groups in which code looks at them: of each kind its values, and of all kinds the exponents.
 use mathlib.Core.List.{List}
-use Prim.Native.Nat.{ℕ, _+_, _*_, _≤_}
-use lib.ListN.{length, take, drop}
+use Prim.Native.Nat.{ℕ, _*_, _≤_}
+use lib.ListN.{length, take}
 use lib.IntN.{ℤ, pos, negsuc}
 use Rattle.kit.specs.Answer.{All, pick, ×-dec, all-dec}
 use Rattle.mapset.specs.declared.Kind.{Kind}
@@ -42,19 +42,19 @@ rest? h a = ×-dec (all-dec exponent? (needed h a .exponents)) (×-dec (of-kind?
 abbrev pub kind-need : Kind → (B C : ℕ) → List ℕ → ℕ
 kind-need k B C ms = pick (nowhere? k ms) 0 (length ms * B * C)
 
--- of a kind's areas as they are lent: its values up to its need, and its exponents, which begin at `first`
+-- of a kind's areas as they are lent: its values up to its need, and its exponents
 abbrev pub kind-values : Kind → (B C : ℕ) (ms : List ℕ) (vs : List ℤ) → List ℤ
 kind-values k B C ms vs = take (kind-need k B C ms) vs
 
-abbrev pub kind-exponents : (B : ℕ) (ms : List ℕ) (es : List ℤ) (first : ℕ) → List ℤ
-kind-exponents B ms es first = take (length ms * B) (drop first es)
+abbrev pub kind-exponents : Kind → (B : ℕ) (ms : List ℕ) (es : List ℤ) → List ℤ
+kind-exponents k B ms es = third k (length ms * B) es
 
-pub record Holds (k : Kind) (B C : ℕ) (ms : List ℕ) (vs es : List ℤ) (first : ℕ) : Type 0 where
+pub record Holds (k : Kind) (B C : ℕ) (ms : List ℕ) (vs es : List ℤ) : Type 0 where
   pub maps : length ms ≤ 300
   pub blocks : B ≤ 64 * 361
   pub columns : C ≤ 721
   pub values : kind-need k B C ms ≤ length vs
-  pub exponents : first + length ms * B ≤ length es
+  pub exponents : 3 * (length ms * B) ≤ length es
 
 pub record Long (h : Header) (a : Areas) : Type 0 where
   pub maps : h .times .maps ≤ 300

@@ -9,7 +9,6 @@ ghost use Rattle.mapset.specs.Areas.{present?, six};
 ghost use Rattle.areas.specs.ValidDecided.{blank?};
 ghost use Rattle.valid.specs.Groups.{kind?, kind-values, kind-exponents, Holds, rest?, Long};
 ghost use Rattle.valid.specs.Validity.{validity};
-ghost use Rattle.valid.specs.Groups as groups;
 use mapset::Header;
 use mapset::Kind;
 use mapset::Texts;
@@ -63,8 +62,7 @@ fn blank(kind: Kind, width: usize, v: i32, marks: &[u8], area: &[i32]) -> bool
     true
 }
 
-// The values of a kind within -9999 to 99999, and its absent maps 9999 under exponent -1. The marks are those of the maps; the
-// kind's exponents begin at first.
+// The values of a kind within -9999 to 99999, and its absent maps 9999 under exponent -1. The marks are those of the maps.
 fn kind_fits(
     kind: Kind,
     blocks: usize,
@@ -72,15 +70,15 @@ fn kind_fits(
     marks: &[u8],
     values: &[i32],
     exponents: &[i32],
-    first: usize,
 ) -> bool
-    requires { ⌜ Holds kind blocks columns (now marks) (now values) (now exponents) first ⌝ }
+    requires { ⌜ Holds kind blocks columns (now marks) (now values) (now exponents) ⌝ }
     ensures { λ r. ⌜ r ≡ truth (kind? kind blocks columns (now (marks .entry))
         (kind-values kind blocks columns (now (marks .entry)) (now (values .entry)))
-        (kind-exponents blocks (now (marks .entry)) (now (exponents .entry)) first)) ⌝ }
+        (kind-exponents kind blocks (now (marks .entry)) (now (exponents .entry)))) ⌝ }
 {
     let all = marks.len() * blocks;
     let needed = mapset::need(kind, marks, all * columns);
+    let first = mapset::blocks_before(kind, all);
     let end = first + all;
     all_between(-9999, 99999, &values[..needed])
         & (blank(kind, blocks * columns, 9999, marks, &values[..needed])
@@ -102,11 +100,10 @@ fn rest_fits(
     let n = header.times.maps as usize;
     let blocks = axes::per_map(header.grid) as usize;
     let columns = axes::nodes(header.grid.longitudes) as usize;
-    let all = n * blocks;
-    let needed = 3 * all;
+    let needed = 3 * (n * blocks);
     all_between(-3, 0, &exponents[..needed])
-        & (kind_fits(Kind::Tec, blocks, columns, &marks[..n], tec, exponents, 0)
-            & (kind_fits(Kind::Rms, blocks, columns, &marks[..n], rms, exponents, all)
+        & (kind_fits(Kind::Tec, blocks, columns, &marks[..n], tec, exponents)
+            & (kind_fits(Kind::Rms, blocks, columns, &marks[..n], rms, exponents)
                 & kind_fits(
                     Kind::Height,
                     blocks,
@@ -114,7 +111,6 @@ fn rest_fits(
                     &marks[..n],
                     height,
                     exponents,
-                    all + all,
                 )))
 }
 

@@ -10,11 +10,11 @@ use lib.Seq.{length-take-le, getD-take}
 use Rattle.kit.proofs.AnswerLaws.{pick-no}
 use Rattle.kit.proofs.ListLaws.{all-in}
 use Rattle.mapset.specs.Grid.{columns}
-use Rattle.mapset.specs.Areas.{Areas, Present, nowhere?, blocks}
+use Rattle.mapset.specs.Areas.{Areas, Present, nowhere?, blocks, first-of}
 use Rattle.mapset.specs.declared.Header.{Header}
+use Rattle.mapset.proofs.FirstLaws.{first-within}
 use Rattle.layout.specs.Layout.{per-map}
 use Rattle.areas.specs.Lists.{flat, tab}
-use Rattle.areas.specs.Places.{first-of}
 use Rattle.areas.specs.Valid.{values-in}
 use Rattle.ask_nodes.specs.Value.{kind-of}
 use Rattle.valid.specs.Groups.{kind-need, Long}
@@ -26,7 +26,7 @@ use Rattle.week_set.specs.Parts.{part-nodes, parts-nodes, part-row, parts-rows,
 use Rattle.week_set.proofs.PartLaws.{map-part}
 use Rattle.week_set.proofs.TabLaws.{tab-same}
 
-module _ (h : Header) (a : Areas) (l : Long h a) (k : ℕ) (three : k < 3) where
+module _ (h : Header) (a : Areas) (l : Long h a) (k : ℕ) where
   abbrev n : ℕ
   n = h .times .maps
 
@@ -44,19 +44,19 @@ module _ (h : Header) (a : Areas) (l : Long h a) (k : ℕ) (three : k < 3) where
 
   -- the kind's exponents start there
   abbrev F : ℕ
-  F = k * (n * B)
+  F = first-of (kind-of k) (blocks h)
 
   count : length ms ≡ n
   count = length-take-le n (a .marks) (l .marks)
 
   behind : F + n * B ≤ length (a .exponents)
-  behind = omega (arith, mul-le-mul three (le-refl (n * B)), l .lengths .1 .1 .1)
+  behind = omega (arith, first-within (kind-of k) (blocks h), l .lengths .1 .1 .1)
 
   -- where a map is there, the area holds all of the kind
   held : (i : ℕ) → i < length ms → Present (kind-of k) (getD ms i 0) → length ms * (B * C) ≤ length vs
   held i u p =
       let e : kind-need (kind-of k) B C ms ≡ length ms * B * C = pick-no (nowhere? (kind-of k) ms) 0 (length ms * B * C) (λ all. all-in (λ m. ¬ Present (kind-of k) m) ms i 0 u all p) in
-      omega (arith, e, kind-holds h a l (kind-of k) B C (first-of (kind-of k) (blocks h)) refl refl refl .values)
+      omega (arith, e, kind-holds h a l (kind-of k) B C refl refl .values)
 
   pub kind-ready : KindHolds k B C ms vs (drop F (a .exponents))
   kind-ready =

@@ -123,9 +123,9 @@ fn kind_into(
         × (now (rows .exit) ≡ stored kind header (now (values .entry)) (now (exponents .entry)) (now (marks .entry)) (now (rows .entry))) ⌝ }
 {
     let maps = header.times.maps as usize;
-    let blocks = mapset::axes::per_map(header.grid) as usize;
+    let blocks = axes::per_map(header.grid) as usize;
     let columns = axes::nodes(header.grid.longitudes) as usize;
-    let first = (kind as usize) * (maps * blocks);
+    let first = mapset::blocks_before(ask_nodes::kind_of(kind), maps * blocks);
     let at = (kind as usize) * (5 * (maps + 1));
     let u = week_set::kind_rows(
         kind,

@@ -10,7 +10,7 @@ use lib.ListN.{length, getD, take, drop, replicate}
 use lib.Seq.{drop-cons, drop-drop}
 use Rattle.kit.proofs.AnswerLaws.{pick-yes, pick-no}
 use Rattle.mapset.specs.Grid.{layers, rows, columns}
-use Rattle.mapset.specs.Areas.{Areas, Present, present?}
+use Rattle.mapset.specs.Areas.{Areas, Present, present?, blocks, first-of}
 use Rattle.mapset.specs.declared.Header.{Header}
 use Rattle.areas.specs.Lists.{flat, tab}
 use Rattle.areas.specs.Valid.{values-in}
@@ -56,7 +56,7 @@ module _ (k : ℕ) (h : Header) (a : Areas) (i : ℕ) where
 
   -- the kind's exponents start there
   abbrev F : ℕ
-  F = k * (h .times .maps * (L * R))
+  F = first-of (kind-of k) (blocks h)
 
   -- block j of the kind
   abbrev block-nodes : ℕ → List (Option ℤ)

@@ -1,6 +1,5 @@
 -- The rows of two maps of one row and two columns, added up by hand: 5 and no value, then -3 and 4, under -1; no RMS map, then 7 and 8 under -2; no height map.
 use mathlib.Core.Path.{_≡_, refl}
-use mathlib.Core.Bool.{false}
 use mathlib.Core.List.{[], _∷_}
 use native.Mathlib.Decide.{ℕ-discrete}
 use lib.IntN.{pos, negsuc}
@@ -8,31 +7,15 @@ use Rattle.kit.specs.Answer.{pick, ×-dec, ⊎-dec, ¬-dec}
 use Rattle.kit.specs.Integer.{le?, int?, between?}
 use Rattle.kit.specs.Truth.{dec-by}
 use Rattle.mapset.specs.Areas.{Areas, six, present?}
-use Rattle.mapset.specs.declared.System.{System}
 use Rattle.mapset.specs.declared.Header.{Header}
+use Rattle.mapset.specs.Said.{axis-of}
+use Rattle.mapset.specs.Samples.{plain-header}
 use Rattle.ask_nodes.specs.Value.{is-value?, worth, value}
 use Rattle.week_tally.specs.Figures.{given, lacking, range, sum, figures}
 use Rattle.week_set.specs.SetFigures.{map-nodes, kind-nodes, kind-rows, set-rows}
 
-abbrev absent : System
-absent = record { stands = false; stations = 0; satellites = 0 }
-
 unfoldable pub header : Header
-header =
-    record {
-      version = record { tenths = 11; kind = 73; code = 6 };
-      times = record { first = 0; last = 3600; interval = 3600; maps = 2 };
-      model = record { cutoff = 0; radius = 63710; dimension = 2 };
-      grid = record {
-        heights = record { first = pos 4500; last = pos 4500; step = pos 0 };
-        latitudes = record { first = pos 50; last = pos 50; step = pos 50 };
-        longitudes = record { first = pos 0; last = pos 50; step = pos 50 };
-      };
-      stations = record { stands = false; count = 0 };
-      satellites = record { stands = false; count = 0 };
-      systems = record { g = absent; r = absent; e = absent; c = absent; j = absent; i = absent; s = absent };
-      descriptions = 0;
-    }
+header = plain-header (record { first = 0; last = 3600; interval = 3600; maps = 2 }) (axis-of (pos 50) (pos 50) (pos 50)) (axis-of (pos 0) (pos 50) (pos 50))
 
 unfoldable pub held : Areas
 held =

@@ -11,9 +11,9 @@ use Rattle.mapset.specs.MapSet.{Block}
 use Rattle.mapset.specs.Areas.{Areas, blocks}
 use Rattle.layout.specs.Labels.{file-end}
 use Rattle.layout.specs.Layout.{per-map}
-use Rattle.areas.specs.Places.{first-of}
+use Rattle.areas.specs.Nest.{third}
 use Rattle.areas.specs.Valid.{values-in}
-use Rattle.valid.specs.Groups.{kind-values, kind-exponents}
+use Rattle.valid.specs.Groups.{kind-values}
 use Rattle.canonical.specs.Canon.{row-of}
 use Rattle.write_map.specs.OneMap.{map-blocks, slot-map, slot-force}
 
@@ -34,33 +34,25 @@ kind-force q h k (m ∷ ms) es vs =
     kind-force q h (slot-force q m k (first-map h es vs)) ms (drop (per-map h) es) (drop (per-map h * columns (h .grid)) vs)
 kind-force q h k [] es vs = k
 
--- ---- of the areas as they are lent: the exponents of a kind begin at `first`, and a kind with no map needs no values
+-- ---- of the areas as they are lent: a kind with no map needs no values
 
-abbrev pub part-exponents : Header → (ms : List ℕ) (es : List ℤ) (first : ℕ) → List ℤ
-part-exponents h ms es first = kind-exponents (per-map h) ms es first
-
-abbrev pub part-values : Kind → Header → (ms : List ℕ) (vs : List ℤ) → List ℤ
-part-values q h ms vs = kind-values q (per-map h) (columns (h .grid)) ms vs
+abbrev pub part-values : Kind → Header → (marks : List ℕ) (vs : List ℤ) → List ℤ
+part-values q h marks vs = kind-values q (per-map h) (columns (h .grid)) (take (h .times .maps) marks) vs
 
 -- the rows of its maps, with the exponent k in force before them; and the exponent in force after them
-abbrev pub part-rows : Kind → Header → (k : ℤ) (ts ms : List ℕ) (es : List ℤ) (first : ℕ) (vs : List ℤ) → List (List ℕ)
-part-rows q h k ts ms es first vs = kind-rows q h 0 k ts ms (part-exponents h ms es first) (part-values q h ms vs)
+abbrev pub part-rows : Kind → Header → (k : ℤ) (epochs marks : List ℕ) (es vs : List ℤ) → List (List ℕ)
+part-rows q h k epochs marks es vs =
+    kind-rows q h 0 k (take (h .times .maps) epochs) (take (h .times .maps) marks) (third q (blocks h) es) (part-values q h marks vs)
 
-abbrev pub part-force : Kind → Header → (k : ℤ) (ms : List ℕ) (es : List ℤ) (first : ℕ) (vs : List ℤ) → ℤ
-part-force q h k ms es first vs = kind-force q h k ms (part-exponents h ms es first) (part-values q h ms vs)
+abbrev pub part-force : Kind → Header → (k : ℤ) (marks : List ℕ) (es vs : List ℤ) → ℤ
+part-force q h k marks es vs = kind-force q h k (take (h .times .maps) marks) (third q (blocks h) es) (part-values q h marks vs)
 
 module _ (h : Header) (a : Areas) where
-  abbrev epochs : List ℕ
-  epochs = take (h .times .maps) (a .epochs)
-
-  abbrev marks : List ℕ
-  marks = take (h .times .maps) (a .marks)
-
   unfoldable pub area-rows : Kind → ℤ → List (List ℕ)
-  area-rows q k = part-rows q h k epochs marks (a .exponents) (first-of q (blocks h)) (values-in q a)
+  area-rows q k = part-rows q h k (a .epochs) (a .marks) (a .exponents) (values-in q a)
 
   unfoldable pub area-force : Kind → ℤ → ℤ
-  area-force q k = part-force q h k marks (a .exponents) (first-of q (blocks h)) (values-in q a)
+  area-force q k = part-force q h k (a .marks) (a .exponents) (values-in q a)
 
   -- TEC maps, RMS maps, height maps; the exponent in force goes on from kind to kind
   abbrev pub all-rows : List (List ℕ)

@@ -1,9 +1,5 @@
 // The maps of each kind, and those of all kinds, put into a lent output.
-ghost use mathlib.Core.Path.{_≡_};
-ghost use Prim.Native.Nat.{_≤_};
-ghost use lib.ListN.{length, take};
 ghost use Rattle.mapset.specs.Areas.{six};
-ghost use Rattle.layout.specs.Layout.{per-map};
 ghost use Rattle.write_line.specs.Put.{Put};
 ghost use Rattle.write_maps.specs.KindRows.{all-rows};
 ghost use Rattle.write_maps.specs.Ready.{ReadyPart, PutPart, ReadyMaps};
@@ -12,43 +8,39 @@ use mapset::Kind;
 use mapset::axes;
 use write_map::Reached;
 
-// The maps of a kind, one for each TEC map, of so many blocks each, in the areas as they are lent: its exponents begin at first.
+// The maps of a kind, one for each TEC map, in the areas as they are lent.
 fn put_kind(
     out: &mut [u8],
     at: usize,
     header: Header,
     kind: Kind,
     in_force: i32,
-    maps: usize,
-    blocks: usize,
     epochs: &[u64],
     marks: &[u8],
     exponents: &[i32],
-    first: usize,
     values: &[i32],
 ) -> Reached
-    requires { ⌜ ReadyPart header at kind in_force (take maps (now epochs)) (take maps (now marks)) (now exponents) first (now values) ⌝ }
-    requires { ⌜ (blocks ≡ per-map header) × (maps ≤ length (now epochs)) × (maps ≤ length (now marks)) ⌝ }
-    ensures { λ r. ⌜ PutPart header (now (out .entry)) at kind in_force (take maps (now (epochs .entry))) (take maps (now (marks .entry)))
-        (now (exponents .entry)) first (now (values .entry)) (now (out .exit)) r ⌝ }
+    requires { ⌜ ReadyPart header at kind in_force (now epochs) (now marks) (now exponents) (now values) ⌝ }
+    ensures { λ r. ⌜ PutPart header (now (out .entry)) at kind in_force (now (epochs .entry)) (now (marks .entry))
+        (now (exponents .entry)) (now (values .entry)) (now (out .exit)) r ⌝ }
 {
-    let columns = axes::nodes(header.grid.longitudes) as usize;
-    let width = blocks * columns;
+    let maps = header.times.maps as usize;
+    let blocks = axes::per_map(header.grid) as usize;
+    let width = blocks * (axes::nodes(header.grid.longitudes) as usize);
     let mut next = at;
     let mut force = in_force;
     let mut i: usize = 0;
-    let mut begin = first;
+    let mut begin = mapset::blocks_before(kind, maps * blocks);
     let mut from: usize = 0;
     while i < maps {
         let last = begin + blocks;
         let end = from + width;
-        let number = (i + 1) as u64;
         let reached = write_map::put_slot(
             out,
             next,
             header,
             kind,
-            number,
+            (i + 1) as u64,
             epochs[i],
             marks[i],
             force,
@@ -86,21 +78,15 @@ pub fn put_maps(
         (six (now (tec .entry)) (now (rms .entry)) (now (height .entry)) (now (exponents .entry)) (now (epochs .entry)) (now (marks .entry))))
         (now (out .exit)) r ⌝ }
 {
-    let maps = header.times.maps as usize;
-    let blocks = axes::per_map(header.grid) as usize;
-    let all = maps * blocks;
     let a = put_kind(
         out,
         at,
         header,
         Kind::Tec,
         -1,
-        maps,
-        blocks,
         epochs,
         marks,
         exponents,
-        0,
         tec,
     );
     let b = put_kind(
@@ -109,12 +95,9 @@ pub fn put_maps(
         header,
         Kind::Rms,
         a.exponent,
-        maps,
-        blocks,
         epochs,
         marks,
         exponents,
-        all,
         rms,
     );
     let c = put_kind(
@@ -123,12 +106,9 @@ pub fn put_maps(
         header,
         Kind::Height,
         b.exponent,
-        maps,
-        blocks,
         epochs,
         marks,
         exponents,
-        all + all,
         height,
     );
     write_line::put_file_end(out, c.at)

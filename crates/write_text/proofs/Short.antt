@@ -25,8 +25,7 @@ use Rattle.mapset.specs.Areas.{Areas, present?, blocks}
 use Rattle.layout.specs.Labels.{block, header-end, file-end, end}
 use Rattle.layout.specs.Layout.{Slots, per-map}
 use Rattle.areas.specs.Lists.{chop, zipw}
-use Rattle.areas.specs.Nest.{a-block}
-use Rattle.areas.specs.Places.{first-of}
+use Rattle.areas.specs.Nest.{a-block, third}
 use Rattle.areas.specs.Valid.{values-in, Valid}
 use Rattle.areas.specs.Nesting.{nested}
 use Rattle.areas.proofs.ValidFormed.{nested-formed}
@@ -36,7 +35,7 @@ use Rattle.canonical.proofs.RowLaws.{GoodRow}
 use Rattle.canonical.proofs.Made.{rows-good}
 use Rattle.write_line.specs.Put.{LineRoom}
 use Rattle.write_map.specs.OneMap.{epoch-rows, one-map, slot-map, slot-force}
-use Rattle.write_maps.specs.KindRows.{first-map, kind-rows, part-exponents, part-values, area-rows, area-force, all-rows}
+use Rattle.write_maps.specs.KindRows.{first-map, kind-rows, part-values, area-rows, area-force, all-rows}
 use Rattle.write_map.specs.Ready.{Fine}
 use Rattle.write_map.proofs.BlockLaws.{few-blocks}
 use Rattle.write_text.proofs.RowsLaws.{canon-are}
@@ -176,7 +175,7 @@ module _ (h : Header) (t : FullTexts) (a : Areas) (v : Valid h t a) where
       let l = sound-long h t a (v .sound) in
       let ms : List ℕ = take (h .times .maps) (a .marks) in
       let c = kind-count h (few-blocks h f) (f .limits .1) q 0 k (take (h .times .maps) (a .epochs)) ms
-      (part-exponents h ms (a .exponents) (first-of q (blocks h))) (part-values q h ms (values-in q a)) in
+      (third q (blocks h) (a .exponents)) (part-values q h (a .marks) (values-in q a)) in
       omega (arith, c, mul-le-mul {n₁ = length ms} {m₁ = 16727299} {n₂ = 300} {m₂ = 16727299} (omega (arith, take-most (h .times .maps) (a .marks), l .maps)) (omega arith))
 
   row-count : length (canon-rows (nested h t a)) ≤ 100000000000

@@ -1,6 +1,11 @@
 -- `ask::place::cell_of` meets its contract.
 use borrow.Author.Needs.{needs}
+use mathlib.Core.Path.{ap}
+use Prim.Native.Nat.{ℕ}
 use mir.Facts.{toZ-ofZ}
+use Rattle.ask_cells.specs.declared.Spot.{Spot}
+use Rattle.ask_cells.specs.declared.Spot.the-variants.{At, Outside}
+use Rattle.ask_cells.specs.Place.{InColumn}
 use Rattle.ask_cells.specs.Found.{RowFound, ColumnFound}
 use Rattle.ask_cells.proofs.cell_of.Statement.{statement}
 use Rattle.ask_cells.proofs.cell_of.Tie as tie
@@ -10,6 +15,20 @@ row-is c = rw (toZ-ofZ (c .before .fits .lat)) at (c .row-of .ensures)
 
 column-is : (c : tie.After-column-of) → ColumnFound (c .before .before .before .before .before .args .unit) (c .before .before .before .before .before .args .g .longitudes) (c .before .before .before .before .before .args .lon) (c .column-of .result)
 column-is c = rw (toZ-ofZ (c .before .before .before .before .before .fits .lon)) at (c .column-of .ensures)
+
+-- the two columns of a spot
+abbrev left-of : Spot → ℕ
+left-of (At i j part) = i
+left-of Outside = 0
+
+abbrev right-of : Spot → ℕ
+right-of (At i j part) = j
+right-of Outside = 0
+
+-- the left one comes first in a cell
+in-order : (c : tie.After-column) → let m = c .before .before in let s = m .before .before .before .before .before in
+    InColumn (s .args .unit) (s .args .g .longitudes) (s .args .lon) (left-of (m .column-of .result)) (right-of (m .column-of .result)) (c .column .given .0 .1 .1 .0)
+in-order c = rw (c .column .given .1) (rw (c .column .given .1) at (column-is (c .before .before)))
 
 row-of-requires : tie.Need-row-of-requires
 row-of-requires c κs = search needs
@@ -49,7 +68,7 @@ returns-3 c =
     record {
       row = rw (r .row .given .1) at (row-is (r .before .before));
       tall = c .before .step-of .ensures;
-      column = rw (k .column .given .1) at (column-is m);
+      column = rw (← ap left-of (k .column .given .1), ← ap right-of (k .column .given .1)) (in-order k);
       wide = c .step-of2 .ensures;
     }
 

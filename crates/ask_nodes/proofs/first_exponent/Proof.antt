@@ -2,9 +2,8 @@
 use borrow.Author.Needs.{needs}
 use mathlib.Core.Path.{ap, _∙_}
 use Prim.Native.Nat.{_*_}
-use Rattle.mapset.specs.Areas.{kind-number}
+use Rattle.mapset.specs.Areas.{first-of}
 use Rattle.mapset.specs.declared.Kind.{Kind}
-use Rattle.ask_nodes.proofs.NodeLaws.{kind-back}
 use Rattle.ask_nodes.proofs.first_exponent.Statement.{statement}
 use Rattle.ask_nodes.proofs.first_exponent.Tie as tie
 
@@ -22,9 +21,8 @@ blocks-before-requires c κs = search needs
 
 returns : tie.Need-returns
 returns c =
-    let t = c .before .before .before .before in
-    let s = t .args .s in
-    c .blocks-before .ensures ∙ ap (λ (k : Kind). kind-number k * (s .maps * (s .layers * s .rows))) (c .before .kind-of .ensures) ∙ kind-back (s .kind) (s .maps * (s .layers * s .rows)) (t .pre .0)
+    let s = c .before .before .before .before .args .s in
+    c .blocks-before .ensures ∙ ap (λ (k : Kind). first-of k (s .maps * (s .layers * s .rows))) (c .before .kind-of .ensures)
 
 pub first-exponent-spec : {M : Type 1} → statement M
 first-exponent-spec =

@@ -2,7 +2,8 @@ use mathlib.Core.Path.{_≡_, refl, _∙_}
 use mathlib.Core.List.{[], _∷_}
 use mir.Syntax.{w32}
 use mir.Val.{toZ, ofZ}
-use Rattle.kit.specs.Lists.{front}
+use lib.Seq.{sets}
+use Rattle.kit.proofs.SetLaws.{sets-front}
 use borrow.Author.Needs.{needs}
 use Rattle.c_index.proofs.put_node.Statement.{statement}
 use Rattle.c_index.proofs.put_node.Tie as tie
@@ -29,7 +30,9 @@ returns c =
     let e = r .reply .given .0 .1 .0 in
     let p : toZ w32 (ofZ w32 z) ≡ z = search needs in
     let q : toZ w32 (ofZ w32 e) ≡ e = search needs in
-    rw (r .reply .given .1) (refl, c .before .put-two .ensures ∙ (λ i. front (p i ∷ q i ∷ []) (r .before .before .args .value .now)))
+    let s = r .before .before in
+    let v = s .args .value .now in
+    rw (r .reply .given .1) (refl, c .before .put-two .ensures ∙ (λ i. sets v 0 (p i ∷ q i ∷ [])) ∙ sets-front (z ∷ e ∷ []) v (s .pre))
 
 returns-2 : tie.Need-returns-2
 returns-2 c = search needs

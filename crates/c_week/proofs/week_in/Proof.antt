@@ -8,7 +8,7 @@ use mir.Syntax.{w64}
 use mir.Val.{toZ, ofZ}
 use denote.Ref.{now}
 use Rattle.week.proofs.WeekLaws.{same}
-use Rattle.c_week.specs.WeekNumbers.{count-of}
+use Rattle.c_week.specs.WeekNumbers.{count-of, tally-at}
 use Rattle.c_week.proofs.WeekLaws.{week-broken, week-plain}
 use Rattle.c_week.proofs.week_in.Statement.{statement}
 use Rattle.c_week.proofs.week_in.Tie as tie
@@ -47,14 +47,17 @@ tally-in-requires-2 c κs = search needs
 tally-in-requires-3 : tie.Need-tally-in-requires-3
 tally-in-requires-3 c κs = search needs
 
+-- where each kind's five numbers begin
 returns-2 : tie.Need-returns-2
 returns-2 c =
     let h = c .before .before .before in
     let e = h .before .before in
     let s = e .before .before .before in
     let x : toZ w64 (ofZ w64 (getD (s .args .n .now) 0 (pos 0))) ≡ getD (s .args .n .now) 0 (pos 0) = search needs in
-    week-plain (now (s .args .n)) (negative (e .before) ∙ e .if1 .left)
-    (same (h .held .ensures ∙ ap count-of x) (c .before .before .tally-in .ensures) (c .before .tally-in2 .ensures) (c .tally-in3 .ensures))
+    let tec : c .before .before .tally-in .result ≡ tally-at (now (s .args .n)) 1 = c .before .before .tally-in .ensures in
+    let rms : c .before .tally-in2 .result ≡ tally-at (now (s .args .n)) 6 = c .before .tally-in2 .ensures in
+    let height : c .tally-in3 .result ≡ tally-at (now (s .args .n)) 11 = c .tally-in3 .ensures in
+    week-plain (now (s .args .n)) (negative (e .before) ∙ e .if1 .left) (same (h .held .ensures ∙ ap count-of x) tec rms height)
 
 pub week-in-spec : {M : Type 1} → statement M
 week-in-spec =

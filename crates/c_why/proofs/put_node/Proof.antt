@@ -9,6 +9,7 @@ use mir.Syntax.{w64}
 use mir.Val.{toZ, ofZ}
 use Rattle.ask_nodes.specs.Units.{bare}
 use Rattle.ask_nodes.specs.Value.{or-zero}
+use Rattle.kit.proofs.SetLaws.{sets-three}
 use Rattle.c_header.proofs.SetLaws.{back}
 use Rattle.c_why.proofs.put_node.Statement.{statement}
 use Rattle.c_why.proofs.put_node.Tie as tie
@@ -90,8 +91,6 @@ returns c =
     let s = c .before .before .before .before .before .before in
     let at = s .args .at in
     let n = s .args .n in
-    let p : at + 1 ≡ suc at = omega arith in
-    let q : at + 2 ≡ suc (suc at) = omega arith in
     let r : at + 3 ≡ suc (suc (suc at)) = omega arith in
     let u : at + 4 ≡ suc (suc (suc (suc at))) = omega arith in
     let w : at + 5 ≡ suc (suc (suc (suc (suc at)))) = omega arith in
@@ -101,7 +100,7 @@ returns c =
     let f : toZ w64 (ofZ w64 (c .before .before .whole4 .result)) ≡ pos (n .column) = back (record { sfits = c .before .before .whole4 .ok }) (c .before .before .whole4 .ensures) in
     let g : toZ w64 (ofZ w64 (c .before .thousandths .result)) ≡ or-zero (bare (n .value)) = back (record { sfits = c .before .thousandths .ok }) (c .before .thousandths .ensures) in
     let h : toZ w64 (ofZ w64 (c .whole5 .result)) ≡ pos (n .weight) = back (record { sfits = c .whole5 .ok }) (c .whole5 .ensures) in
-    λ i. set (set (set (set (set (set (s .args .out .now) at (a i)) (p i) (b i)) (q i) (d i)) (r i) (f i)) (u i) (g i)) (w i) (h i)
+    λ i. set (set (set (sets-three (s .args .out .now) at a b d i) (r i) (f i)) (u i) (g i)) (w i) (h i)
 
 pub put-node-spec : {M : Type 1} → statement M
 put-node-spec =

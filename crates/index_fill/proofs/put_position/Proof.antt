@@ -2,7 +2,7 @@ use mathlib.Core.Path.{ap}
 use Prim.Native.Nat.{_*_, _<_}
 use native.Mathlib.Omega.{arith}
 use lib.ListN.{set}
-use Rattle.index.proofs.Kept.{first-in}
+use Rattle.mapset.proofs.FirstLaws.{first-in}
 use borrow.Author.Needs.{needs}
 use Rattle.index_fill.proofs.put_position.Statement.{statement}
 use Rattle.index_fill.proofs.put_position.Tie as tie

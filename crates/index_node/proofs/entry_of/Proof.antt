@@ -1,10 +1,11 @@
-use mathlib.Core.Path.{_≡_, ap}
-use Prim.Native.Nat.{_-_, _*_, _≤_}
+use mathlib.Core.Path.{_≡_, ap, ap₂, _∙_}
+use Prim.Native.Nat.{_+_, _-_, _*_, _≤_}
 use native.Mathlib.Omega.{arith}
-use Rattle.mapset.specs.Areas.{blocks}
+use Rattle.mapset.specs.Areas.{blocks, first-of}
 use Rattle.mapset.proofs.SoundLaws.{few-blocks}
+use Rattle.mapset.proofs.FirstLaws.{first-in}
 use Rattle.layout.specs.Layout.{per-map}
-use Rattle.index_node.proofs.AskLaws.{entry-tec, entry-rms, entry-height}
+use Rattle.ask_nodes.specs.Value.{kind-of}
 use borrow.Author.Needs.{needs}
 use Rattle.index_node.proofs.entry_of.Statement.{statement}
 use Rattle.index_node.proofs.entry_of.Tie as tie
@@ -31,28 +32,31 @@ sub-place : tie.Need-sub-place
 sub-place c = search needs
 
 mul-place : tie.Need-mul-place
-mul-place c = omega (arith, few c, place-is c, c .before .before .pre .1 .1 .1)
+mul-place c = omega (arith, few c, place-is c, c .before .before .pre .1 .1)
 
 add-place : tie.Need-add-place
-add-place c = omega (arith, few c, place-is c, c .before .before .pre .1 .1 .1)
+add-place c = omega (arith, few c, place-is c, c .before .before .pre .1 .1)
 
-returns : tie.Need-returns
-returns c = let s = c .before in entry-tec _ _ _ _ (c .if1 .taken) (omega (arith, place-is s))
+kind-of-requires : tie.Need-kind-of-requires
+kind-of-requires c κs = search needs
+
+blocks-before-requires : tie.Need-blocks-before-requires
+blocks-before-requires c κs = let s = c .before in omega (arith, few s, all-is s)
+
+-- where the kind's entries begin
+first-is : (c : tie.After-blocks-before) → let a = c .before .before .before .before .args in c .blocks-before .result ≡ first-of (kind-of (a .kind)) (blocks (a .header))
+first-is c = c .blocks-before .ensures ∙ (λ i. first-of (c .before .kind-of .ensures i) (all-is (c .before .before) i))
 
 add-result : tie.Need-add-result
-add-result c = let s = c .before .before in omega (arith, few s, all-is s, place-is s, s .before .before .pre .1 .1 .1)
+add-result c =
+    let s = c .before .before in
+    let b = s .before .before in
+    omega (arith, few s, first-is c, first-in (kind-of (b .args .kind)) (blocks (b .args .header)) _ (b .pre .1 .1), place-is s)
 
-returns-2 : tie.Need-returns-2
-returns-2 c = let s = c .before .before in entry-rms _ _ _ _ (c .if2 .taken) (omega (arith, all-is s, place-is s))
-
-add-result-2 : tie.Need-add-result-2
-add-result-2 c = let s = c .before .before in omega (arith, few s, all-is s, place-is s, s .before .before .pre .1 .1 .1)
-
-add-result-3 : tie.Need-add-result-3
-add-result-3 c = let s = c .before .before in omega (arith, few s, all-is s, place-is s, s .before .before .pre .1 .1 .1)
-
-returns-3 : tie.Need-returns-3
-returns-3 c = let s = c .before .before in entry-height _ _ _ _ (s .before .before .pre .1 .0) (c .before .if1 .left) (c .if2 .left) (omega (arith, all-is s, place-is s))
+returns : tie.Need-returns
+returns c =
+    let s = c .before .before in
+    ap₂ _+_ (first-is c) (ap (λ n. n + s .before .before .args .d) (place-is s))
 
 pub entry-of-spec : {M : Type 1} → statement M
 entry-of-spec =
@@ -64,9 +68,7 @@ entry-of-spec =
     sub-place
     mul-place
     add-place
-    returns
+    kind-of-requires
+    blocks-before-requires
     add-result
-    returns-2
-    add-result-2
-    add-result-3
-    returns-3)
+    returns)

@@ -8,10 +8,10 @@ use lib.IntN.{pos}
 use lib.ListN.{getD}
 use Rattle.kit.proofs.TruthLaws.{truth-true, truth-false, says-true, says-false}
 use Rattle.mapset.specs.Described.{full}
-use Rattle.mapset.specs.Areas.{Present, blocks}
+use Rattle.mapset.specs.Areas.{Present, blocks, first-of}
 use Rattle.mapset.proofs.SoundLaws.{few-blocks}
 use Rattle.layout.specs.Layout.{per-map}
-use Rattle.areas.specs.Places.{before, first-of}
+use Rattle.areas.specs.Places.{before}
 use Rattle.ask_nodes.specs.Value.{kind-of}
 use Rattle.index.specs.Index.{Index, Fit, Node, Inside, entries, index, node, entry, position, exponent}
 use Rattle.index.proofs.AsRead.{done-in}
@@ -81,7 +81,7 @@ done-before-requires : tie.Need-done-before-requires
 done-before-requires c κs = let d = c .before .before .before in let l = fit-limits (x (d .before .before .before .before .before .before .before .before .before)) (fit (d .before .before)) in (omega (arith, within d .layer, l .2), (omega (arith, within d .row, l .0), l .0))
 
 entry-of-requires : tie.Need-entry-of-requires
-entry-of-requires c κs = let d = c .before .before .before .before in let s = d .before .before .before .before .before .before .before .before .before in (fit-limits (x (d .before .before .before .before .before .before .before .before .before)) (fit (d .before .before)), (known (d .before .before .before .before), (within d .map .0, subst (λ j. before (per-map (s .args .header)) (s .args .map) j < blocks (s .args .header)) (sym (c .done-before .ensures)) (entry-in (x s) (q s) (within d)))))
+entry-of-requires c κs = let d = c .before .before .before .before in let s = d .before .before .before .before .before .before .before .before .before in (fit-limits (x (d .before .before .before .before .before .before .before .before .before)) (fit (d .before .before)), (within d .map .0, subst (λ j. before (per-map (s .args .header)) (s .args .map) j < blocks (s .args .header)) (sym (c .done-before .ensures)) (entry-in (x s) (q s) (within d))))
 
 mul-at : tie.Need-mul-at
 mul-at c = omega (arith, low c, few c)

@@ -1,14 +1,21 @@
 -- `join_areas::store` meets its contract.
-use mathlib.Core.Path.{sym, ap, _∙_}
-use Prim.Native.Nat.{_-_}
+use mathlib.Core.Path.{_≡_, sym, ap, _∙_}
+use mathlib.Core.Option.{none}
+use Prim.Native.Nat.{_-_, _≤_}
 use native.Mathlib.Omega.{arith}
+use lib.ListN.{length}
 use lib.Seq.{length-take-le}
 use Rattle.mapset.specs.Areas.{six}
 use Rattle.read_needs.specs.Needs.{fit}
+use Rattle.read_needs.proofs.ShortLaws.{all-long}
 use Rattle.join_areas.proofs.Stored.{few, short-put, fillable-by, done-put}
 use borrow.Author.Needs.{needs}
 use Rattle.join_areas.proofs.store.Statement.{statement}
 use Rattle.join_areas.proofs.store.Tie as tie
+
+-- where no area is too short, what is lent is at least what is needed
+long-enough : (c : tie.After-room-for) → fit (c .room-for .result) ≡ none → c .before .needed .result .tec ≤ length (c .before .before .before .before .before .before .before .before .before .before .before .before .before .before .before .args .tec .now)
+long-enough c e = all-long 1 _ (sym (c .room-for .ensures) ∙ e) .0
 
 joined-header-requires : tie.Need-joined-header-requires
 joined-header-requires c κs = search needs

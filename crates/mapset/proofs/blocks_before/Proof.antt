@@ -1,6 +1,6 @@
 -- `mapset::blocks_before` meets its contract.
 use borrow.Author.Needs.{needs}
-use native.Mathlib.Omega.{arith}
+use mathlib.Core.Path.{refl}
 use Rattle.mapset.proofs.blocks_before.Statement.{statement}
 use Rattle.mapset.proofs.blocks_before.Tie as tie
 
@@ -17,13 +17,13 @@ add-result : tie.Need-add-result
 add-result c = search needs
 
 returns : tie.Need-returns
-returns c = rw (c .enum-told .given .1) (omega arith)
+returns c = rw (c .enum-told .given .1) refl
 
 returns-2 : tie.Need-returns-2
-returns-2 c = rw (c .enum-told2 .given .1) (omega arith)
+returns-2 c = rw (c .enum-told2 .given .1) refl
 
 returns-3 : tie.Need-returns-3
-returns-3 c = rw (c .enum-told3 .given .1) (omega arith)
+returns-3 c = rw (c .enum-told3 .given .1) refl
 
 pub blocks-before-spec : {M : Type 1} → statement M
 blocks-before-spec =

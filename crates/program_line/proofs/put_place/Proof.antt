@@ -1,8 +1,9 @@
 -- `program_line::put_place` meets its contract.
+use mathlib.Core.List.{_++_}
 use native.Mathlib.Omega.{arith}
 use Rattle.forms.specs.Show.{digits}
 use Rattle.layout.specs.Labels.{bytes}
-use Rattle.program_line.specs.Lines.{place-line}
+use Rattle.program_line.specs.Lines.{Adds, place-line}
 use Rattle.program_line.proofs.LineLaws.{pair-then, last, begins}
 use borrow.Author.Needs.{needs}
 use Rattle.program_line.proofs.put_place.Statement.{statement}
@@ -35,6 +36,11 @@ put-requires c κs = search needs
 same-length : tie.Need-same-length
 same-length c = search needs
 
+-- the word that names the line, and its number
+line-named : (c : tie.After-put-pair2) → let p = c .before .before .before .before .before in
+    Adds (p .put-pair .last .0) (p .put-pair .result) (bytes " line " ++ digits 1 (p .before .before .before .before .args .line)) (c .put-pair2 .last .0) (c .put-pair2 .result)
+line-named c = c .put-pair2 .ensures .0
+
 returns : tie.Need-returns
 unfolding place-line
 returns c =
@@ -45,7 +51,7 @@ returns c =
     let a = p1 .before .before .before .before .args in
     begins
     (pair-then (bytes "refused ") (digits 1 (a .number)) (p1 .put-pair .ensures .0)
-    (pair-then (bytes " line ") (digits 1 (a .line)) (p2 .put-pair2 .ensures .0)
+    (pair-then (bytes " line ") (digits 1 (a .line)) (line-named p2)
     (pair-then (bytes " column ") (digits 1 (a .column)) (p3 .put-pair3 .ensures .0) (last (p4 .put .ensures)))))
     (omega (arith, p1 .put-pair .ensures .1, p2 .put-pair2 .ensures .1, p3 .put-pair3 .ensures .1, p4 .put .ensures .moved))
 

@@ -1,6 +1,7 @@
 use mathlib.Core.Path.{_≡_, refl, ap}
-use Prim.Native.Nat.{_*_}
+use Prim.Native.Nat.{_+_, _*_, _≤_}
 use native.Mathlib.Omega.{arith}
+use lib.ListN.{length}
 use mir.Syntax.{w32}
 use mir.Val.{toZ, ofZ}
 use Rattle.mapset.specs.Areas.{six}
@@ -8,6 +9,25 @@ use Rattle.read_fill.proofs.EventLaws.{at-event, of-kind, below-all, va
 use borrow.Author.Needs.{needs}
 use Rattle.read_fill.proofs.store.Statement.{statement}
 use Rattle.read_fill.proofs.store.Tie as tie
+
+-- a block's values go into the area of its own kind
+put-block-requires-2 : tie.Need-put-block-requires-2
+put-block-requires-2 c κs =
+    let b = c .before .before .before .before .before .before .before .before .before .before .before .before .before .before in
+    let a = b .args in
+    let h = at-event _ _ _ _ _ (c .before .before .before .before .before .before .before .before .before .event3 .given .1) (b .pre .0) .0 in
+    let g = of-kind (six (a .tec .now) (a .rms .now) (a .height .now) (a .exponents .now) (a .epochs .now) (a .marks .now)) (c .before .enum-told3 .given .1) (h .2) in
+    let own-area : c .before .before .before .before .block-place .result * a .size .columns + a .size .columns ≤ length (a .rms .now) = omega (arith, g, ap (λ y. y * a .size .columns) (c .before .before .before .before .block-place .ensures)) in
+    (b .pre .1 .0, (own-area, values-due (a .size .columns) _ (c .before .before .before .before .before .before .before .before .before .event3 .given .1) (b .pre .1 .1)))
+
+put-block-requires-3 : tie.Need-put-block-requires-3
+put-block-requires-3 c κs =
+    let b = c .before .before .before .before .before .before .before .before .before .before .before .before .before .before in
+    let a = b .args in
+    let h = at-event _ _ _ _ _ (c .before .before .before .before .before .before .before .before .before .event3 .given .1) (b .pre .0) .0 in
+    let g = of-kind (six (a .tec .now) (a .rms .now) (a .height .now) (a .exponents .now) (a .epochs .now) (a .marks .now)) (c .before .enum-told4 .given .1) (h .2) in
+    let own-area : c .before .before .before .before .block-place .result * a .size .columns + a .size .columns ≤ length (a .height .now) = omega (arith, g, ap (λ y. y * a .size .columns) (c .before .before .before .before .block-place .ensures)) in
+    (b .pre .1 .0, (own-area, values-due (a .size .columns) _ (c .before .before .before .before .before .before .before .before .before .event3 .given .1) (b .pre .1 .1)))
 
 exponent-of : (c : tie.After-known-told3) → toZ w32 (ofZ w32 (c .before .event3 .given .0 .1 .1 .1 .0)) ≡ c .before .event3 .given .0 .1 .1 .1 .0
 exponent-of c = search needs
@@ -76,24 +96,8 @@ put-block-requires c κs =
 enum-told-3 : tie.Need-enum-told-3
 enum-told-3 c = search needs
 
-put-block-requires-2 : tie.Need-put-block-requires-2
-put-block-requires-2 c κs =
-    let b = c .before .before .before .before .before .before .before .before .before .before .before .before .before .before in
-    let a = b .args in
-    let h = at-event _ _ _ _ _ (c .before .before .before .before .before .before .before .before .before .event3 .given .1) (b .pre .0) .0 in
-    let g = of-kind (six (a .tec .now) (a .rms .now) (a .height .now) (a .exponents .now) (a .epochs .now) (a .marks .now)) (c .before .enum-told3 .given .1) (h .2) in
-    (b .pre .1 .0, (omega (arith, g, ap (λ y. y * a .size .columns) (c .before .before .before .before .block-place .ensures)), values-due (a .size .columns) _ (c .before .before .before .before .before .before .before .before .before .event3 .given .1) (b .pre .1 .1)))
-
 enum-told-4 : tie.Need-enum-told-4
 enum-told-4 c = search needs
-
-put-block-requires-3 : tie.Need-put-block-requires-3
-put-block-requires-3 c κs =
-    let b = c .before .before .before .before .before .before .before .before .before .before .before .before .before .before in
-    let a = b .args in
-    let h = at-event _ _ _ _ _ (c .before .before .before .before .before .before .before .before .before .event3 .given .1) (b .pre .0) .0 in
-    let g = of-kind (six (a .tec .now) (a .rms .now) (a .height .now) (a .exponents .now) (a .epochs .now) (a .marks .now)) (c .before .enum-told4 .given .1) (h .2) in
-    (b .pre .1 .0, (omega (arith, g, ap (λ y. y * a .size .columns) (c .before .before .before .before .block-place .ensures)), values-due (a .size .columns) _ (c .before .before .before .before .before .before .before .before .before .event3 .given .1) (b .pre .1 .1)))
 
 returns : tie.Need-returns
 returns c =

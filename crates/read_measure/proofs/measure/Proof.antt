@@ -1,5 +1,7 @@
 use mathlib.Core.Path.{refl}
 use Rattle.mapset.specs.Lines.{no-lines}
+use Rattle.mapset.specs.MapSet.{MapSet}
+use Rattle.read_judge.specs.Scanned.{set-of}
 use Rattle.read_judge.proofs.JudgeLaws.{one-to-ten}
 use Rattle.read_judge.proofs.NeedLaws.{limits, few-by, need-by, judged}
 use borrow.Author.Needs.{needs}
@@ -33,11 +35,13 @@ needed-requires c κs =
 returns : tie.Need-returns
 returns c = (_, (judged _ _ _ _ (c .before .before .before .before .before .judge .ensures) (c .before .before .answer .given .1), c .reason-of .ensures))
 
+-- an accepted text is read as a map set, not refused with a reason
 returns-2 : tie.Need-returns-2
 returns-2 c =
     let a = judged _ _ _ _ (c .before .before .before .before .before .before .judge .ensures) (c .before .before .before .answer2 .given .1) in
     let z = c .before .size-of .ensures in
-    (_, (a .reads, need-by _ _ _ _ _ _ a (z .0) (z .1) (z .2) (c .needed .ensures)))
+    let set : MapSet = set-of _ _ (a .maps) in
+    (set, (a .reads, need-by _ _ _ _ _ _ a (z .0) (z .1) (z .2) (c .needed .ensures)))
 
 pub measure-spec : {M : Type 1} → statement M
 measure-spec =

@@ -1,10 +1,11 @@
 -- `read_stores::entry_of` meets its contract.
-use mathlib.Core.Path.{_≡_, ap₂, _∙_}
+use mathlib.Core.Path.{_≡_, ap₂}
 use Prim.Native.Nat.{_+_, _*_}
 use native.Mathlib.Omega.{arith}
 use borrow.Author.Needs.{needs}
-use Rattle.areas.specs.Places.{first-of, before}
-use Rattle.areas.proofs.FirstLaws.{first-number, first-in}
+use Rattle.mapset.specs.Areas.{first-of}
+use Rattle.areas.specs.Places.{before}
+use Rattle.mapset.proofs.FirstLaws.{first-in}
 use Rattle.read_stores.proofs.entry_of.Statement.{statement}
 use Rattle.read_stores.proofs.entry_of.Tie as tie
 
@@ -18,7 +19,7 @@ block-place-requires : tie.Need-block-place-requires
 block-place-requires c κs = search needs
 
 returns : tie.Need-returns
-returns c = let a = c .before .before .before .args in ap₂ _+_ (c .before .blocks-before .ensures ∙ first-number (a .kind) (a .size .maps * a .size .blocks)) (c .block-place .ensures)
+returns c = ap₂ _+_ (c .before .blocks-before .ensures) (c .block-place .ensures)
 
 add-result : tie.Need-add-result
 add-result c =

@@ -2,7 +2,7 @@
 use Prim.Native.Nat.{_*_, _<_}
 use native.Mathlib.Omega.{arith}
 use mir.Facts.{toZ-ofZ}
-use Rattle.areas.proofs.FirstLaws.{first-in}
+use Rattle.mapset.proofs.FirstLaws.{first-in}
 use Rattle.read_stores.proofs.StoreLaws.{set-both}
 use borrow.Author.Needs.{needs}
 use Rattle.read_stores.proofs.put_exponent.Statement.{statement}

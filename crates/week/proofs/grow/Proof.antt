@@ -40,20 +40,20 @@ module _ (s : tie.Start) where
         marks = l .marks;
         exponents = l .lengths .1 .1 .1;
         rows = r;
-        holds = kind-ready (s .args .header) lent l k h;
+        holds = kind-ready (s .args .header) lent l k;
       }
 
-  told : (t : Tally) (k : ℕ) → k < 3 → taken t k (s .args .header) (values-in (kind-of k) lent) (now (s .args .exponents)) (now (s .args .marks)) ≡ joined t (kind-figures k (s .args .header) lent)
+  told : (t : Tally) (k : ℕ) → taken t k (s .args .header) (values-in (kind-of k) lent) (now (s .args .exponents)) (now (s .args .marks)) ≡ joined t (kind-figures k (s .args .header) lent)
   unfolding taken
-  told t k h = ap (λ ns. joined t (figures ns)) (kind-parts (s .args .header) lent (s .pre .2) k h)
+  told t k = ap (λ ns. joined t (figures ns)) (kind-parts (s .args .header) lent (s .pre .2) k)
 
   -- one kind's rows
   abbrev put : ℕ → List ℤ → List ℤ
   put k rows = sets rows (k * (5 * (s .args .header .times .maps + 1))) (kind-rows k (s .args .header) lent)
 
-  told-rows : (k : ℕ) (rows : List ℤ) → k < 3 → stored k (s .args .header) (values-in (kind-of k) lent) (now (s .args .exponents)) (now (s .args .marks)) rows ≡ put k rows
+  told-rows : (k : ℕ) (rows : List ℤ) → stored k (s .args .header) (values-in (kind-of k) lent) (now (s .args .exponents)) (now (s .args .marks)) rows ≡ put k rows
   unfolding stored
-  told-rows k rows h = ap (sets rows (k * (5 * (s .args .header .times .maps + 1)))) (kind-parts-rows (s .args .header) lent (s .pre .2) k h)
+  told-rows k rows = ap (sets rows (k * (5 * (s .args .header .times .maps + 1)))) (kind-parts-rows (s .args .header) lent (s .pre .2) k)
 
   put-length : (k : ℕ) (rows : List ℤ) → length (put k rows) ≡ length rows
   put-length k rows = length-sets rows (k * (5 * (s .args .header .times .maps + 1))) (kind-rows k (s .args .header) lent)
@@ -81,7 +81,7 @@ module _ (c : tie.After-kind-into) where
   first-rows = c .kind-into .last .1 .1 .1 .1 .1 .1 .0
 
   first-put : first-rows ≡ put first-start 0 (now (first-start .args .rows))
-  first-put = c .kind-into .ensures .1 ∙ told-rows first-start 0 (now (first-start .args .rows)) (omega arith)
+  first-put = c .kind-into .ensures .1 ∙ told-rows first-start 0 (now (first-start .args .rows))
 
 module _ (c : tie.After-kind-into2) where
   abbrev one : tie.After-kind-into
@@ -97,7 +97,7 @@ module _ (c : tie.After-kind-into2) where
   second-put =
       let a = second-start .args in
       let of-rms : second-rows ≡ stored 1 (a .header) (now (a .rms)) (now (a .exponents)) (now (a .marks)) (first-rows one) = c .kind-into2 .ensures .1 in
-      of-rms ∙ told-rows second-start 1 (first-rows one) (omega arith) ∙ ap (put second-start 1) (first-put one)
+      of-rms ∙ told-rows second-start 1 (first-rows one) ∙ ap (put second-start 1) (first-put one)
 
   second-length : length second-rows ≡ length (now (second-start .args .rows))
   second-length = ap length second-put ∙ put-length second-start 1 _ ∙ put-length second-start 0 (now (second-start .args .rows))
@@ -131,10 +131,10 @@ returns c =
     let k = c .before .before in
     let d = k .before .before .before in
     let s = second-start d in
-    let x = one d .kind-into .ensures .0 ∙ told s (s .args .w .tec .0) 0 (omega arith) in
-    let y = d .kind-into2 .ensures .0 ∙ told s (s .args .w .rms .0) 1 (omega arith) in
-    let z = k .kind-into3 .ensures .0 ∙ told s (s .args .w .height .0) 2 (omega arith) in
-    (same refl x y z, k .kind-into3 .ensures .1 ∙ told-rows s 2 (second-rows d) (omega arith) ∙ ap (put s 2) (second-put d) ∙ put-all s)
+    let x = one d .kind-into .ensures .0 ∙ told s (s .args .w .tec .0) 0 in
+    let y = d .kind-into2 .ensures .0 ∙ told s (s .args .w .rms .0) 1 in
+    let z = k .kind-into3 .ensures .0 ∙ told s (s .args .w .height .0) 2 in
+    (same refl x y z, k .kind-into3 .ensures .1 ∙ told-rows s 2 (second-rows d) ∙ ap (put s 2) (second-put d) ∙ put-all s)
 
 pub grow-spec : {M : Type 1} → statement M
 grow-spec =

@@ -7,6 +7,7 @@ use lib.IntN.{pos}
 use lib.ListN.{set, length-set}
 use mir.Syntax.{w64}
 use mir.Val.{toZ, ofZ}
+use Rattle.kit.proofs.SetLaws.{sets-three}
 use Rattle.c_header.proofs.SetLaws.{back}
 use Rattle.week_tally.specs.Rows.{smallest, largest}
 use Rattle.week_tally.proofs.put_row.Statement.{statement}
@@ -74,8 +75,6 @@ returns c =
     let s = c .before .before .before .before .before in
     let at = s .args .at in
     let t = s .args .t in
-    let p : at + 1 ≡ suc at = omega arith in
-    let q : at + 2 ≡ suc (suc at) = omega arith in
     let r : at + 3 ≡ suc (suc (suc at)) = omega arith in
     let u : at + 4 ≡ suc (suc (suc (suc at))) = omega arith in
     let e : toZ w64 (ofZ w64 (t .sum)) ≡ t .sum = search needs in
@@ -83,7 +82,7 @@ returns c =
     let b : toZ w64 (ofZ w64 (c .before .before .count2 .result)) ≡ pos (t .lacking) = back (record { sfits = c .before .before .count2 .ok }) (c .before .before .count2 .ensures) in
     let d : toZ w64 (ofZ w64 (c .before .smallest .result)) ≡ smallest (t .range) = back (record { sfits = c .before .smallest .ok }) (c .before .smallest .ensures) in
     let f : toZ w64 (ofZ w64 (c .largest .result)) ≡ largest (t .range) = back (record { sfits = c .largest .ok }) (c .largest .ensures) in
-    λ i. set (set (set (set (set (s .args .out .now) at (a i)) (p i) (b i)) (q i) (d i)) (r i) (f i)) (u i) (e i)
+    λ i. set (set (sets-three (s .args .out .now) at a b d i) (r i) (f i)) (u i) (e i)
 
 pub put-row-spec : {M : Type 1} → statement M
 put-row-spec =

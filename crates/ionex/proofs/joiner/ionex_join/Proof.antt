@@ -2,8 +2,7 @@ use mathlib.Core.Path.{_≡_, _∙_}
 use mathlib.Core.List.{List}
 use Prim.Native.Nat.{ℕ, _≤_}
 use native.Mathlib.Omega.{arith}
-use lib.ListN.{length, take, drop, length-drop}
-use lib.Seq.{length-take-le}
+use lib.ListN.{length, take, drop}
 use Rattle.mapset.specs.Described.{full}
 use Rattle.mapset.specs.Areas.{Areas, six}
 use Rattle.join.specs.Into.{lent-of}
@@ -33,8 +32,9 @@ out s = (six (s .args .tec .now) (s .args .rms .now) (s .args .height .now) (s .
 abbrev lines : List ℕ → List ℕ
 lines b = take 1200 (drop 124 b)
 
-whole : (b : List ℕ) → 1324 ≤ length b → length (lines b) ≡ 1200
-whole b h = length-take-le 1200 (drop 124 b) (simp length-drop (omega (arith, h)))
+-- the description that is handed back is the later set's
+later-lines : (c : tie.After-put-joined-arg) → length (lines (c .before .before .before .before .before .before .before .before .before .before .before .before .before .before .before .before .before .before .before .before .before .before .before .before .before .before .before .before .before .before .before .before .before .before .before .before .args .btexts .now)) ≡ 1200
+later-lines c = c .put-joined-arg .given .2
 
 -- the number told of the call's own areas, and that they are long enough where it is 0
 told : (c : tie.After-too-short) → c .too-short .result ≡ too-short (headers (c .before .before .before .before .before .before .before .before .before .before .before .before .before)) (bytes (c .before .before .before .before .before .before .before .before .before .before .before .before .before)) (length (c .before .before .before .before .before .before .before .before .before .before .before .before .before .args .place .now)) 2
@@ -107,7 +107,7 @@ put-joined-requires c κs =
     let r = c .before .before .before .before .before .before .before .before .before .before .before .before .join in
     let f = fits (c .before .before .before .before .before .before .before .before .before .before .before .before .before .before .before .before .before .before .before .before .before .before .before .before .before) in
     let z = small-epochs (lent-of (c .before .before .before .before .before .before .before .before .before .before .before .before .before .before .before .before .before .before .before .before .before .before .before .before .header-in .result) (full (c .before .before .before .before .before .before .before .before .before .before .before .before .before .before .before .before .before .before .before .before .before .before .before .texts-in .result) (lines (s .args .atexts .now))) (early s)) (lent-of (c .before .before .before .before .before .before .before .before .before .before .before .before .before .before .before .before .before .before .before .before .before .before .header-in2 .result) (full (c .before .before .before .before .before .before .before .before .before .before .before .before .before .before .before .before .before .before .before .before .before .texts-in2 .result) (lines (s .args .btexts .now))) (late s)) (out s) (r .result) (full (c .before .before .before .before .before .before .before .before .before .before .before .before .before .before .before .before .before .before .before .before .before .texts-in2 .result) (lines (s .args .btexts .now))) (six (r .last .1 .1 .1 .1 .1 .1 .1 .1 .1 .1 .1 .1 .1 .1 .1 .1 .1 .1 .0) (r .last .1 .1 .1 .1 .1 .1 .1 .1 .1 .1 .1 .1 .1 .1 .1 .1 .1 .1 .1 .0) (r .last .1 .1 .1 .1 .1 .1 .1 .1 .1 .1 .1 .1 .1 .1 .1 .1 .1 .1 .1 .1 .0) (r .last .1 .1 .1 .1 .1 .1 .1 .1 .1 .1 .1 .1 .1 .1 .1 .1 .1 .1 .1 .1 .1 .0) (r .last .1 .1 .1 .1 .1 .1 .1 .1 .1 .1 .1 .1 .1 .1 .1 .1 .1 .1 .1 .1 .1 .1 .0) (r .last .1 .1 .1 .1 .1 .1 .1 .1 .1 .1 .1 .1 .1 .1 .1 .1 .1 .1 .1 .1 .1 .1 .1 .0)) (r .ensures) in
-    (all-long 45 (length (s .args .aheader .now)) (length (s .args .bheader .now)) (length (s .args .header .now)) (f .header) .2, (all-long 1324 (length (s .args .atexts .now)) (length (s .args .btexts .now)) (length (s .args .texts .now)) (f .texts) .2, (f .result, (whole (s .args .btexts .now) (all-long 1324 (length (s .args .atexts .now)) (length (s .args .btexts .now)) (length (s .args .texts .now)) (f .texts) .1), z))))
+    (all-long 45 (length (s .args .aheader .now)) (length (s .args .bheader .now)) (length (s .args .header .now)) (f .header) .2, (all-long 1324 (length (s .args .atexts .now)) (length (s .args .btexts .now)) (length (s .args .texts .now)) (f .texts) .2, (f .result, (later-lines (c .before .before .before), z))))
 
 same-length : tie.Need-same-length
 same-length c = search needs
