@@ -18,7 +18,7 @@ pub mod sun;
 mod value;
 
 // Why there is no value: 23, 31, 24, 20, 21 and 22.
-#[derive(Drop)]
+#[derive(Clone, Copy)]
 pub enum Why {
     Unknown,
     Unsound,
@@ -42,7 +42,7 @@ pub fn number_of(why: Why) -> u64
     }
 }
 
-#[derive(Drop)]
+#[derive(Clone, Copy)]
 pub enum Asked {
     Tecu(MilliTecu),
     Km(MilliKm),
@@ -81,7 +81,7 @@ pub fn shape_of(header: Header, kind: u64, layer: u64) -> Shape
 }
 
 // What is looked at once, whatever the layer, place and second.
-#[derive(Drop)]
+#[derive(Clone, Copy)]
 pub enum Gate {
     Open,
     Shut(Why),

@@ -11,7 +11,7 @@ use ask_spans::Shares;
 use mapset::{Axis, Grid};
 
 // The cells of the two maps.
-#[derive(Drop)]
+#[derive(Clone, Copy)]
 pub enum Pair {
     Of(Cell, Cell),
     Outside,

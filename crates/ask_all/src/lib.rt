@@ -12,7 +12,7 @@ use ask_nodes::Shape;
 use mapset::{Header, Texts};
 
 // Each question has its answer; or why none has.
-#[derive(Drop)]
+#[derive(Clone, Copy)]
 pub enum AllAsked {
     Answered,
     Refused(Why),

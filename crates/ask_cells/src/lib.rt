@@ -9,7 +9,7 @@ use mapset::{Axis, Grid, axes};
 
 // Between a row and the next, `down` of `tall` hundredths of a degree past the first; between a column and the one to
 // its right, `across` of `wide` units past the first.
-#[derive(Drop)]
+#[derive(Clone, Copy)]
 pub struct Cell {
     pub row: u64,
     pub down: u64,
@@ -21,20 +21,20 @@ pub struct Cell {
 }
 
 // How far something lies in a direction.
-#[derive(Drop)]
+#[derive(Clone, Copy)]
 enum Way {
     Ahead(u64),
     Behind,
 }
 
 // A node of an axis, the one after it, and how far past it.
-#[derive(Drop)]
+#[derive(Clone, Copy)]
 enum Spot {
     At(u64, u64, u64),
     Outside,
 }
 
-#[derive(Drop)]
+#[derive(Clone, Copy)]
 pub enum Whereabouts {
     In(Cell),
     Outside,

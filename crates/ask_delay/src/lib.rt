@@ -9,7 +9,7 @@ use delay::Delayed;
 use mapset::{Header, Texts};
 
 // The delay of an answer; or why there is none.
-#[derive(Drop)]
+#[derive(Clone, Copy)]
 pub enum AskedDelay {
     Answered(Delayed),
     Refused(Why),

@@ -9,15 +9,15 @@ ghost use Rattle.ask_nodes.specs.Units.{in_node};
 use mapset::Kind;
 
 // Thousandths of a TECU.
-#[derive(Drop)]
+#[derive(Clone, Copy)]
 pub struct MilliTecu(pub i32);
 
 // Thousandths of a kilometre.
-#[derive(Drop)]
+#[derive(Clone, Copy)]
 pub struct MilliKm(pub i32);
 
 // A node of the layer that is asked for, and its weight.
-#[derive(Drop)]
+#[derive(Clone, Copy)]
 pub struct Weighed {
     pub weight: u64,
     pub map: u64,
@@ -26,7 +26,7 @@ pub struct Weighed {
 }
 
 // What is asked for, and how its areas are laid out.
-#[derive(Drop)]
+#[derive(Clone, Copy)]
 pub struct Shape {
     pub kind: u64,
     pub layer: u64,
@@ -37,7 +37,7 @@ pub struct Shape {
 }
 
 // A node's value in its unit, or that it has none.
-#[derive(Drop)]
+#[derive(Clone, Copy)]
 pub enum Node {
     Tecu(MilliTecu),
     Km(MilliKm),

@@ -5,7 +5,7 @@ ghost use Rattle.ask_spans.specs.Time.{epoch, Uses, Close};
 ghost use Rattle.ask_spans.specs.Spans.{Regular, Before, Spanned};
 
 // The shares of a map and of the next one.
-#[derive(Drop)]
+#[derive(Clone, Copy)]
 pub struct Shares {
     pub map: u64,
     pub early: u64,

@@ -10,7 +10,7 @@ use ask_spans::Shares;
 
 // What the nodes so far come to: the weighted sum in thousandths of its unit and the sum of the weights, or that a needed node has no
 // value. A unit is never added to the other.
-#[derive(Drop)]
+#[derive(Clone, Copy)]
 pub enum Sum {
     Tecu(i64, u64),
     Km(i64, u64),

@@ -11,7 +11,7 @@ use ask_cells::Cell;
 use ask_nodes::{Node, Shape, Weighed};
 use ask_spans::Shares;
 
-#[derive(Drop)]
+#[derive(Clone, Copy)]
 pub enum First {
     At(Lacking),
     Nowhere,

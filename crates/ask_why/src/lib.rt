@@ -22,7 +22,7 @@ mod causes;
 mod nodes;
 
 // A needed node: its map counted from 1, its layer, row and column from 0, its value and its weight.
-#[derive(Drop)]
+#[derive(Clone, Copy)]
 pub struct Needed {
     pub map: u64,
     pub layer: u64,
@@ -33,7 +33,7 @@ pub struct Needed {
 }
 
 // What makes a node have no value.
-#[derive(Drop)]
+#[derive(Clone, Copy)]
 pub enum Cause {
     MapAbsent,
     Exponent,
@@ -42,7 +42,7 @@ pub enum Cause {
 }
 
 // A needed node without a value.
-#[derive(Drop)]
+#[derive(Clone, Copy)]
 pub struct Lacking {
     pub map: u64,
     pub layer: u64,
@@ -52,7 +52,7 @@ pub struct Lacking {
 }
 
 // The answer of the question; 22 with its node.
-#[derive(Drop)]
+#[derive(Clone, Copy)]
 pub enum Explained {
     Tecu(MilliTecu),
     Km(MilliKm),
@@ -61,7 +61,7 @@ pub enum Explained {
 }
 
 // The answer, the number of nodes that were needed, the common denominator of their weights, and the nodes, behind them fillers.
-#[derive(Drop)]
+#[derive(Clone, Copy)]
 pub struct Explanation {
     pub answer: Explained,
     pub count: u64,

@@ -12,7 +12,7 @@ use ask_nodes::{Node, Shape, Weighed};
 use ask_spans::Shares;
 
 // So many nodes, and fillers behind them.
-#[derive(Drop)]
+#[derive(Clone, Copy)]
 pub struct Listing {
     pub count: u64,
     pub nodes: [Needed; 8],

@@ -9,7 +9,7 @@ use bias_scan::Turn;
 use biases::{Place, Satellite, Station};
 
 // Where the scan stands: the place, where the next line starts, the lines passed, how many of both are stored, and whether it is over.
-#[derive(Drop)]
+#[derive(Clone, Copy)]
 pub struct Fill {
     pub place: Place,
     pub at: usize,

@@ -23,27 +23,27 @@ const OF_SATELLITE: [u8; 20] = *b"PRN / BIAS / RMS    ";
 const OF_STATION: [u8; 20] = *b"STATION / BIAS / RMS";
 
 // Two numbers, or the column where they are ill-formed.
-#[derive(Drop)]
+#[derive(Clone, Copy)]
 pub enum Pair {
     Two(i32, i32),
     Wrong(u64),
 }
 
 // What a satellite's record says, or its refusal with 01's number and a column.
-#[derive(Drop)]
+#[derive(Clone, Copy)]
 pub enum SatelliteSaid {
     Given(Satellite),
     Refused(u64, u64),
 }
 
 // What a station's record says likewise. The station stands beside it, and is blank on a refusal.
-#[derive(Drop)]
+#[derive(Clone, Copy)]
 pub enum StationSaid {
     Given,
     Refused(u64, u64),
 }
 
-#[derive(Drop)]
+#[derive(Clone, Copy)]
 pub struct StationRead {
     pub said: StationSaid,
     pub station: Station,

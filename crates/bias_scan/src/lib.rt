@@ -17,7 +17,7 @@ use read_lines::NextRow;
 
 // What the next row is: refused with 01's number, line and column; END OF HEADER; a row that is skipped, with the place after it, where
 // the next line starts and how many lines were passed; a satellite's or a station's, with where it starts and ends, and the same.
-#[derive(Drop)]
+#[derive(Clone, Copy)]
 pub enum Turn {
     Stop(u64, u64, u64),
     Last,
@@ -27,7 +27,7 @@ pub enum Turn {
 }
 
 // What the next row is to a station: one of the same system and name; another, and where the row after it comes; or there is none.
-#[derive(Drop)]
+#[derive(Clone, Copy)]
 pub enum Looked {
     Same,
     Other(Place, usize, u64),
@@ -36,7 +36,7 @@ pub enum Looked {
 
 // What the next row is to the search for stations given twice: the search ends before it; it gives no station, and where the row after it
 // comes; or it is a station's, and the same, with where it starts and its place among the stations held.
-#[derive(Drop)]
+#[derive(Clone, Copy)]
 pub enum Peeked {
     Done,
     Other(Place, usize, u64),
@@ -44,7 +44,7 @@ pub enum Peeked {
 }
 
 // One system and name against another's; nothing is said where they are the same.
-#[derive(Drop)]
+#[derive(Clone, Copy)]
 pub enum Compared {
     Less,
     Same,
@@ -52,7 +52,7 @@ pub enum Compared {
 }
 
 // A place among the stations held, in order; or it is among them.
-#[derive(Drop)]
+#[derive(Clone, Copy)]
 pub enum Placed {
     At(usize),
     Taken,
@@ -60,7 +60,7 @@ pub enum Placed {
 
 // Where a search stands: the place, where the next line starts, the lines and rows passed, the rows at which it ends, and how many
 // stations are held.
-#[derive(Drop)]
+#[derive(Clone, Copy)]
 pub struct Search {
     pub place: Place,
     pub at: usize,
@@ -72,7 +72,7 @@ pub struct Search {
 
 // Where the scan stands: the place, where the next line starts, the lines and rows passed, how many were given of both, and which
 // satellites: the numbers of G, then those of R.
-#[derive(Drop)]
+#[derive(Clone, Copy)]
 pub struct Scan {
     pub place: Place,
     pub at: usize,
@@ -84,21 +84,21 @@ pub struct Scan {
 }
 
 // Refused with 01's number, line and column; END OF HEADER; or on.
-#[derive(Drop)]
+#[derive(Clone, Copy)]
 pub enum Onward {
     Wrong(u64, u64, u64),
     Ended,
     More,
 }
 
-#[derive(Drop)]
+#[derive(Clone, Copy)]
 pub struct Passed {
     pub onward: Onward,
     pub scan: Scan,
 }
 
 // Refused with 01's number, line and column; or how many satellites and stations are given.
-#[derive(Drop)]
+#[derive(Clone, Copy)]
 pub enum Verdict {
     Wrong(u64, u64, u64),
     Fine(usize, usize),

@@ -11,7 +11,7 @@ use read_needs::LentRoom;
 use read_outcome::Reason;
 
 // How many satellites and stations are given; or why not: 01's reasons 1 to 10, or 11 with the area and the elements it needs.
-#[derive(Drop)]
+#[derive(Clone, Copy)]
 pub enum Biased {
     Given(u64, u64),
     Refused(Reason),

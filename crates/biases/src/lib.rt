@@ -1,7 +1,7 @@
 // What a bias block tells, and where the reading of the header stands: the code's types and those of the definitions are the same.
 
 // The system is its letter, G or R; bias and RMS in thousandths of a nanosecond.
-#[derive(Drop)]
+#[derive(Clone, Copy)]
 pub struct Satellite {
     pub system: u8,
     pub number: u32,
@@ -9,7 +9,7 @@ pub struct Satellite {
     pub rms: i32,
 }
 
-#[derive(Drop)]
+#[derive(Clone, Copy)]
 pub struct Station {
     pub system: u8,
     pub name: [u8; 20],
@@ -18,7 +18,7 @@ pub struct Station {
 }
 
 // Outside aux blocks; inside a bias block; inside another aux block.
-#[derive(Drop)]
+#[derive(Clone, Copy)]
 pub enum Place {
     Outside,
     Inside,
@@ -26,7 +26,7 @@ pub enum Place {
 }
 
 // What a row is: END OF HEADER; a row that tells no bias, after which a place comes; a satellite's; a station's.
-#[derive(Drop)]
+#[derive(Clone, Copy)]
 pub enum Role {
     Last,
     Skipped(Place),

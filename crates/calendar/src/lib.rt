@@ -9,7 +9,7 @@ ghost use Rattle.calendar.specs.Inner.{IsDate, second_of, dated_of, Moment, clip
 const END: u64 = 9467107200;
 
 // Six numbers that may be a date of the years 1900 to 2199.
-#[derive(Drop)]
+#[derive(Clone, Copy)]
 pub struct Epoch {
     pub year: u32,
     pub month: u32,
@@ -19,7 +19,7 @@ pub struct Epoch {
     pub second: u32,
 }
 
-#[derive(Drop)]
+#[derive(Clone, Copy)]
 pub enum Field {
     Year,
     Month,
@@ -30,28 +30,28 @@ pub enum Field {
 }
 
 // Whether an epoch is a date; if not, its first wrong field.
-#[derive(Drop)]
+#[derive(Clone, Copy)]
 pub enum Checked {
     Date,
     Wrong(Field),
 }
 
 // A second from 1900-01-01 00:00:00, or a refusal.
-#[derive(Drop)]
+#[derive(Clone, Copy)]
 pub enum When {
     At(u64),
     Refused,
 }
 
 // A date, or a refusal.
-#[derive(Drop)]
+#[derive(Clone, Copy)]
 pub enum DateFound {
     Date(Epoch),
     Refused,
 }
 
 // What a record of six numbers says: a second, or the column of its first wrong field.
-#[derive(Drop)]
+#[derive(Clone, Copy)]
 pub enum Taken {
     At(u64),
     Wrong(u64),

@@ -11,7 +11,7 @@ const MONTHS: [[u8; 12]; 2] = [
 ];
 
 // A year or a month, counted from 0, and the days past its start.
-#[derive(Drop)]
+#[derive(Clone, Copy)]
 pub struct Spot {
     pub index: u64,
     pub rest: u64,

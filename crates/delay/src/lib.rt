@@ -4,7 +4,7 @@ ghost use Rattle.delay.specs.Delay.{told, Delays};
 use ask_nodes::MilliTecu;
 
 // Hertz, TECU and metres.
-#[derive(Drop)]
+#[derive(Clone, Copy)]
 pub struct Delay {
     pub carrier: f64,
     pub tecu: f64,
@@ -12,7 +12,7 @@ pub struct Delay {
 }
 
 // Refused is 02's 25: the carrier is not from 1.0e9 to 2.0e9.
-#[derive(Drop)]
+#[derive(Clone, Copy)]
 pub enum Delayed {
     Given(Delay),
     Refused,

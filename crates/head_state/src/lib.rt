@@ -21,7 +21,7 @@ use mapset::{Axis, Counted, Grid, Header, Model, System, Systems, Times, Version
 
 // What was got of a header so far, by the places of its records in 01's list; whether an aux block is open; the exponent in force; the number of
 // DESCRIPTION lines, whose bytes are lent beside it.
-#[derive(Drop)]
+#[derive(Clone, Copy)]
 pub struct State {
     pub aux: bool,
     pub exponent: i32,
@@ -36,14 +36,14 @@ pub struct State {
 }
 
 // On with the header; or END OF HEADER, with the header record; or refused with 01's number and a column.
-#[derive(Drop)]
+#[derive(Clone, Copy)]
 pub enum Next {
     More,
     Done(Header),
     Refused(u64, u64),
 }
 
-#[derive(Drop)]
+#[derive(Clone, Copy)]
 pub struct Stepped {
     pub next: Next,
     pub state: State,

@@ -12,7 +12,7 @@ use maps_records::One;
 use mapset::Version;
 
 // What the version record says, or its refusal.
-#[derive(Drop)]
+#[derive(Clone, Copy)]
 pub enum Versioned {
     As(Version),
     Refused(u64, u64),

@@ -18,7 +18,7 @@ use read_lines::Line;
 use read_values::Cells;
 
 // One line of a block's values: blank, up to where; a row, where it ends and where the next line starts; or no line of values.
-#[derive(Drop)]
+#[derive(Clone, Copy)]
 pub enum Step {
     Skip(usize),
     Row(usize, usize),
@@ -26,7 +26,7 @@ pub enum Step {
 }
 
 // Where a block's last line ends, and where the five columns of one of its values stand; or that no block stands there.
-#[derive(Drop)]
+#[derive(Clone, Copy)]
 pub enum Hit {
     At(usize, usize),
     Nothing,

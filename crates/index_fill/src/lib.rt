@@ -15,7 +15,7 @@ use read_lines::Line;
 // ---- The header
 
 // Behind a row of the header: whether it was END OF HEADER, whether an aux block is open, and the exponent in force.
-#[derive(Drop)]
+#[derive(Clone, Copy)]
 pub struct Past {
     pub ended: bool,
     pub aux: bool,
@@ -23,7 +23,7 @@ pub struct Past {
 }
 
 // Where the next line starts, with the same.
-#[derive(Drop)]
+#[derive(Clone, Copy)]
 pub struct Walk {
     pub at: usize,
     pub ended: bool,
@@ -126,7 +126,7 @@ fn maps_start(text: &[u8]) -> Walk
 // ---- From one line of the maps to the next
 
 // Where the next line starts, how many values come first there, what was brought, and where the scan then stands.
-#[derive(Drop)]
+#[derive(Clone, Copy)]
 pub struct Step {
     pub at: usize,
     pub due: usize,

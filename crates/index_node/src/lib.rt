@@ -14,7 +14,7 @@ use index_block::Hit;
 use mapset::{Header, Texts, axes};
 
 // Why there is no answer: 23, 31, 21, 22 and 50.
-#[derive(Drop)]
+#[derive(Clone, Copy)]
 pub enum Why {
     Unknown,
     Unfit,
@@ -24,14 +24,14 @@ pub enum Why {
 }
 
 // The number as written, its exponent, and where the block's lines start and end in the text; or why not.
-#[derive(Drop)]
+#[derive(Clone, Copy)]
 pub enum Reply {
     Given(i32, i32, usize, usize),
     Refused(Why),
 }
 
 // From start up to, not including, end.
-#[derive(Drop)]
+#[derive(Clone, Copy)]
 pub struct Bounds {
     pub start: usize,
     pub end: usize,

@@ -10,7 +10,7 @@ use mapset::{Header, Kind, Texts, Times};
 use read_needs::{Elements, LentRoom, Others};
 
 // 31, 40, 41 and 42 of document 02; and 11, with the area and the elements it needs.
-#[derive(Drop)]
+#[derive(Clone, Copy)]
 pub enum Refusal {
     NotValid,
     Unlike,
@@ -20,14 +20,14 @@ pub enum Refusal {
 }
 
 // The header of the joined set, whose texts are the later set's.
-#[derive(Drop)]
+#[derive(Clone, Copy)]
 pub enum Joining {
     Done(Header),
     Refused(Refusal),
 }
 
 // Whether two sets may be joined, room for them apart.
-#[derive(Drop)]
+#[derive(Clone, Copy)]
 enum Verdict {
     Fine,
     Wrong(Refusal),

@@ -14,7 +14,7 @@ use Rattle.kit.proofs.TruthLaws.{holds, fails}
 
 -- a number of 32 bits is the same in 64
 pub widened : (x : ℤ) → SFits w32 x → to_z w64 (of_z w64 (to_z w32 (of_z w32 x))) ≡ x
-widened x f = rw (to_z-of_z f) (to_z-of_z (sfits_widen tt f))
+widened x f = rw (to_z-of_z f) (to_z-of_z {w = w64} (sfits_widen (tt {0}) f))
 
 module _ (low high x : ℤ) where
   pub under : lt_z x low ≡ true → false ≡ truth (between? low high x)

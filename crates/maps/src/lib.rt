@@ -13,7 +13,7 @@ use read_lines::NextRow;
 use reading::Place;
 
 // The maps as they are judged: accepted, and whether some RMS and some height map stands; or a refusal's number, line and column.
-#[derive(Drop)]
+#[derive(Clone, Copy)]
 pub enum Verdict {
     Fine(bool, bool),
     Wrong(u64, u64, u64),
@@ -21,7 +21,7 @@ pub enum Verdict {
 
 // A record, with the values of the block that it opens: on, to where, after how many lines; a refusal; or the text's end, and after
 // how many lines.
-#[derive(Drop)]
+#[derive(Clone, Copy)]
 pub enum Turn {
     On(usize, u64, Next),
     Halt(u64, u64, u64),

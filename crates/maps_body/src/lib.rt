@@ -14,7 +14,7 @@ use mapset::{Header, Kind};
 use reading::{Open, Place};
 
 // What a label stands for among the maps.
-#[derive(Drop)]
+#[derive(Clone, Copy)]
 pub enum Role {
     Comment,
     Exponent,

@@ -13,7 +13,7 @@ use mapset::{Header, Kind};
 use reading::{Open, Place};
 
 // What is in force besides the epochs: the exponent, and the numbers of the last RMS and height map, 0 before the first.
-#[derive(Drop)]
+#[derive(Clone, Copy)]
 pub struct Past {
     pub exponent: i32,
     pub rms: u64,
@@ -21,14 +21,14 @@ pub struct Past {
 }
 
 // An epoch to be remembered, or none.
-#[derive(Drop)]
+#[derive(Clone, Copy)]
 pub enum Push {
     Keep,
     New(u64),
 }
 
 // Where a record leads: the next place, what is then in force, and how many values come first.
-#[derive(Drop)]
+#[derive(Clone, Copy)]
 pub struct Next {
     pub to: Place,
     pub past: Past,
@@ -37,7 +37,7 @@ pub struct Next {
 }
 
 // What a record does: on, or a refusal's number and column.
-#[derive(Drop)]
+#[derive(Clone, Copy)]
 pub enum Move {
     Go(Next),
     Stop(u64, u64),

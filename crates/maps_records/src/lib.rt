@@ -13,21 +13,21 @@ use calendar::Taken;
 use forms::{Field, Found, Row, Triple};
 
 // A record's one number, or the column where it is ill-formed.
-#[derive(Drop)]
+#[derive(Clone, Copy)]
 pub enum One {
     Number(i32),
     Wrong(u64),
 }
 
 // The second of a record's date, or a refusal's number and column.
-#[derive(Drop)]
+#[derive(Clone, Copy)]
 pub enum Dated {
     At(u64),
     Refused(u64, u64),
 }
 
 // The five numbers that open a block, or the column where they are ill-formed.
-#[derive(Drop)]
+#[derive(Clone, Copy)]
 pub enum Opening {
     Numbers(i32, i32, i32, i32, i32),
     Wrong(u64),

@@ -9,7 +9,7 @@ ghost use Rattle.mapset.specs.Judged.{line, ends?, toward?, judged};
 
 use super::{Axis, Grid};
 
-#[derive(Drop)]
+#[derive(Clone, Copy)]
 pub enum Line {
     Heights,
     Latitudes,
@@ -17,7 +17,7 @@ pub enum Line {
 }
 
 // The first field outside its own range, or the rule over several fields that is broken.
-#[derive(Drop)]
+#[derive(Clone, Copy)]
 pub enum Judged {
     First,
     Last,

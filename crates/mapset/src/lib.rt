@@ -9,7 +9,7 @@ ghost use Rattle.mapset.specs.Decisions.{takes_code?, follows?};
 pub mod axes;
 
 // The version record: version in tenths, type, and the code's place in the list of codes.
-#[derive(Drop)]
+#[derive(Clone, Copy)]
 pub struct Version {
     pub tenths: u32,
     pub kind: u8,
@@ -24,7 +24,7 @@ pub fn takes_code(tenths: u32, code: u32) -> bool
 }
 
 // The epochs of the first and the last TEC map in seconds from 1900, INTERVAL, and the number of TEC maps.
-#[derive(Drop)]
+#[derive(Clone, Copy)]
 pub struct Times {
     pub first: u64,
     pub last: u64,
@@ -33,7 +33,7 @@ pub struct Times {
 }
 
 // Elevation cutoff in tenths of a degree, base radius in tenths of a kilometre, and the map dimension.
-#[derive(Drop)]
+#[derive(Clone, Copy)]
 pub struct Model {
     pub cutoff: u32,
     pub radius: u32,
@@ -41,14 +41,14 @@ pub struct Model {
 }
 
 // From first to last by step, in tenths of a kilometre or of a degree.
-#[derive(Drop)]
+#[derive(Clone, Copy)]
 pub struct Axis {
     pub first: i32,
     pub last: i32,
     pub step: i32,
 }
 
-#[derive(Drop)]
+#[derive(Clone, Copy)]
 pub struct Grid {
     pub heights: Axis,
     pub latitudes: Axis,
@@ -56,14 +56,14 @@ pub struct Grid {
 }
 
 // # OF STATIONS or # OF SATELLITES.
-#[derive(Drop)]
+#[derive(Clone, Copy)]
 pub struct Counted {
     pub stands: bool,
     pub count: u32,
 }
 
 // SYS / #STA / #SAT of one letter.
-#[derive(Drop)]
+#[derive(Clone, Copy)]
 pub struct System {
     pub stands: bool,
     pub stations: u32,
@@ -71,7 +71,7 @@ pub struct System {
 }
 
 // One field for each letter of 01.
-#[derive(Drop)]
+#[derive(Clone, Copy)]
 pub struct Systems {
     pub g: System,
     pub r: System,
@@ -83,7 +83,7 @@ pub struct Systems {
 }
 
 // What a header says but its texts; the last is the number of DESCRIPTION lines.
-#[derive(Drop)]
+#[derive(Clone, Copy)]
 pub struct Header {
     pub version: Version,
     pub times: Times,
@@ -96,7 +96,7 @@ pub struct Header {
 }
 
 // What a map holds: total electron content, its error, or the height it stands at.
-#[derive(Drop)]
+#[derive(Clone, Copy)]
 pub enum Kind {
     Tec,
     Rms,
@@ -104,7 +104,7 @@ pub enum Kind {
 }
 
 // The header's texts: PGM / RUN BY / DATE, MAPPING FUNCTION, OBSERVABLES USED.
-#[derive(Drop)]
+#[derive(Clone, Copy)]
 pub struct Texts {
     pub program: [u8; 20],
     pub agency: [u8; 20],
@@ -114,13 +114,13 @@ pub struct Texts {
 }
 
 // The DESCRIPTION lines of 60 columns, one behind the other, then blanks: room for 20.
-#[derive(Drop)]
+#[derive(Clone, Copy)]
 pub struct Descriptions {
     pub bytes: [u8; 1200],
 }
 
 // How large the map set is: n, L.R and C.
-#[derive(Drop)]
+#[derive(Clone, Copy)]
 pub struct Size {
     pub maps: usize,
     pub blocks: usize,
@@ -128,7 +128,7 @@ pub struct Size {
 }
 
 // The lengths of the areas that hold a number for each node or block.
-#[derive(Drop)]
+#[derive(Clone, Copy)]
 pub struct Lengths {
     pub tec: usize,
     pub rms: usize,

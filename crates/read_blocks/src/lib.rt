@@ -11,7 +11,7 @@ use read_lines::Line;
 use read_values::Cells;
 
 // A block's values are there: where the next line starts, and how many lines are passed. Or a refusal's number, line and column.
-#[derive(Drop)]
+#[derive(Clone, Copy)]
 pub enum Block {
     Good(usize, u64),
     Refused(u64, u64, u64),
@@ -25,7 +25,7 @@ fn on_row(left: usize) -> usize
 }
 
 // One line of a block: on, to where, after how many lines, with how many values left; a refusal; or the text's end.
-#[derive(Drop)]
+#[derive(Clone, Copy)]
 pub enum Step {
     On(usize, u64, usize),
     Stop(u64, u64, u64),
@@ -93,7 +93,7 @@ pub fn judge_block(text: &[u8], from: usize, lines: u64, count: usize) -> Block
 // ---- The second time over: a block that is judged is stored
 
 // One line: the next line's start, and how many values are put.
-#[derive(Drop)]
+#[derive(Clone, Copy)]
 pub enum Turn {
     Put(usize, usize),
     Stuck,

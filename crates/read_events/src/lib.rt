@@ -9,7 +9,7 @@ use maps_records::{Dated, One};
 use mapset::Kind;
 
 // Kind and number of the last map that began, how many of its blocks are done, the exponent in force, and how many TEC maps have their epoch.
-#[derive(Drop)]
+#[derive(Clone, Copy)]
 pub struct State {
     pub kind: Kind,
     pub number: usize,
@@ -19,7 +19,7 @@ pub struct State {
 }
 
 // What a row brings: nothing to store, a TEC map's epoch, that an RMS or height map is there, or a block of a map under an exponent.
-#[derive(Drop)]
+#[derive(Clone, Copy)]
 pub enum Event {
     Nothing,
     Epoch(usize, u64),
@@ -28,7 +28,7 @@ pub enum Event {
 }
 
 // What a row brings, and where it leads.
-#[derive(Drop)]
+#[derive(Clone, Copy)]
 pub struct Brought {
     pub event: Event,
     pub state: State,

@@ -25,7 +25,7 @@ fn put_block(text: &[u8], at: usize, from: usize, columns: usize, area: &mut [i3
 // ---- From one row to the next
 
 // Where the next line starts, what was brought, and where the scan then stands.
-#[derive(Drop)]
+#[derive(Clone, Copy)]
 pub struct Step {
     pub at: usize,
     pub event: Event,

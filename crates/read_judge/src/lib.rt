@@ -11,13 +11,13 @@ use read_needs::Others;
 
 // Refused with 01's number, line and column; or fine: the header record, the exponent in force and the place where the maps start,
 // and whether some RMS and some height map stands.
-#[derive(Drop)]
+#[derive(Clone, Copy)]
 pub enum Judged {
     Wrong(u64, u64, u64),
     Fine(Header, i32, usize, Others),
 }
 
-#[derive(Drop)]
+#[derive(Clone, Copy)]
 pub struct FirstScan {
     pub answer: Judged,
     pub texts: Texts,

@@ -5,14 +5,14 @@ ghost use Rattle.read_lines.specs.Quick.{Sixteen, Ahead, Ending, Near, NearLf};
 ghost use Rattle.read_lines.specs.Leads.{Leads, after_all};
 
 // A line's bytes, without the CR before its LF, and where the next line starts.
-#[derive(Drop)]
+#[derive(Clone, Copy)]
 pub struct Span {
     pub width: usize,
     pub next: usize,
 }
 
 // A line by itself: refused with 01's number and a column, blank, or a row.
-#[derive(Drop)]
+#[derive(Clone, Copy)]
 pub enum Look {
     Wrong(u64, u64),
     Blank,
@@ -20,7 +20,7 @@ pub enum Look {
 }
 
 // The line that starts a text: none, refused with 01's number and a column, blank, or a row of so many bytes; and where the next line starts.
-#[derive(Drop)]
+#[derive(Clone, Copy)]
 pub enum Line {
     Over,
     Bad(u64, u64),
@@ -30,7 +30,7 @@ pub enum Line {
 
 // The next row of a text: none, after so many lines; or a line that is refused, with 01's number, its own and a column; or where it
 // starts and ends, where the next line starts, and how many lines came before.
-#[derive(Drop)]
+#[derive(Clone, Copy)]
 pub enum NextRow {
     Over(u64),
     Bad(u64, u64, u64),

@@ -7,7 +7,7 @@ ghost use Rattle.read_needs.specs.Needs.{first_short, pairs, fit, needs_of};
 use mapset::{Header, Size, axes};
 
 // Elements of the six areas: needed, or lent.
-#[derive(Drop)]
+#[derive(Clone, Copy)]
 pub struct Elements {
     pub tec: usize,
     pub rms: usize,
@@ -18,14 +18,14 @@ pub struct Elements {
 }
 
 // Whether some RMS and some height map stands.
-#[derive(Drop)]
+#[derive(Clone, Copy)]
 pub struct Others {
     pub rms: bool,
     pub height: bool,
 }
 
 // Each area holds what it needs; or the first that does not, counted from 1, and the elements it needs.
-#[derive(Drop)]
+#[derive(Clone, Copy)]
 pub enum LentRoom {
     Enough,
     Short(u64, u64),

@@ -7,7 +7,7 @@ use mapset::{Descriptions, Header, Texts};
 use read_needs::Elements;
 
 // Why a text is refused: 01's reasons 1 to 10, each with line and column; and 11, with the area and the elements it needs.
-#[derive(Drop)]
+#[derive(Clone, Copy)]
 pub enum Reason {
     LongLine(u64, u64),
     BadByte(u64, u64),
@@ -22,14 +22,14 @@ pub enum Reason {
     AreaTooShort(u64, u64),
 }
 
-#[derive(Drop)]
+#[derive(Clone, Copy)]
 pub enum Reading {
     Accepted(Header),
     Refused(Reason),
 }
 
 // The texts and the bytes of the DESCRIPTION lines are blanks on a refusal.
-#[derive(Drop)]
+#[derive(Clone, Copy)]
 pub struct ReadOut {
     pub answer: Reading,
     pub texts: Texts,
@@ -37,7 +37,7 @@ pub struct ReadOut {
 }
 
 // What each area needs; or why the text is refused.
-#[derive(Drop)]
+#[derive(Clone, Copy)]
 pub enum Measured {
     Needs(Elements),
     Refused(Reason),
@@ -74,7 +74,7 @@ pub fn refused(reason: Reason) -> ReadOut
 }
 
 // 01's number of a refusal, and line and column, or area and need.
-#[derive(Drop)]
+#[derive(Clone, Copy)]
 pub struct Refusal {
     pub number: u64,
     pub first: u64,

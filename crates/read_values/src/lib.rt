@@ -9,7 +9,7 @@ ghost use Rattle.read_values.specs.Quick.{fits_as, last_columns, Standing, Fitti
 ghost use Rattle.read_values.specs.Bare.{bare, Bares, Bared, Lows, Paired, Plain};
 
 // A line of values: as it should be, or the first wrong column.
-#[derive(Drop)]
+#[derive(Clone, Copy)]
 pub enum Cells {
     Fine,
     Wrong(u64),

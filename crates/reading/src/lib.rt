@@ -2,7 +2,7 @@
 use mapset::Kind;
 
 // An open map: whether its own epoch may still stand, its kind and number, and how many of its blocks are left to come.
-#[derive(Drop)]
+#[derive(Clone, Copy)]
 pub struct Open {
     pub fresh: bool,
     pub kind: Kind,
@@ -11,7 +11,7 @@ pub struct Open {
 }
 
 // After END OF FILE; with no map open; in a TEC map whose epoch is to come; in a map whose blocks are to come.
-#[derive(Drop)]
+#[derive(Clone, Copy)]
 pub enum Place {
     Ended,
     Between,

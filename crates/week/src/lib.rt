@@ -15,15 +15,15 @@ use mapset::{Header, Texts, axes};
 use week_tally::{Range, Tally};
 
 // Figures in thousandths of a TECU.
-#[derive(Drop)]
+#[derive(Clone, Copy)]
 pub struct TecuTally(pub Tally);
 
 // Figures in thousandths of a kilometre.
-#[derive(Drop)]
+#[derive(Clone, Copy)]
 pub struct KmTally(pub Tally);
 
 // How many sets were accepted so far, and the figures of each kind over all of them.
-#[derive(Drop)]
+#[derive(Clone, Copy)]
 pub struct Week {
     pub sets: u64,
     pub tec: TecuTally,
@@ -32,7 +32,7 @@ pub struct Week {
 }
 
 // Why a set was not added: 60, 31, or 11 with the numbers that the area for the rows needs.
-#[derive(Drop)]
+#[derive(Clone, Copy)]
 pub enum Why {
     Full,
     Invalid,
@@ -40,7 +40,7 @@ pub enum Why {
 }
 
 // The new week, or why not.
-#[derive(Drop)]
+#[derive(Clone, Copy)]
 pub enum Added {
     Into(Week),
     Refused(Why),

@@ -10,14 +10,14 @@ ghost use Rattle.week_tally.specs.Rows as rows;
 use ask_nodes::Node;
 
 // The smallest and the largest value, where there is one.
-#[derive(Drop)]
+#[derive(Clone, Copy)]
 pub enum Range {
     Nothing,
     From(i32, i32),
 }
 
 // Values in thousandths of the kind's unit.
-#[derive(Drop)]
+#[derive(Clone, Copy)]
 pub struct Tally {
     pub given: u64,
     pub lacking: u64,

@@ -8,7 +8,7 @@ ghost use Rattle.write_map.specs.Ready.{Ready, Full, ReadySlot, PutSlot};
 use mapset::{Header, Kind, axes};
 
 // Where the next line starts, and the exponent in force there.
-#[derive(Drop)]
+#[derive(Clone, Copy)]
 pub struct Reached {
     pub at: usize,
     pub exponent: i32,

@@ -34,7 +34,7 @@ fn put_text(
 }
 
 // What writing answers: the bytes written, the bytes needed (30), or that this is no map set (31).
-#[derive(Drop)]
+#[derive(Clone, Copy)]
 pub enum Written {
     Bytes(u64),
     Short(u64),

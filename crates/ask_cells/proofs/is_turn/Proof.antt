@@ -33,19 +33,19 @@ module _ (s : tie.Start) where
   o = s.args.o
 
   x_is : to_z w64 (of_z w64 (to_z w32 (of_z w32 x))) ≡ x
-  x_is = rw (to_z-of_z s.fits.x) (to_z-of_z (sfits_widen tt s.fits.x))
+  x_is = rw (to_z-of_z s.ranges.x) (to_z-of_z {w = w64} (sfits_widen (tt {0}) s.ranges.x))
 
   d_is : to_z w64 (of_z w64 (to_z w32 (of_z w32 d))) ≡ d
-  d_is = rw (to_z-of_z s.fits.d) (to_z-of_z (sfits_widen tt s.fits.d))
+  d_is = rw (to_z-of_z s.ranges.d) (to_z-of_z {w = w64} (sfits_widen (tt {0}) s.ranges.d))
 
   o_is : to_z w64 (of_z w64 (to_z w32 (of_z w32 o))) ≡ o
-  o_is = rw (to_z-of_z s.fits.o) (to_z-of_z (sfits_widen tt s.fits.o))
+  o_is = rw (to_z-of_z s.ranges.o) (to_z-of_z {w = w64} (sfits_widen (tt {0}) s.ranges.o))
 
   far : nat_abs (x +ℤ d) < 2 ^ 40
-  far = omega (arith, sum_size x d, size_of_fits w32 x s.fits.x, size_of_fits w32 d s.fits.d)
+  far = omega (arith, sum_size x d, size_of_fits w32 x s.ranges.x, size_of_fits w32 d s.ranges.d)
 
   turn : nat_abs (o +ℤ pos 3600) < 2 ^ 40
-  turn = omega (arith, sum_size o (pos 3600), size_of_fits w32 o s.fits.o)
+  turn = omega (arith, sum_size o (pos 3600), size_of_fits w32 o s.ranges.o)
 
   less : nat_abs ((x +ℤ d) -ℤ (o +ℤ pos 3600)) < 2 ^ 63
   less = omega (arith, less_size (x +ℤ d) (o +ℤ pos 3600), far, turn)
@@ -56,22 +56,22 @@ module _ (s : tie.Start) where
   turn_is : to_z w64 (of_z w64 (to_z w64 (of_z w64 (to_z w32 (of_z w32 o))) +ℤ pos 3600)) ≡ o +ℤ pos 3600
   turn_is = rw o_is (to_z-of_z (size_fits w64 _ (omega (arith, turn))))
 
-cast-magnitude : tie.Need-overflow-cast-magnitude
+cast-magnitude : tie.Need-overflow_cast-x
 cast-magnitude c = rw (to_z-of_z c.ranges.x) (sfits_widen tt c.ranges.x)
 
-cast-magnitude-2 : tie.Need-overflow-cast-magnitude-2
+cast-magnitude-2 : tie.Need-overflow_cast-d
 cast-magnitude-2 c = rw (to_z-of_z c.ranges.d) (sfits_widen tt c.ranges.d)
 
-add-magnitude : tie.Need-overflow-add-magnitude
+add-magnitude : tie.Need-overflow_add-x
 add-magnitude c = rw (x_is c, d_is c) (size_fits w64 _ (omega (arith, far c)))
 
-cast-magnitude-3 : tie.Need-overflow-cast-magnitude-3
+cast-magnitude-3 : tie.Need-overflow_cast-o
 cast-magnitude-3 c = rw (to_z-of_z c.ranges.o) (sfits_widen tt c.ranges.o)
 
-add-magnitude-2 : tie.Need-overflow-add-magnitude-2
+add-magnitude-2 : tie.Need-overflow_add-o
 add-magnitude-2 c = rw (o_is c) (size_fits w64 _ (omega (arith, turn c)))
 
-sub-magnitude : tie.Need-overflow-sub-magnitude
+sub-magnitude : tie.Need-overflow_sub-x
 sub-magnitude c = rw (far_is c, turn_is c) (size_fits w64 _ (less c))
 
 magnitude-requires : tie.Need-magnitude-requires
@@ -83,15 +83,5 @@ returns c =
     let e : c.magnitude.result ≡ nat_abs ((x s +ℤ d s) -ℤ (o s +ℤ pos 3600)) = rw (far_is s, turn_is s, to_z-of_z (size_fits w64 _ (less s))) at c.magnitude.ensures in
     tells _ (int? (x s +ℤ d s) (o s +ℤ pos 3600)) (λ t. same (x s +ℤ d s) (o s +ℤ pos 3600) (rw e at (eqb-true c.magnitude.result 0 t))) (λ t h. eqb-false _ _ t (e ∙ none (x s +ℤ d s) (o s +ℤ pos 3600) h))
 
-pub is-turn-spec : {M : Type 1} → statement M
-is-turn-spec =
-    tie.close
-    (tie.spec
-    cast-magnitude
-    cast-magnitude-2
-    add-magnitude
-    cast-magnitude-3
-    add-magnitude-2
-    sub-magnitude
-    magnitude-requires
-    returns)
+pub is_turn_spec : {M : Type 1} → statement M
+is_turn_spec = tie.close (tie.spec cast-magnitude cast-magnitude-2 add-magnitude cast-magnitude-3 add-magnitude-2 sub-magnitude magnitude-requires returns)

@@ -17,7 +17,7 @@ module _ (c : tie.Start) where
   back_p = to_z-of_z c.ranges.p
 
   wide_o : to_z w64 (of_z w64 (to_z w32 (of_z w32 c.args.o))) ≡ c.args.o
-  wide_o = rw (to_z-of_z c.ranges.o) (to_z-of_z (sfits_widen tt c.ranges.o))
+  wide_o = rw (to_z-of_z c.ranges.o) (to_z-of_z {w = w64} (sfits_widen (tt {0}) c.ranges.o))
 
   read_unit : to_z w64 c.args.unit ≡ pos c.args.unit
   read_unit = to_z_pos w64 (omega (arith, c.requires.1))
@@ -34,20 +34,20 @@ module _ (c : tie.Start) where
   all_fits : SFits w64 (c.args.p -ℤ (pos c.args.unit *ℤ c.args.o))
   all_fits = size_fits w64 _ (omega (arith, offset_size c.args.unit c.args.p c.args.o, size, c.requires.0))
 
-cast-result : tie.Need-overflow-cast-result
+cast-result : tie.Need-overflow_cast-result
 cast-result c = omega (arith, c.requires.1)
 
-cast-result-2 : tie.Need-overflow-cast-result-2
+cast-result-2 : tie.Need-overflow_cast-result-2
 cast-result-2 c = rw (to_z-of_z c.ranges.o) (sfits_widen tt c.ranges.o)
 
-mul-result : tie.Need-overflow-mul-result
+mul-result : tie.Need-overflow_mul-result
 mul-result c = rw (read_unit c, wide_o c) (ten_fits c)
 
-sub-result : tie.Need-overflow-sub-result
+sub-result : tie.Need-overflow_sub-result
 sub-result c = rw (back_p c, times c) (all_fits c)
 
 returns : tie.Need-returns
 returns c = rw (back_p c, times c) (to_z-of_z (all_fits c))
 
-pub offset-spec : {M : Type 1} → statement M
-offset-spec = tie.close (tie.spec cast-result cast-result-2 mul-result sub-result returns)
+pub offset_spec : {M : Type 1} → statement M
+offset_spec = tie.close (tie.spec cast-result cast-result-2 mul-result sub-result returns)

@@ -38,56 +38,45 @@ module _ (s : tie.Start) where
   back_x = to_z-of_z s.ranges.x
 
   back_d : to_z w64 (of_z w64 s.args.d) ≡ s.args.d
-  back_d = to_z-of_z s.fits.d
+  back_d = to_z-of_z s.ranges.d
 
-size : (c : tie.After-magnitude) → c.magnitude.result ≡ nat_abs c.before.args.x
-size c = c.magnitude.ensures ∙ ap nat_abs (back_x c.before)
+size : (c : tie.After-magnitude-m) → c.magnitude-m.result ≡ nat_abs c.args.x
+size c = c.magnitude-m.ensures ∙ ap nat_abs (back_x c.before)
 
-magnitude-requires : tie.Need-magnitude-requires
+magnitude-requires : tie.Need-magnitude-m-requires
 magnitude-requires c κs = search rules
 
-returns : tie.Need-returns
-returns c = none c.before.before.args.x c.before.before.args.d (rw (size c.before) at c.if1.true)
+returns : tie.Need-returns-then-m-eq0
+returns c = none c.args.x c.args.d (rw (size c.before) at c.if-m-eq0.true)
 
 negative-requires : tie.Need-negative-requires
 negative-requires c κs = search rules
 
-negative-requires-2 : tie.Need-negative-requires-2
+negative-requires-2 : tie.Need-negative-requires-then-negative
 negative-requires-2 c κs = search rules
 
-negative-requires-3 : tie.Need-negative-requires-3
+negative-requires-3 : tie.Need-negative-requires-else-negative
 negative-requires-3 c κs = search rules
 
-returns-2 : tie.Need-returns-2
+returns-2 : tie.Need-returns-then-negative-2
 returns-2 c =
     let s = c.before.before.before.before.before.before in
-    rw (size c.before.before.before.before.before) (down s.args.x s.args.d (rw (back_x s) at (sym c.before.before.before.negative.ensures ∙ c.before.before.if2.true)) (rw (back_d s) at (sym c.before.negative2.ensures ∙ c.if3.true)))
+    rw (size c.before.before.before.before.before) (down s.args.x s.args.d (rw (back_x s) at (sym c.negative.ensures ∙ c.if-negative.true)) (rw (back_d s) at (sym c.negative-then-negative.ensures ∙ c.if-negative-2.true)))
 
-returns-3 : tie.Need-returns-3
+returns-3 : tie.Need-returns-else-negative-2
 returns-3 c =
     let s = c.before.before.before.before.before.before in
-    apart_1 s.args.x s.args.d (rw (size c.before.before.before.before.before) at c.before.before.before.before.if1.false) (rw (back_x s) at (sym c.before.before.before.negative.ensures ∙ c.before.before.if2.true)) (rw (back_d s) at (sym c.before.negative2.ensures ∙ c.if3.false))
+    apart_1 s.args.x s.args.d (rw (size c.before.before.before.before.before) at c.if-m-eq0.false) (rw (back_x s) at (sym c.negative.ensures ∙ c.if-negative.true)) (rw (back_d s) at (sym c.negative-then-negative.ensures ∙ c.if-negative-2.false))
 
-returns-4 : tie.Need-returns-4
+returns-4 : tie.Need-returns-then-negative-3
 returns-4 c =
     let s = c.before.before.before.before.before.before in
-    apart_2 s.args.x s.args.d (rw (size c.before.before.before.before.before) at c.before.before.before.before.if1.false) (rw (back_x s) at (sym c.before.before.before.negative.ensures ∙ c.before.before.if2.false)) (rw (back_d s) at (sym c.before.negative3.ensures ∙ c.if4.true))
+    apart_2 s.args.x s.args.d (rw (size c.before.before.before.before.before) at c.if-m-eq0.false) (rw (back_x s) at (sym c.negative.ensures ∙ c.if-negative.false)) (rw (back_d s) at (sym c.negative-else-negative.ensures ∙ c.if-negative-3.true))
 
-returns-5 : tie.Need-returns-5
+returns-5 : tie.Need-returns-else-negative-3
 returns-5 c =
     let s = c.before.before.before.before.before.before in
-    rw (size c.before.before.before.before.before) (aloft s.args.x s.args.d (rw (back_x s) at (sym c.before.before.before.negative.ensures ∙ c.before.before.if2.false)) (rw (back_d s) at (sym c.before.negative3.ensures ∙ c.if4.false)))
+    rw (size c.before.before.before.before.before) (aloft s.args.x s.args.d (rw (back_x s) at (sym c.negative.ensures ∙ c.if-negative.false)) (rw (back_d s) at (sym c.negative-else-negative.ensures ∙ c.if-negative-3.false)))
 
-pub toward-spec : {M : Type 1} → statement M
-toward-spec =
-    tie.close
-    (tie.spec
-    magnitude-requires
-    returns
-    negative-requires
-    negative-requires-2
-    negative-requires-3
-    returns-2
-    returns-3
-    returns-4
-    returns-5)
+pub toward_spec : {M : Type 1} → statement M
+toward_spec = tie.close (tie.spec magnitude-requires returns negative-requires negative-requires-2 negative-requires-3 returns-2 returns-3 returns-4 returns-5)

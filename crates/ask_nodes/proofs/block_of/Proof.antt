@@ -10,20 +10,20 @@ use Rattle.ask_nodes.proofs.block_of.Tie as tie
 layer_small : (s : tie.Start) → s.args.n.map * s.args.s.layers + s.args.s.layer < 2_000_000
 layer_small s = omega (arith, s.requires.0, mul-le-mul_left (s.args.n.map * s.args.s.layers + s.args.s.layer) s.requires.1)
 
-mul-result : tie.Need-overflow-mul-result
+mul-result : tie.Need-overflow_mul-result
 mul-result c = omega (arith, layer_small c.before.before)
 
-add-result : tie.Need-overflow-add-result
+add-result : tie.Need-overflow_add-result
 add-result c = omega (arith, layer_small c.before.before.before)
 
-mul-result-2 : tie.Need-overflow-mul-result-2
+mul-result-2 : tie.Need-overflow_mul-result-2
 mul-result-2 c = search rules
 
-add-result-2 : tie.Need-overflow-add-result-2
+add-result-2 : tie.Need-overflow_add-result-2
 add-result-2 c = search rules
 
 returns : tie.Need-returns
 returns c = search rules
 
-pub block-of-spec : {M : Type 1} → statement M
-block-of-spec = tie.close (tie.spec mul-result add-result mul-result-2 add-result-2 returns)
+pub block_of_spec : {M : Type 1} → statement M
+block_of_spec = tie.close (tie.spec mul-result add-result mul-result-2 add-result-2 returns)

@@ -39,7 +39,7 @@ module _ (c : tie.Start) where
   back_v = to_z-of_z c.ranges.v
 
   wide_v : to_z w64 (of_z w64 (to_z w32 (of_z w32 c.args.v))) ≡ c.args.v
-  wide_v = rw back_v (to_z-of_z (sfits_widen tt c.ranges.v))
+  wide_v = rw back_v (to_z-of_z {w = w64} (sfits_widen (tt {0}) c.ranges.v))
 
   read_w : to_z w64 c.args.w ≡ pos c.args.w
   read_w = to_z_pos w64 c.requires.0
@@ -47,20 +47,20 @@ module _ (c : tie.Start) where
   times : to_z w64 (of_z w64 (to_z w64 c.args.w *ℤ to_z w64 (of_z w64 (to_z w32 (of_z w32 c.args.v))))) ≡ pos c.args.w *ℤ c.args.v
   times = rw (read_w, wide_v) (to_z-of_z (product_fits c.args.t c.args.w c.args.v c.requires.1))
 
-cast-result : tie.Need-overflow-cast-result
+cast-result : tie.Need-overflow_cast-result
 cast-result c = search rules
 
-cast-result-2 : tie.Need-overflow-cast-result-2
+cast-result-2 : tie.Need-overflow_cast-result-2
 cast-result-2 c = rw (back_v c) (sfits_widen tt c.ranges.v)
 
-mul-result : tie.Need-overflow-mul-result
+mul-result : tie.Need-overflow_mul-result
 mul-result c = rw (read_w c, wide_v c) (product_fits c.args.t c.args.w c.args.v c.requires.1)
 
-add-result : tie.Need-overflow-add-result
+add-result : tie.Need-overflow_add-result
 add-result c = rw (back_t c, times c) (sum_fits c.args.t c.args.w c.args.v c.requires.1)
 
 returns : tie.Need-returns
 returns c = rw (back_t c, times c) (to_z-of_z (sum_fits c.args.t c.args.w c.args.v c.requires.1))
 
-pub mul-add-spec : {M : Type 1} → statement M
-mul-add-spec = tie.close (tie.spec cast-result cast-result-2 mul-result add-result returns)
+pub mul_add_spec : {M : Type 1} → statement M
+mul_add_spec = tie.close (tie.spec cast-result cast-result-2 mul-result add-result returns)

@@ -16,24 +16,22 @@ back c = to_z-of_z c.ranges.s
 magnitude-requires : tie.Need-magnitude-requires
 magnitude-requires c κs = rw (back c) (omega arith)
 
-round-abs-requires : tie.Need-round-abs-requires
+round-abs-requires : tie.Need-round_abs-m-requires
 round-abs-requires c κs = omega (arith, c.magnitude.ensures, ap nat_abs (back c.before))
 
 negative-requires : tie.Need-negative-requires
 negative-requires c κs = search rules
 
-with-sign-requires : tie.Need-with-sign-requires
+with-sign-requires : tie.Need-with_sign-requires
 with-sign-requires c κs =
     let s = c.before.before.before in
-    omega (arith, c.before.round-abs.ensures, round_abs_le c.before.before.magnitude.result s.args.d s.requires.0, c.before.before.magnitude.ensures, ap nat_abs (back s), s.requires)
+    omega (arith, c.round_abs-m.ensures, round_abs_le c.magnitude.result s.args.d s.requires.0, c.magnitude.ensures, ap nat_abs (back s), s.requires)
 
 returns : tie.Need-returns
 returns c =
     let s = c.before.before.before.before in
-    to_z-of_z (record { sfits = c.with-sign.type-inv }) ∙ c.with-sign.ensures
-    ∙ (rw (c.before.negative.ensures, c.before.before.round-abs.ensures, c.before.before.before.magnitude.ensures, back s) (sym (round_by_sign s.args.s s.args.d)))
+    to_z-of_z {w = w64} (record { sfits = c.with_sign.type_inv }) ∙ c.with_sign.ensures
+    ∙ (rw (c.negative.ensures, c.round_abs-m.ensures, c.magnitude.ensures, back s) (sym (round_by_sign s.args.s s.args.d)))
 
-pub round-half-away-spec : {M : Type 1} → statement M
-round-half-away-spec =
-    tie.close
-    (tie.spec magnitude-requires round-abs-requires negative-requires with-sign-requires returns)
+pub round_half_away_spec : {M : Type 1} → statement M
+round_half_away_spec = tie.close (tie.spec magnitude-requires round-abs-requires negative-requires with-sign-requires returns)

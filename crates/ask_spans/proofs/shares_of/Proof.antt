@@ -11,88 +11,72 @@ use Rattle.ask_spans.proofs.shares_of.Statement.{statement}
 use Rattle.ask_spans.proofs.shares_of.Tie as tie
 
 -- the last map: the second is its epoch
-ends : (c : tie.Then1) → (c.before.map-before.result + 1 ≡ length c.before.before.before.args.epochs.now) × (c.before.before.before.args.second ≡ epoch c.before.before.before.args.epochs.now c.before.map-before.result)
+ends : (c : tie.Then-epochs-i) → (c.map_before-i.result + 1 ≡ length c.args.epochs.now) × (c.args.second ≡ epoch c.args.epochs.now c.map_before-i.result)
 ends c =
     let s = c.before.before.before in
-    let b = c.before.map-before.ensures in
-    let e : c.before.map-before.result + 1 ≡ length s.args.epochs.now = omega (arith, b.map, c.if1.true) in
-    (e, omega (arith, b.past, s.requires.1.to c.before.map-before.result e))
+    let b = c.map_before-i.ensures in
+    let e : c.map_before-i.result + 1 ≡ length s.args.epochs.now = omega (arith, b.map, c.if-epochs-i.true) in
+    (e, omega (arith, b.past, s.requires.1.to c.map_before-i.result e))
 
 -- a map before the last
-module _ (c : tie.Else1) where
-  more : c.before.map-before.result + 1 < length c.before.before.before.args.epochs.now
-  more = omega (arith, c.before.map-before.ensures.map, c.if1.false)
+module _ (c : tie.Else-epochs-i) where
+  more : c.map_before-i.result + 1 < length c.args.epochs.now
+  more = omega (arith, c.map_before-i.ensures.map, c.if-epochs-i.false)
 
-  soon : c.before.before.before.args.second < epoch c.before.before.before.args.epochs.now (c.before.map-before.result + 1)
-  soon = ⊎_elim (λ e. absurd (omega (arith, more))) (λ h. h) c.before.map-before.ensures.next
+  soon : c.args.second < epoch c.args.epochs.now (c.map_before-i.result + 1)
+  soon = ⊎_elim (λ e. absurd (omega (arith, more))) (λ h. h) c.map_before-i.ensures.next
 
-map-before-requires : tie.Need-map-before-requires
+map-before-requires : tie.Need-map_before-i-requires
 map-before-requires c κs = search rules
 
-sub-if1 : tie.Need-overflow-sub-if1
+sub-if1 : tie.Need-overflow_sub-epochs
 sub-if1 c = search rules
 
-returns : tie.Need-returns
+returns : tie.Need-returns-then-epochs-i
 returns c =
     let s = c.before.before.before in
-    uses_last s.args.epochs.now s.requires.0 s.args.second s.args.method c.before.map-before.result s.requires.2 (ends c).0 (ends c).1
+    uses_last s.args.epochs.now s.requires.0 s.args.second s.args.method c.map_before-i.result s.requires.2 (ends c).0 (ends c).1
 
-mul-late : tie.Need-overflow-mul-late
+mul-late : tie.Need-offset_bounds-epochs-i
 mul-late c = search rules
 
-shared-slice-read-late : tie.Need-shared-slice-read-late
+shared-slice-read-late : tie.Need-bounds-epochs-i
 shared-slice-read-late c = search rules
 
-sub-late : tie.Need-overflow-sub-late
+sub-late : tie.Need-overflow_sub-late
 sub-late c = search rules
 
-add-early : tie.Need-overflow-add-early
+add-early : tie.Need-overflow_add-early
 add-early c = search rules
 
-mul-early : tie.Need-overflow-mul-early
+mul-early : tie.Need-offset_bounds-epochs-i-2
 mul-early c = search rules
 
-shared-slice-read-early : tie.Need-shared-slice-read-early
+shared-slice-read-early : tie.Need-bounds-epochs-i-2
 shared-slice-read-early c = search rules
 
-sub-early : tie.Need-overflow-sub-early
+sub-early : tie.Need-overflow_sub-early
 sub-early c = omega (arith, soon c.before.before)
 
-returns-2 : tie.Need-returns-2
+returns-2 : tie.Need-returns-then-method-eq1
 returns-2 c =
     let l = c.before.before.before in
-    between l.before.map-before.result c.if2.true (more l) l.before.map-before.ensures.past (soon l)
+    between l.map_before-i.result c.if-method-eq1.true (more l) l.map_before-i.ensures.past (soon l)
 
-add-t16 : tie.Need-overflow-add-t16
+add-t16 : tie.Need-overflow_add-result
 add-t16 c = search rules
 
-returns-3 : tie.Need-returns-3
+returns-3 : tie.Need-returns-then-early-late
 returns-3 c =
     let l = c.before.before.before.before in
     let s = l.before.before.before in
-    nearest (l.before.map-before.result + 1) (omega (arith, s.requires.2, c.before.if2.false)) (nearest_late s.args.epochs.now s.requires.0 s.args.second l.before.map-before.result (more l) l.before.map-before.ensures.past (soon l) c.if3.true)
+    nearest (l.map_before-i.result + 1) (omega (arith, s.requires.2, c.if-method-eq1.false)) (nearest_late s.args.epochs.now s.requires.0 s.args.second l.map_before-i.result (more l) l.map_before-i.ensures.past (soon l) c.if-early-late.true)
 
-returns-4 : tie.Need-returns-4
+returns-4 : tie.Need-returns
 returns-4 c =
     let l = c.before.before.before.before in
     let s = l.before.before.before in
-    nearest l.before.map-before.result (omega (arith, s.requires.2, c.before.if2.false)) (nearest_early s.args.epochs.now s.requires.0 s.args.second l.before.map-before.result (more l) l.before.map-before.ensures.past (soon l) c.if3.false)
+    nearest l.map_before-i.result (omega (arith, s.requires.2, c.if-method-eq1.false)) (nearest_early s.args.epochs.now s.requires.0 s.args.second l.map_before-i.result (more l) l.map_before-i.ensures.past (soon l) c.if-early-late.false)
 
-pub shares-of-spec : {M : Type 1} → statement M
-shares-of-spec =
-    tie.close
-    (tie.spec
-    map-before-requires
-    sub-if1
-    returns
-    mul-late
-    shared-slice-read-late
-    sub-late
-    add-early
-    mul-early
-    shared-slice-read-early
-    sub-early
-    returns-2
-    add-t16
-    returns-3
-    returns-4)
+pub shares_of_spec : {M : Type 1} → statement M
+shares_of_spec = tie.close (tie.spec map-before-requires sub-if1 returns mul-late shared-slice-read-late sub-late add-early mul-early shared-slice-read-early sub-early returns-2 add-t16 returns-3 returns-4)

@@ -13,57 +13,47 @@ use Rattle.ask_sums.proofs.add_km.Statement.{statement}
 use Rattle.ask_sums.proofs.add_km.Tie as tie
 
 -- TECU are not added
-returns : tie.Need-returns
+returns : tie.Need-returns-in-Tecu
 returns c = search rules
 
 -- the node's value
-module _ (c : tie.After-struct-told) where
+module _ (c : tie.After-struct_told-1) where
   abbrev v : ℤ
-  v = c.before.before.n2.given.0.0.0
+  v = c.in-Km.v.0
 
   back : to_z w32 (of_z w32 v) ≡ v
   back = search rules
 
   small : nat_abs v ≤ 99_999_000
-  small = rw c.before.before.n2.given.1 at c.before.before.before.before.requires.1
+  small = rw c.in-Km.is at c.requires.1
 
-mul-add-requires : tie.Need-mul-add-requires
+mul-add-requires : tie.Need-mul_add-requires
 mul-add-requires c κs =
-    let s = c.before.before.before.before in
+    let s = c.before.before in
     rw (to_z-of_z s.ranges.total, back c) (omega (arith, s.requires.0), omega (arith, s.requires.0, mul-le-mul (le_refl s.args.weight) (small c)))
 
-returns-2 : tie.Need-returns-2
+returns-2 : tie.Need-returns-in-Km
 returns-2 c =
     let d = c.before in
-    let s = d.before.before.before.before in
-    let r : to_z w64 (of_z w64 c.mul-add.result) ≡ c.mul-add.result = search rules in
-    let e = rw (to_z-of_z s.ranges.total, back d) at c.mul-add.ensures in
-    rw d.before.before.n2.given.1 (ap (λ (z : ℤ). S.Km z (s.args.weights + s.args.weight)) (r ∙ e))
+    let s = d.before.before in
+    let r : to_z w64 (of_z w64 c.mul_add.result) ≡ c.mul_add.result = search rules in
+    let e = rw (to_z-of_z s.ranges.total, back d) at c.mul_add.ensures in
+    rw d.in-Km.is (ap (λ (z : ℤ). S.Km z (s.args.weights + s.args.weight)) (r ∙ e))
 
-enum-known-n : tie.Need-enum-known-n
+enum-known-n : tie.Need-enum_known-n
 enum-known-n c = search rules
 
-enum-known-n-2 : tie.Need-enum-known-n-2
+enum-known-n-2 : tie.Need-enum_known-n-in-Km-1
 enum-known-n-2 c = search rules
 
-add-t9 : tie.Need-overflow-add-t9
+add-t9 : tie.Need-overflow_add-result
 add-t9 c = search rules
 
-enum_told : tie.Need-enum-told
+enum_told : tie.Need-enum_told-1
 enum_told c = search rules
 
-returns-3 : tie.Need-returns-3
+returns-3 : tie.Need-returns-in-Nothing
 returns-3 c = search rules
 
-pub add-km-spec : {M : Type 1} → statement M
-add-km-spec =
-    tie.close
-    (tie.spec
-    enum-known-n
-    enum-known-n-2
-    mul-add-requires
-    add-t9
-    enum_told
-    returns
-    returns-2
-    returns-3)
+pub add_km_spec : {M : Type 1} → statement M
+add_km_spec = tie.close (tie.spec enum-known-n enum-known-n-2 mul-add-requires add-t9 enum_told returns returns-2 returns-3)

@@ -13,22 +13,22 @@ use Rattle.c_given.proofs.held.Tie as tie
 negative-requires : tie.Need-negative-requires
 negative-requires c κs = search rules
 
-below : (c : tie.After-negative) → lt_z c.before.args.x (pos 0) ≡ c.negative.result
-below c = sym (rw (to_z-of_z c.before.ranges.x) at c.negative.ensures)
+below : (c : tie.After-negative) → lt_z c.args.x (pos 0) ≡ c.negative.result
+below c = sym (rw (to_z-of_z c.ranges.x) at c.negative.ensures)
 
-returns : tie.Need-returns
-returns c = let s = c.before.before in bounded_below s.args.high s.args.x (below c.before ∙ c.if1.true)
+returns : tie.Need-returns-then-negative
+returns c = let s = c.before.before in bounded_below s.args.high s.args.x (below c.before ∙ c.if-negative.true)
 
-cast-m : tie.Need-overflow-cast-m
+cast-m : tie.Need-overflow_cast-m
 cast-m c =
     let s = c.before.before in
-    rw (to_z-of_z s.ranges.x) (nonneg_parts s.args.x (not_below_zero s.args.x (below c.before ∙ c.if1.false)).0, record { fits = omega (arith, size_of_fits w64 s.args.x s.ranges.x) })
+    rw (to_z-of_z s.ranges.x) (nonneg_parts s.args.x (not_below_zero s.args.x (below c.before ∙ c.if-negative.false)).0, record { fits = omega (arith, size_of_fits w64 s.args.x s.ranges.x) })
 
-returns-2 : tie.Need-returns-2
-returns-2 c = let s = c.before.before.before in bounded_above s.args.high s.args.x (below c.before.before ∙ c.before.if1.false) (rw (to_z-of_z s.ranges.x) at c.if2.true)
+returns-2 : tie.Need-returns-then-high-m
+returns-2 c = let s = c.before.before.before in bounded_above s.args.high s.args.x (below c.before.before ∙ c.if-negative.false) (rw (to_z-of_z s.ranges.x) at c.if-high-m.true)
 
-returns-3 : tie.Need-returns-3
-returns-3 c = let s = c.before.before.before in rw (to_z-of_z s.ranges.x) (bounded_within s.args.high s.args.x (below c.before.before ∙ c.before.if1.false) (rw (to_z-of_z s.ranges.x) at c.if2.false))
+returns-3 : tie.Need-returns
+returns-3 c = let s = c.before.before.before in rw (to_z-of_z s.ranges.x) (bounded_within s.args.high s.args.x (below c.before.before ∙ c.if-negative.false) (rw (to_z-of_z s.ranges.x) at c.if-high-m.false))
 
 pub held_spec : {M : Type 1} → statement M
 held_spec = tie.close (tie.spec negative-requires returns cast-m returns-2 returns-3)

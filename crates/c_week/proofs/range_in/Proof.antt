@@ -22,31 +22,31 @@ module _ (s : tie.Start) where
   low_is = to_z-of_z s.ranges.low
 
   high_is : to_z w64 (of_z w64 s.args.high) ≡ s.args.high
-  high_is = to_z-of_z s.fits.high
+  high_is = to_z-of_z s.ranges.high
 
-module _ (c : tie.After-between2) where
+module _ (c : tie.After-between-2) where
   abbrev s : tie.Start
   s = c.before.before.before
 
-  told : (c.before.between.result && c.between2.result) ≡ truth (narrow? s.args.low s.args.high)
+  told : (c.between.result && c.between-2.result) ≡ truth (narrow? s.args.low s.args.high)
   told =
       both (between? (negsuc 2147483647) (pos 2147483647) s.args.low) (between? (negsuc 2147483647) (pos 2147483647) s.args.high)
-      (rw (low_is s) at c.before.between.ensures) (rw (high_is s) at c.between2.ensures)
+      (rw (low_is s) at c.between.ensures) (rw (high_is s) at c.between-2.ensures)
 
-is_narrow : (c : tie.Then2) → Narrow (s c.before).args.low × Narrow (s c.before).args.high
-is_narrow c = truth_true _ (sym (told c.before) ∙ c.if2.true)
+is_narrow : (c : tie.Then-between) → Narrow (s c.before).args.low × Narrow (s c.before).args.high
+is_narrow c = truth_true _ (sym (told c.before) ∙ c.if-between.true)
 
 -- a number of 32 bits
 kept : (z : ℤ) → to_z w64 (of_z w64 z) ≡ z → Narrow z → to_z w32 (of_z w32 (to_z w64 (of_z w64 z))) ≡ z
 kept z e n = rw e (to_z-of_z (narrow_fits z n))
 
-no-range-requires : tie.Need-no-range-requires
+no-range-requires : tie.Need-no_range-requires
 no-range-requires c κs = search rules
 
-returns : tie.Need-returns
+returns : tie.Need-returns-then-given-eq0
 returns c =
     let s = c.before.before in
-    (rw (low_is s, high_is s) at c.no-range.ensures) ∙ ap (λ (n : ℕ). range_of n s.args.low s.args.high) (omega (arith, c.before.if1.true))
+    (rw (low_is s, high_is s) at c.no_range.ensures) ∙ ap (λ (n : ℕ). range_of n s.args.low s.args.high) (omega (arith, c.if-given-eq0.true))
 
 between-requires : tie.Need-between-requires
 between-requires c κs = search rules
@@ -54,32 +54,22 @@ between-requires c κs = search rules
 between-requires-2 : tie.Need-between-requires-2
 between-requires-2 c κs = search rules
 
-cast-t7 : tie.Need-overflow-cast-t7
+cast-t7 : tie.Need-overflow_cast-result
 cast-t7 c = let a = s c.before in rw (low_is a) (narrow_fits a.args.low (is_narrow c).0)
 
-cast-t8 : tie.Need-overflow-cast-t8
+cast-t8 : tie.Need-overflow_cast-result-then-between
 cast-t8 c = let a = s c.before in rw (high_is a) (narrow_fits a.args.high (is_narrow c).1)
 
-returns-2 : tie.Need-returns-2
+returns-2 : tie.Need-returns-then-between
 returns-2 c =
     let a = s c.before in
     ap₂ R.From (kept a.args.low (low_is a) (is_narrow c).0) (kept a.args.high (high_is a) (is_narrow c).1)
-    ∙ range_from a.args.low a.args.high a.args.given (λ e. omega (arith, e, c.before.before.before.if1.false)) (is_narrow c)
+    ∙ range_from a.args.low a.args.high a.args.given (λ e. omega (arith, e, c.if-given-eq0.false)) (is_narrow c)
 
-returns-3 : tie.Need-returns-3
+returns-3 : tie.Need-returns
 returns-3 c =
     let a = s c.before in
-    range_wide a.args.low a.args.high a.args.given (λ e. omega (arith, e, c.before.before.before.if1.false)) (truth_false _ (sym (told c.before) ∙ c.if2.false))
+    range_wide a.args.low a.args.high a.args.given (λ e. omega (arith, e, c.if-given-eq0.false)) (truth_false _ (sym (told c.before) ∙ c.if-between.false))
 
-pub range-in-spec : {M : Type 1} → statement M
-range-in-spec =
-    tie.close
-    (tie.spec
-    no-range-requires
-    returns
-    between-requires
-    between-requires-2
-    cast-t7
-    cast-t8
-    returns-2
-    returns-3)
+pub range_in_spec : {M : Type 1} → statement M
+range_in_spec = tie.close (tie.spec no-range-requires returns between-requires between-requires-2 cast-t7 cast-t8 returns-2 returns-3)

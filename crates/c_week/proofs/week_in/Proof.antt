@@ -12,14 +12,14 @@ use Rattle.c_week.proofs.WeekLaws.{week_broken, week_plain}
 use Rattle.c_week.proofs.week_in.Statement.{statement}
 use Rattle.c_week.proofs.week_in.Tie as tie
 
-shared-slice-copy-out-negative : tie.Need-shared-slice-copy-out-negative
+shared-slice-copy-out-negative : tie.Need-bounds-n-0
 shared-slice-copy-out-negative c = search rules
 
 negative-requires : tie.Need-negative-requires
 negative-requires c κs = search rules
 
 -- whether the number of sets is negative
-negative : (c : tie.After-negative) → lt_z (get_or c.before.before.args.n.now 0 (pos 0)) (pos 0) ≡ c.negative.result
+negative : (c : tie.After-negative) → lt_z (get_or c.args.n.now 0 (pos 0)) (pos 0) ≡ c.negative.result
 negative c =
     let s = c.before.before in
     let x : to_z w64 (of_z w64 (get_or s.args.n.now 0 (pos 0))) ≡ get_or s.args.n.now 0 (pos 0) = search rules in
@@ -28,47 +28,35 @@ negative c =
 broken-requires : tie.Need-broken-requires
 broken-requires c κs = search rules
 
-returns : tie.Need-returns
-returns c = let n = c.before.before in week_broken n.before.before.args.n.now (negative n ∙ c.before.if1.true) c.broken.ensures
+returns : tie.Need-returns-then-negative
+returns c = let n = c.before.before in week_broken n.args.n.now (negative n ∙ c.if-negative.true) c.broken.ensures
 
-shared-slice-copy-out-held : tie.Need-shared-slice-copy-out-held
+shared-slice-copy-out-held : tie.Need-bounds-n-0-2
 shared-slice-copy-out-held c = search rules
 
 held-requires : tie.Need-held-requires
 held-requires c κs = search rules
 
-tally-in-requires : tie.Need-tally-in-requires
+tally-in-requires : tie.Need-tally_in-requires
 tally-in-requires c κs = search rules
 
-tally-in-requires-2 : tie.Need-tally-in-requires-2
+tally-in-requires-2 : tie.Need-tally_in-requires-2
 tally-in-requires-2 c κs = search rules
 
-tally-in-requires-3 : tie.Need-tally-in-requires-3
+tally-in-requires-3 : tie.Need-tally_in-requires-3
 tally-in-requires-3 c κs = search rules
 
 -- where each kind's five numbers begin
-returns-2 : tie.Need-returns-2
+returns-2 : tie.Need-returns
 returns-2 c =
     let h = c.before.before.before in
     let e = h.before.before in
     let s = e.before.before.before in
     let x : to_z w64 (of_z w64 (get_or s.args.n.now 0 (pos 0))) ≡ get_or s.args.n.now 0 (pos 0) = search rules in
-    let tec : c.before.before.tally-in.result ≡ tally_at s.args.n.now 1 = c.before.before.tally-in.ensures in
-    let rms : c.before.tally-in2.result ≡ tally_at s.args.n.now 6 = c.before.tally-in2.ensures in
-    let height : c.tally-in3.result ≡ tally_at s.args.n.now 11 = c.tally-in3.ensures in
-    week_plain s.args.n.now (negative e.before ∙ e.if1.false) (same (h.held.ensures ∙ ap count_of x) tec rms height)
+    let tec : c.tally_in.result ≡ tally_at s.args.n.now 1 = c.tally_in.ensures in
+    let rms : c.tally_in-2.result ≡ tally_at s.args.n.now 6 = c.tally_in-2.ensures in
+    let height : c.tally_in-3.result ≡ tally_at s.args.n.now 11 = c.tally_in-3.ensures in
+    week_plain s.args.n.now (negative e.before ∙ e.if-negative.false) (same (h.held.ensures ∙ ap count_of x) tec rms height)
 
-pub week-in-spec : {M : Type 1} → statement M
-week-in-spec =
-    tie.close
-    (tie.spec
-    shared-slice-copy-out-negative
-    negative-requires
-    broken-requires
-    returns
-    shared-slice-copy-out-held
-    held-requires
-    tally-in-requires
-    tally-in-requires-2
-    tally-in-requires-3
-    returns-2)
+pub week_in_spec : {M : Type 1} → statement M
+week_in_spec = tie.close (tie.spec shared-slice-copy-out-negative negative-requires broken-requires returns shared-slice-copy-out-held held-requires tally-in-requires tally-in-requires-2 tally-in-requires-3 returns-2)

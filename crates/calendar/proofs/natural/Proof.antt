@@ -23,16 +23,16 @@ above (negsuc n) h = absurd (omega arith)
 back : (s : tie.Start) → to_z w32 (of_z w32 s.args.x) ≡ s.args.x
 back s = to_z-of_z s.ranges.x
 
-cast-result : tie.Need-overflow-cast-result
+cast-result : tie.Need-overflow_cast-result
 cast-result c =
     let s = c.before in
-    rw (back s) (nonneg_parts s.args.x (not_below_zero s.args.x (rw (back s) at c.if1.false)).0, record { fits = omega (arith, size_of_fits w32 s.args.x s.ranges.x) })
+    rw (back s) (nonneg_parts s.args.x (not_below_zero s.args.x (rw (back s) at c.if-x-lt0.false)).0, record { fits = omega (arith, size_of_fits w32 s.args.x s.ranges.x) })
 
-returns : tie.Need-returns
-returns c = let s = c.before in sym (below s.args.x (omega (arith, lt_true s.args.x (pos 0) (rw (back s) at c.if1.true))))
+returns : tie.Need-returns-then-x-lt0
+returns c = let s = c.before in sym (below s.args.x (omega (arith, lt_true s.args.x (pos 0) (rw (back s) at c.if-x-lt0.true))))
 
-returns-2 : tie.Need-returns-2
-returns-2 c = let s = c.before in rw (back s) (sym (above s.args.x (not_below_zero s.args.x (rw (back s) at c.if1.false)).0))
+returns-2 : tie.Need-returns-else-x-lt0
+returns-2 c = let s = c.before in rw (back s) (sym (above s.args.x (not_below_zero s.args.x (rw (back s) at c.if-x-lt0.false)).0))
 
-pub natural-spec : {M : Type 1} → statement M
-natural-spec = tie.close (tie.spec cast-result returns returns-2)
+pub natural_spec : {M : Type 1} → statement M
+natural_spec = tie.close (tie.spec cast-result returns returns-2)

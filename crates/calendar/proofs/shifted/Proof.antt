@@ -39,7 +39,7 @@ ahead s b l = eq_parts _ (pos s +ℤ b) (omega (arith, add_parts (pos s) b, not_
 by_is : (s : tie.Start) → to_z w64 (of_z w64 s.args.by) ≡ s.args.by
 by_is s = to_z-of_z s.ranges.by
 
-module _ (c : tie.Then1) where
+module _ (c : tie.Then-by-lt0) where
   abbrev start : tie.Start
   start = c.before
 
@@ -47,62 +47,60 @@ module _ (c : tie.Then1) where
   sum = pos start.args.s +ℤ start.args.by
 
   earlier : lt_z start.args.by (pos 0) ≡ true
-  earlier = rw (by_is start) at c.if1.true
+  earlier = rw (by_is start) at c.if-by-lt0.true
 
   sum_fits : SFits w64 sum
-  sum_fits = back_fits start.args.s start.args.by start.pre start.fits.by earlier
+  sum_fits = back_fits start.args.s start.args.by start.requires start.ranges.by earlier
 
   sum_is : to_z w64 start.args.s +ℤ to_z w64 (of_z w64 start.args.by) ≡ sum
-  sum_is = rw (to_z_pos w64 {n = start.args.s} (omega (arith, start.pre)), by_is start) refl
+  sum_is = rw (to_z_pos w64 {n = start.args.s} (omega (arith, start.requires)), by_is start) refl
 
   t_is : to_z w64 (of_z w64 (to_z w64 start.args.s +ℤ to_z w64 (of_z w64 start.args.by))) ≡ sum
   t_is = rw sum_is (to_z-of_z sum_fits)
 
-cast-earlier : tie.Need-overflow-cast-earlier
+cast-earlier : tie.Need-overflow_cast-earlier
 cast-earlier c = search rules
 
-add-earlier : tie.Need-overflow-add-earlier
+add-earlier : tie.Need-overflow_add-earlier
 add-earlier c = rw (sum_is c) (sum_fits c)
 
-returns : tie.Need-returns
-returns c = (refl, λ t m. omega (arith, lt_true (sum c.before) (pos 0) (rw (t_is c.before) at c.if2.true), ap up m.1, ap dn m.1))
+returns : tie.Need-returns-then-earlier-lt0
+returns c = (refl, λ t m. omega (arith, lt_true (sum c.before) (pos 0) (rw (t_is c.before) at c.if-earlier-lt0.true), ap up m.1, ap dn m.1))
 
-cast-t8 : tie.Need-overflow-cast-t8
+cast-t8 : tie.Need-overflow_cast-result
 cast-t8 c =
     let d = c.before in
-    let e = rw (t_is d) at c.if2.false in
-    rw (t_is d) (nonneg_parts (sum d) (not_below_zero (sum d) e).0, record { fits = omega (arith, (back_moment d.before.args.s d.before.args.by d.before.requires d.before.ranges.by (earlier d) e).0) })
+    let e = rw (t_is d) at c.if-earlier-lt0.false in
+    rw (t_is d) (nonneg_parts (sum d) (not_below_zero (sum d) e).0, record { fits = omega (arith, (back_moment d.args.s d.args.by d.requires d.ranges.by (earlier d) e).0) })
 
-returns-2 : tie.Need-returns-2
+returns-2 : tie.Need-returns-then-by-lt0
 returns-2 c =
     let d = c.before in
-    rw (t_is d) (back_moment d.before.args.s d.before.args.by d.before.requires d.before.ranges.by (earlier d) (rw (t_is d) at c.if2.false))
+    rw (t_is d) (back_moment d.args.s d.args.by d.requires d.ranges.by (earlier d) (rw (t_is d) at c.if-earlier-lt0.false))
 
-module _ (c : tie.Else1) where
-  later : lt_z c.before.args.by (pos 0) ≡ false
-  later = rw (by_is c.before) at c.if1.false
+module _ (c : tie.Else-by-lt0) where
+  later : lt_z c.args.by (pos 0) ≡ false
+  later = rw (by_is c.before) at c.if-by-lt0.false
 
-  ahead_is : pos (c.before.args.s + nat_abs c.before.args.by) ≡ pos c.before.args.s +ℤ c.before.args.by
-  ahead_is = ahead c.before.args.s c.before.args.by later
+  ahead_is : pos (c.args.s + nat_abs c.args.by) ≡ pos c.args.s +ℤ c.args.by
+  ahead_is = ahead c.args.s c.args.by later
 
-cast-later : tie.Need-overflow-cast-later
+cast-later : tie.Need-overflow_cast-later
 cast-later c =
-    let b : ℤ = c.before.args.by in
+    let b : ℤ = c.args.by in
     let n = not_below_zero b (later c) in
-    rw (by_is c.before) (nonneg_parts b n.0, record { fits = omega (arith, n, parts_fits b c.before.ranges.by) })
+    rw (by_is c.before) (nonneg_parts b n.0, record { fits = omega (arith, n, parts_fits b c.ranges.by) })
 
-add-later : tie.Need-overflow-add-later
+add-later : tie.Need-overflow_add-later
 add-later c =
-    let b : ℤ = c.before.args.by in
-    rw (by_is c.before) (record { fits = omega (arith, not_below_zero b (later c), parts_fits b c.before.ranges.by) })
+    let b : ℤ = c.args.by in
+    rw (by_is c.before) (record { fits = omega (arith, not_below_zero b (later c), parts_fits b c.ranges.by) })
 
-returns-3 : tie.Need-returns-3
-returns-3 c = rw (by_is c.before.before) (rw (by_is c.before.before) at c.if3.true, ahead_is c.before)
+returns-3 : tie.Need-returns-then-later-lt-END
+returns-3 c = rw (by_is c.before.before) (rw (by_is c.before.before) at c.if-later-lt-END.true, ahead_is c.before)
 
-returns-4 : tie.Need-returns-4
-returns-4 c = (refl, λ t m. let k = rw (by_is c.before.before) at c.if3.false in omega (arith, k, m.0, ap up (ahead_is c.before), ap up m.1))
+returns-4 : tie.Need-returns-else-later-lt-END
+returns-4 c = (refl, λ t m. let k = rw (by_is c.before.before) at c.if-later-lt-END.false in omega (arith, k, m.0, ap up (ahead_is c.before), ap up m.1))
 
-pub shifted-spec : {M : Type 1} → statement M
-shifted-spec =
-    tie.close
-    (tie.spec cast-earlier add-earlier returns cast-t8 returns-2 cast-later add-later returns-3 returns-4)
+pub shifted_spec : {M : Type 1} → statement M
+shifted_spec = tie.close (tie.spec cast-earlier add-earlier returns cast-t8 returns-2 cast-later add-later returns-3 returns-4)

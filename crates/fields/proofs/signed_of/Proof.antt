@@ -11,21 +11,21 @@ use Rattle.forms.proofs.ShowLaws.{signed_size}
 use Rattle.fields.proofs.signed_of.Statement.{statement}
 use Rattle.fields.proofs.signed_of.Tie as tie
 
-with-sign-requires : tie.Need-with-sign-requires
+with-sign-requires : tie.Need-with_sign-requires
 with-sign-requires c κs = search rules
 
-module _ (c : tie.After-with-sign) where
-  back : to_z w64 (of_z w64 c.with-sign.result) ≡ c.with-sign.result
-  back = to_z-of_z (record { sfits = c.with-sign.type-inv })
+module _ (c : tie.After-with_sign) where
+  back : to_z w64 (of_z w64 c.with_sign.result) ≡ c.with_sign.result
+  back = to_z-of_z {w = w64} (record { sfits = c.with_sign.type_inv })
 
-  fits : SFits w32 (signed c.before.args.minus c.before.args.n)
-  fits = size_fits w32 _ (rw signed_size (omega (arith, c.before.requires)))
+  fits : SFits w32 (signed c.args.minus c.args.n)
+  fits = size_fits w32 _ (rw signed_size (omega (arith, c.requires)))
 
-cast-result : tie.Need-overflow-cast-result
-cast-result c = rw (back c, c.with-sign.ensures) (fits c)
+cast-result : tie.Need-overflow_cast-result
+cast-result c = rw (back c, c.with_sign.ensures) (fits c)
 
 returns : tie.Need-returns
-returns c = rw (back c, c.with-sign.ensures) (to_z-of_z (fits c))
+returns c = rw (back c, c.with_sign.ensures) (to_z-of_z (fits c))
 
-pub signed-of-spec : {M : Type 1} → statement M
-signed-of-spec = tie.close (tie.spec with-sign-requires cast-result returns)
+pub signed_of_spec : {M : Type 1} → statement M
+signed_of_spec = tie.close (tie.spec with-sign-requires cast-result returns)

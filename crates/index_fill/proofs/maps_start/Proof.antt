@@ -11,37 +11,35 @@ use Rattle.index_fill.proofs.HeadLaws.{Heading, heading_more, heading_stop, head
 use Rattle.index_fill.proofs.maps_start.Statement.{statement}
 use Rattle.index_fill.proofs.maps_start.Tie as tie
 
-abbrev invariant-loop : tie.invariant-loop
+abbrev invariant-loop : tie.invariant-loop-w
 invariant-loop text w₀ w = Heading text w
 
-abbrev decreases-loop : tie.decreases-loop
+abbrev decreases-loop : tie.decreases-loop-w
 decreases-loop text w₀ w = length text - w.at
 
-w_is : (c : tie.After-struct-told invariant-loop decreases-loop) → to_z w32 (of_z w32 c.before.before.before.loop.w.exponent) ≡ c.before.before.before.loop.w.exponent
+w_is : (c : tie.After-struct_told-1 invariant-loop decreases-loop) → to_z w32 (of_z w32 c.loop-w.w.exponent) ≡ c.loop-w.w.exponent
 w_is c = search rules
 
-walked : (c : tie.After-walk-at invariant-loop decreases-loop) → let w = c.before.before.before.before.loop.w in Walks c.before.before.before.before.before.before.args.text.now w.at w.aux w.exponent c.walk_at.result
-walked c = rw (w_is c.before) at c.walk_at.ensures
+walked : (c : tie.After-walk_at-w invariant-loop decreases-loop) → let w = c.loop-w.w in Walks c.args.text.now w.at w.aux w.exponent c.walk_at-w.result
+walked c = rw (w_is c.before) at c.walk_at-w.ensures
 
-loop-holds : tie.Need-loop-init invariant-loop decreases-loop
+loop-holds : tie.Need-loop-w-init invariant-loop decreases-loop
 loop-holds c = record { within = omega arith; goal = refl }
 
-walk-at-requires : tie.Need-walk-at-requires invariant-loop decreases-loop
-walk-at-requires c κs = omega (arith, c.before.if1.true)
+walk-at-requires : tie.Need-walk_at-w-requires invariant-loop decreases-loop
+walk-at-requires c κs = omega (arith, c.loop-w-test.true)
 
-returns : tie.Need-returns invariant-loop decreases-loop
-returns c = let l = c.before.before.before.before.before in heading_stop l.before.before.args.text.now l.loop.w l.loop.invariant c.before.walk_at.result (walked c.before) c.if2.true
+returns : tie.Need-returns-then-w invariant-loop decreases-loop
+returns c = let l = c.before.before.before.before.before in heading_stop l.args.text.now l.loop-w.w l.loop-w.invariant c.walk_at-w.result (walked c.before) c.if-w.true
 
-loop-less : tie.Need-loop-smaller invariant-loop decreases-loop
-loop-less c = let l = c.before.before.before.before.before in omega (arith, c.before.walk_at.ensures.ahead, c.before.walk_at.ensures.within)
+loop-less : tie.Need-loop-w-smaller invariant-loop decreases-loop
+loop-less c = let l = c.before.before.before.before.before in omega (arith, c.walk_at-w.ensures.ahead, c.walk_at-w.ensures.within)
 
-loop-again : tie.Need-loop-preserved invariant-loop decreases-loop
-loop-again c = let l = c.before.before.before.before.before in heading_more l.before.before.args.text.now l.loop.w l.loop.invariant c.before.walk_at.result (walked c.before) c.if2.false
+loop-again : tie.Need-loop-w-preserved invariant-loop decreases-loop
+loop-again c = let l = c.before.before.before.before.before in heading_more l.args.text.now l.loop-w.w l.loop-w.invariant c.walk_at-w.result (walked c.before) c.if-w.false
 
-returns-2 : tie.Need-returns-2 invariant-loop decreases-loop
-returns-2 c = let l = c.before.before in heading_end l.before.before.args.text.now l.loop.w l.loop.invariant (omega (arith, c.if1.false))
+returns-2 : tie.Need-returns invariant-loop decreases-loop
+returns-2 c = let l = c.before.before in heading_end l.args.text.now l.loop-w.w l.loop-w.invariant (omega (arith, c.loop-w-test.false))
 
-pub maps-start-spec : {M : Type 1} → statement M
-maps-start-spec =
-    tie.close
-    (tie.spec invariant-loop decreases-loop loop-holds walk-at-requires returns loop-less loop-again returns-2)
+pub maps_start_spec : {M : Type 1} → statement M
+maps_start_spec = tie.close (tie.spec invariant-loop decreases-loop loop-holds walk-at-requires returns loop-less loop-again returns-2)

@@ -8,7 +8,7 @@ use borrow.Author.Rules.{rules}
 use Rattle.index_node.proofs.done_before.Statement.{statement}
 use Rattle.index_node.proofs.done_before.Tie as tie
 
-few : (c : tie.After-nodes) → c.before.args.layer * c.nodes.result ≤ 23104
+few : (c : tie.After-nodes) → c.args.layer * c.nodes.result ≤ 23104
 few c =
     let b = c.before in
     let e : b.args.layer * c.nodes.result ≡ b.args.layer * rows b.args.header.grid = ap (λ n. b.args.layer * n) c.nodes.ensures in
@@ -17,14 +17,14 @@ few c =
 nodes-requires : tie.Need-nodes-requires
 nodes-requires c κs = search rules
 
-mul-result : tie.Need-overflow-mul-result
+mul-result : tie.Need-overflow_mul-result
 mul-result c = omega (arith, few c)
 
-add-result : tie.Need-overflow-add-result
+add-result : tie.Need-overflow_add-result
 add-result c = omega (arith, few c)
 
 returns : tie.Need-returns
-returns c = ap (λ n. c.before.args.layer * n + c.before.args.row) c.nodes.ensures
+returns c = ap (λ n. c.args.layer * n + c.args.row) c.nodes.ensures
 
-pub done-before-spec : {M : Type 1} → statement M
-done-before-spec = tie.close (tie.spec nodes-requires mul-result add-result returns)
+pub done_before_spec : {M : Type 1} → statement M
+done_before_spec = tie.close (tie.spec nodes-requires mul-result add-result returns)

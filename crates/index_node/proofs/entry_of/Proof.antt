@@ -10,44 +10,44 @@ use borrow.Author.Rules.{rules}
 use Rattle.index_node.proofs.entry_of.Statement.{statement}
 use Rattle.index_node.proofs.entry_of.Tie as tie
 
-few : (c : tie.After-struct-known) → blocks c.before.before.args.header ≤ 2000000
+few : (c : tie.After-struct_known-1) → blocks c.args.header ≤ 2000000
 few c = let b = c.before.before in few_blocks b.args.header.times.maps b.args.header.grid b.requires.0
 
-all_is : (c : tie.After-struct-known) → c.before.before.args.header.times.maps * c.before.per-map.result ≡ blocks c.before.before.args.header
-all_is c = ap (λ n. c.before.before.args.header.times.maps * n) c.before.per-map.ensures
+all_is : (c : tie.After-struct_known-1) → c.args.header.times.maps * c.per_map-size.result ≡ blocks c.args.header
+all_is c = ap (λ n. c.args.header.times.maps * n) c.per_map-size.ensures
 
-place_is : (c : tie.After-struct-known) → (c.before.before.args.map - 1) * c.before.per-map.result ≡ (c.before.before.args.map - 1) * per_map c.before.before.args.header
-place_is c = ap (λ n. (c.before.before.args.map - 1) * n) c.before.per-map.ensures
+place_is : (c : tie.After-struct_known-1) → (c.args.map - 1) * c.per_map-size.result ≡ (c.args.map - 1) * per_map c.args.header
+place_is c = ap (λ n. (c.args.map - 1) * n) c.per_map-size.ensures
 
-per-map-requires : tie.Need-per-map-requires
+per-map-requires : tie.Need-per_map-size-requires
 per-map-requires c κs = search rules
 
-cast-all : tie.Need-overflow-cast-all
+cast-all : tie.Need-overflow_cast-all
 cast-all c = search rules
 
-mul-all : tie.Need-overflow-mul-all
+mul-all : tie.Need-overflow_mul-all
 mul-all c = omega (arith, few c, all_is c)
 
-sub-place : tie.Need-overflow-sub-place
+sub-place : tie.Need-overflow_sub-place
 sub-place c = search rules
 
-mul-place : tie.Need-overflow-mul-place
-mul-place c = omega (arith, few c, place_is c, c.before.before.requires.1.1)
+mul-place : tie.Need-overflow_mul-place
+mul-place c = omega (arith, few c, place_is c, c.requires.1.1)
 
-add-place : tie.Need-overflow-add-place
-add-place c = omega (arith, few c, place_is c, c.before.before.requires.1.1)
+add-place : tie.Need-overflow_add-place
+add-place c = omega (arith, few c, place_is c, c.requires.1.1)
 
-kind-of-requires : tie.Need-kind-of-requires
+kind-of-requires : tie.Need-kind_of-requires
 kind-of-requires c κs = search rules
 
-blocks-before-requires : tie.Need-blocks-before-requires
+blocks-before-requires : tie.Need-blocks_before-requires
 blocks-before-requires c κs = let s = c.before in omega (arith, few s, all_is s)
 
 -- where the kind's entries begin
-first_is : (c : tie.After-blocks-before) → let a = c.before.before.before.before.args in c.blocks-before.result ≡ first_of (kind_of a.kind) (blocks a.header)
-first_is c = c.blocks-before.ensures ∙ (λ i. first_of (c.before.kind-of.ensures i) (all_is c.before.before i))
+first_is : (c : tie.After-blocks_before) → let a = c.args in c.blocks_before.result ≡ first_of (kind_of a.kind) (blocks a.header)
+first_is c = c.blocks_before.ensures ∙ (λ i. first_of (c.kind_of.ensures i) (all_is c.before.before i))
 
-add-result : tie.Need-overflow-add-result
+add-result : tie.Need-overflow_add-result
 add-result c =
     let s = c.before.before in
     let b = s.before.before in
@@ -56,19 +56,7 @@ add-result c =
 returns : tie.Need-returns
 returns c =
     let s = c.before.before in
-    ap₂ ◌+◌ (first_is c) (ap (λ n. n + s.before.before.args.d) (place_is s))
+    ap₂ ◌+◌ (first_is c) (ap (λ n. n + s.args.d) (place_is s))
 
-pub entry-of-spec : {M : Type 1} → statement M
-entry-of-spec =
-    tie.close
-    (tie.spec
-    per-map-requires
-    cast-all
-    mul-all
-    sub-place
-    mul-place
-    add-place
-    kind-of-requires
-    blocks-before-requires
-    add-result
-    returns)
+pub entry_of_spec : {M : Type 1} → statement M
+entry_of_spec = tie.close (tie.spec per-map-requires cast-all mul-all sub-place mul-place add-place kind-of-requires blocks-before-requires add-result returns)

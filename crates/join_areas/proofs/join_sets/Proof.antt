@@ -26,54 +26,40 @@ said x y v w p e = subst (Said x y) e p
 judged-requires : tie.Need-judged-requires
 judged-requires c κs = search rules
 
-enum-known-why : tie.Need-enum-known-why
+enum-known-why : tie.Need-enum_known-why
 enum-known-why c = search rules
 
-enum_told : tie.Need-enum-told
+enum_told : tie.Need-enum_told-1
 enum_told c = search rules
 
 store-requires : tie.Need-store-requires
-store-requires c κs = let s = c.before.before.before.before.before.before.before.before.before.before.before.before.before.before.before.before.before in ready (x s) (y s) (said _ _ _ _ c.before.before.before.before.before.before.before.before.judged.ensures c.before.before.before.before.before.before.enum_told.given.1)
+store-requires c κs = let s = c.before.before.before.before.before.before.before.before.before.before.before.before.before.before.before.before in ready (x s) (y s) (said _ _ _ _ c.judged.ensures c.in-Fine.is)
 
-returns : tie.Need-returns
-returns c = let s = c.before.before.before.before.before.before.before.before.before.before.before.before in refused_is (x s) (y s) (l s) c.before.why.given.0.0 (said (x s) (y s) _ _ c.before.before.before.judged.ensures c.before.why.given.1)
+returns : tie.Need-returns-in-Wrong
+returns c = let s = c.before.before.before.before.before.before.before.before.before.before in refused_is (x s) (y s) (l s) c.in-Wrong.why (said (x s) (y s) _ _ c.judged.ensures c.in-Wrong.is)
 
-same_length : tie.Need-same-length
+same_length : tie.Need-shape_of-tec
 same_length c = search rules
 
-same-length-2 : tie.Need-same-length-2
+same-length-2 : tie.Need-shape_of-rms
 same-length-2 c = search rules
 
-same-length-3 : tie.Need-same-length-3
+same-length-3 : tie.Need-shape_of-height
 same-length-3 c = search rules
 
-same-length-4 : tie.Need-same-length-4
+same-length-4 : tie.Need-shape_of-exponents
 same-length-4 c = search rules
 
-same-length-5 : tie.Need-same-length-5
+same-length-5 : tie.Need-shape_of-epochs
 same-length-5 c = search rules
 
-same-length-6 : tie.Need-same-length-6
+same-length-6 : tie.Need-shape_of-marks
 same-length-6 c = search rules
 
-returns-2 : tie.Need-returns-2
+returns-2 : tie.Need-returns-in-Fine
 returns-2 c =
-    let s = c.before.before.before.before.before.before.before.before.before.before.before.before.before.before.before.before.before.before.before.before.before.before.before.before.before.before in
-    stored_is (x s) (y s) (said _ _ _ _ c.before.before.before.before.before.before.before.before.before.before.before.before.before.before.before.before.before.judged.ensures c.before.before.before.before.before.before.before.before.before.before.before.before.before.before.before.enum_told.given.1) (l s) _ _ c.before.before.before.before.before.before.before.before.store.ensures
+    let s = c.before.before.before.before.before.before.before.before.before.before.before.before.before.before.before.before.before.before.before.before.before.before.before.before.before in
+    stored_is (x s) (y s) (said _ _ _ _ c.judged.ensures c.in-Fine.is) (l s) _ _ c.store.ensures
 
-pub join-sets-spec : {M : Type 1} → statement M
-join-sets-spec =
-    tie.close
-    (tie.spec
-    judged-requires
-    enum-known-why
-    enum_told
-    store-requires
-    returns
-    same_length
-    same-length-2
-    same-length-3
-    same-length-4
-    same-length-5
-    same-length-6
-    returns-2)
+pub join_sets_spec : {M : Type 1} → statement M
+join_sets_spec = tie.close (tie.spec judged-requires enum-known-why enum_told store-requires returns same_length same-length-2 same-length-3 same-length-4 same-length-5 same-length-6 returns-2)

@@ -1,4 +1,6 @@
 -- `join_areas::judged` meets its contract.
+use mathlib.Core.Path.{ap}
+use mathlib.Core.Bool.{not}
 use mathlib.Core.Path.{sym, ◌∙◌}
 use borrow.Author.Tests.{not-true, not-false}
 use Rattle.kit.proofs.TruthLaws.{truth_true, truth_false}
@@ -19,74 +21,61 @@ abbrev y : tie.Start → Lent
 y s = lent_of s.args.late (full s.args.ltexts s.args.ldescriptions.now) (six s.args.btec.now s.args.brms.now s.args.bheight.now s.args.bexponents.now s.args.bepochs.now s.args.bmarks.now)
 
 -- what each test leaves
-first : (c : tie.Else1) → IsValid (x c.before.before.before.before.before.before.before.before)
-first c = truth_true _ (sym c.before.valid.ensures ∙ not-false _ c.if1.false)
+first : (c : tie.Else-not-valid) → IsValid (x c.before.before.before.before.before.before.before.before)
+first c = truth_true _ (sym c.valid.ensures ∙ not-false _ (ap not c.if-not-valid.false))
 
-second : (c : tie.Else2) → IsValid (y c.before.before.before.before.before.before.before.before.before.before)
-second c = truth_true _ (sym c.before.valid2.ensures ∙ not-false _ c.if2.false)
+second : (c : tie.Else-not-valid-2) → IsValid (y c.before.before.before.before.before.before.before.before.before.before)
+second c = truth_true _ (sym c.valid-2.ensures ∙ not-false _ (ap not c.if-not-valid-2.false))
 
-same : (c : tie.Else3) → Alike c.before.before.before.before.before.before.before.before.before.before.before.before.args.early c.before.before.before.before.before.before.before.before.before.before.before.before.args.late
-same c = truth_true _ (sym c.before.alike.ensures ∙ not-false _ c.if3.false)
+same : (c : tie.Else-not-alike) → Alike c.args.early c.args.late
+same c = truth_true _ (sym c.alike.ensures ∙ not-false _ (ap not c.if-not-alike.false))
 
 valid-requires : tie.Need-valid-requires
 valid-requires c κs = search rules
 
-returns : tie.Need-returns
-returns c = let s = c.before.before.before.before.before.before.before.before in lent_once (x s) (y s) (not_valid (λ h. truth_false _ (sym c.before.valid.ensures ∙ not-true _ c.if1.true) h.0))
+returns : tie.Need-returns-then-not-valid
+returns c = let s = c.before.before.before.before.before.before.before.before in lent_once (x s) (y s) (not_valid (λ h. truth_false _ (sym c.valid.ensures ∙ not-true _ (ap not c.if-not-valid.true)) h.0))
 
 valid-requires-2 : tie.Need-valid-requires-2
 valid-requires-2 c κs = search rules
 
-returns-2 : tie.Need-returns-2
-returns-2 c = let s = c.before.before.before.before.before.before.before.before.before.before in lent_once (x s) (y s) (not_valid (λ h. truth_false _ (sym c.before.valid2.ensures ∙ not-true _ c.if2.true) h.1))
+returns-2 : tie.Need-returns-then-not-valid-2
+returns-2 c = let s = c.before.before.before.before.before.before.before.before.before.before in lent_once (x s) (y s) (not_valid (λ h. truth_false _ (sym c.valid-2.ensures ∙ not-true _ (ap not c.if-not-valid-2.true)) h.1))
 
 alike-requires : tie.Need-alike-requires
 alike-requires c κs = search rules
 
-returns-3 : tie.Need-returns-3
-returns-3 c = let s = c.before.before.before.before.before.before.before.before.before.before.before.before in lent_once (x s) (y s) (not_alike (first c.before.before.before.before) (second c.before.before) (truth_false _ (sym c.before.alike.ensures ∙ not-true _ c.if3.true)))
+returns-3 : tie.Need-returns-then-not-alike
+returns-3 c = let s = c.before.before.before.before.before.before.before.before.before.before.before.before in lent_once (x s) (y s) (not_alike (first c.before.before.before.before) (second c.before.before) (truth_false _ (sym c.alike.ensures ∙ not-true _ (ap not c.if-not-alike.true))))
 
 meet-requires : tie.Need-meet-requires
 meet-requires c κs = search rules
 
 -- 41 is told before 42: the number that is told where the epochs do not meet, that they do not, and what holds where they do
-tells_41 : ((c : tie.Then4) → let s = c.before.before.before.before.before.before.before.before.before.before.before.before.before.before in ¬ Meet s.args.early s.args.late) → tie.Need-returns-4
+tells_41 : ((c : tie.Then-not-meet) → let s = c.before.before.before.before.before.before.before.before.before.before.before.before.before.before in ¬ Meet s.args.early s.args.late) → tie.Need-returns-then-not-meet
 tells_41 fails c =
     let s = c.before.before.before.before.before.before.before.before.before.before.before.before.before.before in
     lent_once (x s) (y s) (not_met (first c.before.before.before.before.before.before) (second c.before.before.before.before) (same c.before.before) (fails c))
 
-returns-4 : tie.Need-returns-4
+returns-4 : tie.Need-returns-then-not-meet
 returns-4 = tells_41 (λ c. truth_false _ (sym c.before.meet.ensures ∙ not-true _ c.if4.true))
 
-meets : (c : tie.Else4) → Meet c.before.before.before.before.before.before.before.before.before.before.before.before.before.before.args.early c.before.before.before.before.before.before.before.before.before.before.before.before.before.before.args.late
-meets c = truth_true _ (sym c.before.meet.ensures ∙ not-false _ c.if4.false)
+meets : (c : tie.Else-not-meet) → Meet c.args.early c.args.late
+meets c = truth_true _ (sym c.meet.ensures ∙ not-false _ (ap not c.if-not-meet.false))
 
-in-limits-requires : tie.Need-in-limits-requires
+in-limits-requires : tie.Need-in_limits-requires
 in-limits-requires c κs =
     let s = c.before.before.before.before.before.before.before.before.before.before.before.before.before.before in
-    let v = first c.before.before.before.before.before.before in
-    let w = second c.before.before.before.before in
+    let v = first c.before.before.before.before.before.before.before in
+    let w = second c.before.before.before.before.before in
     let p = maps_of (x s) v in
     (p.0, p.1, (maps_of (y s) w).1, w.sound.header.limits)
 
-returns-5 : tie.Need-returns-5
-returns-5 c = let s = c.before.before.before.before.before.before.before.before.before.before.before.before.before.before.before.before in lent_once (x s) (y s) (too_many (first c.before.before.before.before.before.before.before.before) (second c.before.before.before.before.before.before) (same c.before.before.before.before) (meets c.before.before) (truth_false _ (sym c.before.in-limits.ensures ∙ not-true _ c.if5.true)))
+returns-5 : tie.Need-returns-then-not-in_limits
+returns-5 c = let s = c.before.before.before.before.before.before.before.before.before.before.before.before.before.before.before.before in lent_once (x s) (y s) (too_many (first c.before.before.before.before.before.before.before.before.before) (second c.before.before.before.before.before.before.before) (same c.before.before.before.before.before) (meets c.before.before.before) (truth_false _ (sym c.in_limits.ensures ∙ not-true _ (ap not c.if-not-in_limits.true))))
 
-returns-6 : tie.Need-returns-6
-returns-6 c = let s = c.before.before.before.before.before.before.before.before.before.before.before.before.before.before.before.before in may_lent (x s) (y s) (first c.before.before.before.before.before.before.before.before) (second c.before.before.before.before.before.before) (same c.before.before.before.before) (meets c.before.before) (truth_true _ (sym c.before.in-limits.ensures ∙ not-false _ c.if5.false))
+returns-6 : tie.Need-returns
+returns-6 c = let s = c.before.before.before.before.before.before.before.before.before.before.before.before.before.before.before.before in may_lent (x s) (y s) (first c.before.before.before.before.before.before.before.before.before) (second c.before.before.before.before.before.before.before) (same c.before.before.before.before.before) (meets c.before.before.before) (truth_true _ (sym c.in_limits.ensures ∙ not-false _ (ap not c.if-not-in_limits.false)))
 
-pub judged-spec : {M : Type 1} → statement M
-judged-spec =
-    tie.close
-    (tie.spec
-    valid-requires
-    returns
-    valid-requires-2
-    returns-2
-    alike-requires
-    returns-3
-    meet-requires
-    returns-4
-    in-limits-requires
-    returns-5
-    returns-6)
+pub judged_spec : {M : Type 1} → statement M
+judged_spec = tie.close (tie.spec valid-requires returns valid-requires-2 returns-2 alike-requires returns-3 meet-requires returns-4 in-limits-requires returns-5 returns-6)

@@ -1,3 +1,5 @@
+use mathlib.Core.Path.{ap}
+use mathlib.Core.Bool.{not}
 use mathlib.Core.Path.{◌≡◌, refl, sym, ◌∙◌}
 use Prim.Native.Nat.{◌-◌, ◌%◌}
 use native.Mathlib.Omega.{arith}
@@ -16,65 +18,54 @@ use borrow.Author.Rules.{rules}
 use Rattle.maps_body.proofs.block_of.Statement.{statement}
 use Rattle.maps_body.proofs.block_of.Tie as tie
 
-row_is : (c : tie.After-row-agrees) → c.row-agrees.result ≡ truth (int? c.before.args.latitude (node c.before.args.header.grid.latitudes ((per_map c.before.args.header - c.before.args.this.left) % rows c.before.args.header.grid)))
-row_is c = rw (to_z-of_z c.before.ranges.latitude) at c.row-agrees.ensures
+row_is : (c : tie.After-row_agrees) → c.row_agrees.result ≡ truth (int? c.args.latitude (node c.args.header.grid.latitudes ((per_map c.args.header - c.args.this.left) % rows c.args.header.grid)))
+row_is c = rw (to_z-of_z c.ranges.latitude) at c.row_agrees.ensures
 
-column_is : (c : tie.After-differs) → c.differs.result ≡ differing c.before.before.before.args.header.grid.longitudes c.before.before.before.args.first c.before.before.before.args.last c.before.before.before.args.step
-column_is c = rw (to_z-of_z c.before.before.before.ranges.first, to_z-of_z c.before.before.before.ranges.last, to_z-of_z c.before.before.before.ranges.step) at c.differs.ensures
+column_is : (c : tie.After-differs-column) → c.differs-column.result ≡ differing c.args.header.grid.longitudes c.args.first c.args.last c.args.step
+column_is c = rw (to_z-of_z c.ranges.first, to_z-of_z c.ranges.last, to_z-of_z c.ranges.step) at c.differs-column.ensures
 
-height_is : (c : tie.After-height-agrees) → c.height-agrees.result ≡ truth (height? c.before.before.before.before.before.args.header (per_map c.before.before.before.before.before.args.header - c.before.before.before.before.before.args.this.left) c.before.before.before.before.before.args.height)
+height_is : (c : tie.After-height_agrees) → c.height_agrees.result ≡ truth (height? c.args.header (per_map c.args.header - c.args.this.left) c.args.height)
 unfolding height?
-height_is c = rw (to_z-of_z c.before.before.before.before.before.ranges.height) at c.height-agrees.ensures
+height_is c = rw (to_z-of_z c.ranges.height) at c.height_agrees.ensures
 
-row-agrees-requires : tie.Need-row-agrees-requires
+row-agrees-requires : tie.Need-row_agrees-requires
 row-agrees-requires c κs = search rules
 
-returns : tie.Need-returns
+returns : tie.Need-returns-then-not-row_agrees
 returns c =
-    λ h es. let a = c.before.before.args in
-    stops es 8 3 (row_wrong a.header a.this (force_of a.past es) a.latitude a.first a.last a.step a.height (sym (row_is c.before) ∙ not-true _ c.if1.true))
+    λ h es. let a = c.args in
+    stops es 8 3 (row_wrong a.header a.this (force_of a.past es) a.latitude a.first a.last a.step a.height (sym (row_is c.before) ∙ not-true _ (ap not c.if-not-row_agrees.true)))
 
-differs-requires : tie.Need-differs-requires
+differs-requires : tie.Need-differs-column-requires
 differs-requires c κs = search rules
 
-returns-2 : tie.Need-returns-2
+returns-2 : tie.Need-returns-then-column-ne0
 returns-2 c =
-    λ h es. let a = c.before.before.before.before.args in
-    let n : c.before.differs.result ≡ differing a.header.grid.longitudes a.first a.last a.step = column_is c.before in
-    rw n (stops es 8 _ (longitude_wrong a.header a.this (force_of a.past es) a.latitude a.first a.last a.step a.height (sym (row_is c.before.before.before) ∙ not-false _ c.before.before.if1.false) (λ e. c.if2.true (n ∙ e))))
+    λ h es. let a = c.args in
+    let n : c.differs-column.result ≡ differing a.header.grid.longitudes a.first a.last a.step = column_is c.before in
+    rw n (stops es 8 _ (longitude_wrong a.header a.this (force_of a.past es) a.latitude a.first a.last a.step a.height (sym (row_is c.before.before.before.before) ∙ not-false _ (ap not c.if-not-row_agrees.false)) (λ e. c.if-column-ne0.true (n ∙ e))))
 
-height-agrees-requires : tie.Need-height-agrees-requires
+height-agrees-requires : tie.Need-height_agrees-requires
 height-agrees-requires c κs = search rules
 
-returns-3 : tie.Need-returns-3
+returns-3 : tie.Need-returns-then-not-height_agrees
 returns-3 c =
-    λ h es. let a = c.before.before.before.before.before.before.args in
-    let z : c.before.before.before.differs.result ≡ 0 = omega (arith, c.before.before.if2.false) in
-    stops es 8 27 (height_wrong a.header a.this (force_of a.past es) a.latitude a.first a.last a.step a.height (sym (row_is c.before.before.before.before.before) ∙ not-false _ c.before.before.before.before.if1.false) (sym (column_is c.before.before.before) ∙ z) (sym (height_is c.before) ∙ not-true _ c.if3.true))
+    λ h es. let a = c.args in
+    let z : c.differs-column.result ≡ 0 = omega (arith, c.if-column-ne0.false) in
+    stops es 8 27 (height_wrong a.header a.this (force_of a.past es) a.latitude a.first a.last a.step a.height (sym (row_is c.before.before.before.before.before.before.before) ∙ not-false _ (ap not c.if-not-row_agrees.false)) (sym (column_is c.before.before.before.before) ∙ z) (sym (height_is c.before) ∙ not-true _ (ap not c.if-not-height_agrees.true)))
 
-sub-t13 : tie.Need-overflow-sub-t13
+sub-t13 : tie.Need-overflow_sub-result
 sub-t13 c = search rules
 
 nodes-requires : tie.Need-nodes-requires
 nodes-requires c κs = search rules
 
-returns-4 : tie.Need-returns-4
+returns-4 : tie.Need-returns
 returns-4 c =
-    λ h es. let a = c.before.before.before.before.before.before.before.before.args in
-    let z : c.before.before.before.before.before.differs.result ≡ 0 = omega (arith, c.before.before.before.before.if2.false) in
+    λ h es. let a = c.args in
+    let z : c.differs-column.result ≡ 0 = omega (arith, c.if-column-ne0.false) in
     rw c.nodes.ensures
-    (opens es _ a.past refl (opened_fine a.header a.this (force_of a.past es) a.latitude a.first a.last a.step a.height (sym (row_is c.before.before.before.before.before.before.before) ∙ not-false _ c.before.before.before.before.before.before.if1.false) (sym (column_is c.before.before.before.before.before) ∙ z) (sym (height_is c.before.before.before) ∙ not-false _ c.before.before.if3.false)))
+    (opens es _ a.past refl (opened_fine a.header a.this (force_of a.past es) a.latitude a.first a.last a.step a.height (sym (row_is c.before.before.before.before.before.before.before.before.before.before) ∙ not-false _ (ap not c.if-not-row_agrees.false)) (sym (column_is c.before.before.before.before.before.before.before) ∙ z) (sym (height_is c.before.before.before.before) ∙ not-false _ (ap not c.if-not-height_agrees.false))))
 
-pub block-of-spec : {M : Type 1} → statement M
-block-of-spec =
-    tie.close
-    (tie.spec
-    row-agrees-requires
-    returns
-    differs-requires
-    returns-2
-    height-agrees-requires
-    returns-3
-    sub-t13
-    nodes-requires
-    returns-4)
+pub block_of_spec : {M : Type 1} → statement M
+block_of_spec = tie.close (tie.spec row-agrees-requires returns differs-requires returns-2 height-agrees-requires returns-3 sub-t13 nodes-requires returns-4)

@@ -7,7 +7,7 @@ use borrow.Author.Rules.{rules}
 use Rattle.maps_records.proofs.second_of.Statement.{statement}
 use Rattle.maps_records.proofs.second_of.Tie as tie
 
-taken : (c : tie.After-take) → c.take.result ≡ dated c.before.args.year c.before.args.month c.before.args.day c.before.args.hour c.before.args.minute c.before.args.second
+taken : (c : tie.After-take) → c.take.result ≡ dated c.args.year c.args.month c.args.day c.args.hour c.args.minute c.args.second
 taken c =
     let s = c.before in
     rw (to_z-of_z s.ranges.year, to_z-of_z s.ranges.month, to_z-of_z s.ranges.day, to_z-of_z s.ranges.hour, to_z-of_z s.ranges.minute, to_z-of_z s.ranges.second) at (take_dated _ _ _ _ _ _ c.take.result c.take.ensures)
@@ -15,20 +15,19 @@ taken c =
 take-requires : tie.Need-take-requires
 take-requires c κs = search rules
 
-enum-known-t : tie.Need-enum-known-t
+enum-known-t : tie.Need-enum_known-t
 enum-known-t c = search rules
 
-enum-known-column : tie.Need-enum-known-column
+enum-known-column : tie.Need-enum_known-column
 enum-known-column c = search rules
 
-returns : tie.Need-returns
+returns : tie.Need-returns-in-At
 unfolding on_date
-returns c = rw (sym (taken c.before.before.before) ∙ c.before.t.given.1)
+returns c = rw (sym (taken c.before) ∙ c.in-At.is)
 
-returns-2 : tie.Need-returns-2
+returns-2 : tie.Need-returns-in-Wrong
 unfolding on_date
-returns-2 c = rw (sym (taken c.before.before.before) ∙ c.before.column.given.1)
+returns-2 c = rw (sym (taken c.before) ∙ c.in-Wrong.is)
 
-pub second-of-spec : {M : Type 1} → statement M
-second-of-spec =
-    tie.close (tie.spec take-requires enum-known-t enum-known-column returns returns-2)
+pub second_of_spec : {M : Type 1} → statement M
+second_of_spec = tie.close (tie.spec take-requires enum-known-t enum-known-column returns returns-2)

@@ -8,22 +8,22 @@ use borrow.Author.Rules.{rules}
 use Rattle.read_events.proofs.start_other.Statement.{statement}
 use Rattle.read_events.proofs.start_other.Tie as tie
 
-number-in-requires : tie.Need-number-in-requires
+number-in-requires : tie.Need-number_in-i-requires
 number-in-requires c κs = search rules
 
 begun-requires : tie.Need-begun-requires
 begun-requires c κs = search rules
 
 -- the map begins under its own number
-own_number : (c : tie.After-begun) → let a = c.before.before.before.args in told c.begun.result ≡ now a.kind c.before.number_in.result 0 a.s.exponent a.s.tecs
+own_number : (c : tie.After-begun) → let a = c.args in told c.begun.result ≡ now a.kind c.number_in-i.result 0 a.s.exponent a.s.tecs
 own_number c = c.begun.ensures
 
 returns : tie.Need-returns
 returns c =
     let s = c.before.before.before in
     let a = s.args in
-    let i = c.before.number_in.result in
-    λ C rs. started a.s a.kind s.requires.1 _ c.before.number_in.ensures refl C rs ∙ ap (λ (z : Now). goes (event.marked a.kind i ∷ []) z) (sym (own_number c))
+    let i = c.number_in-i.result in
+    λ C rs. started a.s a.kind s.requires.1 _ c.number_in-i.ensures refl C rs ∙ ap (λ (z : Now). goes (event.marked a.kind i ∷ []) z) (sym (own_number c))
 
-pub start-other-spec : {M : Type 1} → statement M
-start-other-spec = tie.close (tie.spec number-in-requires begun-requires returns)
+pub start_other_spec : {M : Type 1} → statement M
+start_other_spec = tie.close (tie.spec number-in-requires begun-requires returns)

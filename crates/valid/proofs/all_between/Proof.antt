@@ -19,10 +19,10 @@ use Rattle.kit.proofs.TruthLaws.{both, truth_same, all_end, and_assoc}
 use Rattle.valid.proofs.all_between.Statement.{statement}
 use Rattle.valid.proofs.all_between.Tie as tie
 
-abbrev invariant-loop : tie.invariant-loop
+abbrev invariant-loop : tie.invariant-loop-i
 invariant-loop low high values fits₀ i₀ fits i = (i ≤ length values) × (truth (all_dec (between? (to_z w32 low) (to_z w32 high)) values) ≡ (fits && truth (all_dec (between? (to_z w32 low) (to_z w32 high)) (drop i values))))
 
-abbrev decreases-loop : tie.decreases-loop
+abbrev decreases-loop : tie.decreases-loop-i
 decreases-loop low high values fits₀ i₀ fits i = length values - i
 
 -- one value after the other, all looked at
@@ -53,55 +53,43 @@ module _ (s : tie.Start invariant-loop decreases-loop) where
   low_is = to_z-of_z s.ranges.low
 
   high_is : to_z w32 (of_z w32 s.args.high) ≡ s.args.high
-  high_is = to_z-of_z s.fits.high
+  high_is = to_z-of_z s.ranges.high
 
-so_far : (l : tie.At-loop invariant-loop decreases-loop) → let a = l.before.args in truth (all_dec (between? a.low a.high) a.values.now) ≡ (l.loop.fits && truth (all_dec (between? a.low a.high) (drop l.loop.i a.values.now)))
-so_far l = rw (low_is l.before, high_is l.before) at l.loop.invariant.1
+so_far : (l : tie.At-loop-i invariant-loop decreases-loop) → let a = l.args in truth (all_dec (between? a.low a.high) a.values.now) ≡ (l.loop-i.fits && truth (all_dec (between? a.low a.high) (drop l.loop-i.i a.values.now)))
+so_far l = rw (low_is l.before, high_is l.before) at l.loop-i.invariant.1
 
-judged : (c : tie.After-between invariant-loop decreases-loop) → let s = c.before.before.before.before in c.between.result ≡ truth (between? s.args.low s.args.high (get_or s.args.values.now c.before.before.before.loop.i (pos 0)))
-judged c = let s = c.before.before.before.before in (rw (low_is s, high_is s) at c.between.ensures) ∙ ap (λ (x : ℤ). truth (between? s.args.low s.args.high x)) (search rules)
+judged : (c : tie.After-between-fits invariant-loop decreases-loop) → let s = c.before.before.before.before in c.between-fits.result ≡ truth (between? s.args.low s.args.high (get_or s.args.values.now c.loop-i.i (pos 0)))
+judged c = let s = c.before.before.before.before in (rw (low_is s, high_is s) at c.between-fits.ensures) ∙ ap (λ (x : ℤ). truth (between? s.args.low s.args.high x)) (search rules)
 
-loop-holds : tie.Need-loop-init invariant-loop decreases-loop
+loop-holds : tie.Need-loop-i-init invariant-loop decreases-loop
 loop-holds c = (omega arith, refl)
 
-mul-between : tie.Need-overflow-mul-between invariant-loop decreases-loop
+mul-between : tie.Need-offset_bounds-values-i invariant-loop decreases-loop
 mul-between c = omega arith
 
-shared-slice-copy-out-between : tie.Need-shared-slice-copy-out-between invariant-loop decreases-loop
+shared-slice-copy-out-between : tie.Need-bounds-values-i invariant-loop decreases-loop
 shared-slice-copy-out-between c = omega arith
 
-between-requires : tie.Need-between-requires invariant-loop decreases-loop
+between-requires : tie.Need-between-fits-requires invariant-loop decreases-loop
 between-requires c κs = search rules
 
-add-i : tie.Need-overflow-add-i invariant-loop decreases-loop
+add-i : tie.Need-overflow_add-i invariant-loop decreases-loop
 add-i c = omega arith
 
-loop-less : tie.Need-loop-smaller invariant-loop decreases-loop
+loop-less : tie.Need-loop-i-smaller invariant-loop decreases-loop
 loop-less c = omega arith
 
-loop-again : tie.Need-loop-preserved invariant-loop decreases-loop
+loop-again : tie.Need-loop-i-preserved invariant-loop decreases-loop
 loop-again c =
     let l = c.before.before.before in
     let s = l.before in
-    (omega arith, rw (low_is s, high_is s) (so_far l ∙ next s.args.low s.args.high s.args.values.now l.loop.i (omega arith) l.loop.fits (judged c)))
+    (omega arith, rw (low_is s, high_is s) (so_far l ∙ next s.args.low s.args.high s.args.values.now l.loop-i.i (omega arith) l.loop-i.fits (judged c)))
 
 returns : tie.Need-returns invariant-loop decreases-loop
 returns c =
     let l = c.before in
-    let a = l.before.args in
-    sym (so_far l ∙ end a.low a.high a.values.now l.loop.i (omega arith) l.loop.fits)
+    let a = l.args in
+    sym (so_far l ∙ end a.low a.high a.values.now l.loop-i.i (omega arith) l.loop-i.fits)
 
-pub all-between-spec : {M : Type 1} → statement M
-all-between-spec =
-    tie.close
-    (tie.spec
-    invariant-loop
-    decreases-loop
-    loop-holds
-    mul-between
-    shared-slice-copy-out-between
-    between-requires
-    add-i
-    loop-less
-    loop-again
-    returns)
+pub all_between_spec : {M : Type 1} → statement M
+all_between_spec = tie.close (tie.spec invariant-loop decreases-loop loop-holds mul-between shared-slice-copy-out-between between-requires add-i loop-less loop-again returns)

@@ -22,69 +22,69 @@ module _ (s : tie.Start) where
   few = mul-le-mul s.requires.maps s.requires.blocks
 
   few_values : length s.args.marks.now * s.args.blocks * s.args.columns ≤ 300 * (64 * 361) * 721
-  few_values = mul-le-mul few s.pre.columns
+  few_values = mul-le-mul few s.requires.columns
 
   wide : s.args.blocks * s.args.columns ≤ 64 * 361 * 721
-  wide = mul-le-mul s.pre.blocks s.pre.columns
+  wide = mul-le-mul s.requires.blocks s.requires.columns
 
-enough : (c : tie.After-need) → c.need.result ≤ length c.before.before.args.values.now
-enough c = omega (arith, c.need.ensures, c.before.before.requires.values)
+enough : (c : tie.After-need-needed) → c.need-needed.result ≤ length c.args.values.now
+enough c = omega (arith, c.need-needed.ensures, c.requires.values)
 
 -- the kind's exponents
-module _ (c : tie.After-blocks-before) where
+module _ (c : tie.After-blocks_before-first) where
   abbrev start : tie.Start
   start = c.before.before.before
 
   abbrev all : ℕ
   all = length start.args.marks.now * start.args.blocks
 
-  low : c.blocks-before.result + all ≤ 3 * all
-  low = omega (arith, c.blocks-before.ensures, first_within start.args.kind all)
+  low : c.blocks_before-first.result + all ≤ 3 * all
+  low = omega (arith, c.blocks_before-first.ensures, first_within start.args.kind all)
 
-  inside : c.blocks-before.result + all ≤ length start.args.exponents.now
-  inside = omega (arith, low, start.pre.exponents)
+  inside : c.blocks_before-first.result + all ≤ length start.args.exponents.now
+  inside = omega (arith, low, start.requires.exponents)
 
-mul-all : tie.Need-overflow-mul-all
+mul-all : tie.Need-overflow_mul-all
 mul-all c = omega (arith, few c.before)
 
-mul-need : tie.Need-overflow-mul-need
+mul-need : tie.Need-overflow_mul-all-2
 mul-need c = omega (arith, few_values c.before)
 
-need-requires : tie.Need-need-requires
+need-requires : tie.Need-need-needed-requires
 need-requires c κs = search rules
 
-blocks-before-requires : tie.Need-blocks-before-requires
+blocks-before-requires : tie.Need-blocks_before-first-requires
 blocks-before-requires c κs = omega (arith, few c.before.before)
 
-add-end : tie.Need-overflow-add-end
+add-end : tie.Need-overflow_add-end
 add-end c = omega (arith, inside c)
 
-slice-aggregate-all-between : tie.Need-slice-aggregate-all-between
-slice-aggregate-all-between c = sym (length-take-le _ _ (enough c.before.before))
+slice-aggregate-all-between : tie.Need-slice_bounds-all_between-end
+slice-aggregate-all-between c = sym (length-take-le _ _ (enough c.before))
 
-all-between-requires : tie.Need-all-between-requires
+all-between-requires : tie.Need-all_between-requires
 all-between-requires c κs = search rules
 
-mul-blank : tie.Need-overflow-mul-blank
-mul-blank c = omega (arith, wide c.before.before.before.before.before)
+mul-blank : tie.Need-overflow_mul-blocks
+mul-blank c = omega (arith, wide c.before.before.before.before)
 
-slice-aggregate-blank : tie.Need-slice-aggregate-blank
-slice-aggregate-blank c = sym (length-take-le _ _ (enough c.before.before.before.before))
+slice-aggregate-blank : tie.Need-slice_bounds-blank-end
+slice-aggregate-blank c = sym (length-take-le _ _ (enough c.before.before))
 
 blank-requires : tie.Need-blank-requires
 blank-requires c κs = search rules
 
-mul-blank-2 : tie.Need-overflow-mul-blank-2
-mul-blank-2 c = let f = c.before.before.before.before in omega (arith, low f, few (start f))
+mul-blank-2 : tie.Need-offset_bounds-exponents-first
+mul-blank-2 c = let f = c.before.before.before.before in omega (arith, low c.before.before, few (start c.before.before))
 
-sub-blank : tie.Need-overflow-sub-blank
+sub-blank : tie.Need-slice_bounds-blank-count
 sub-blank c = search rules
 
-part-blank-start : tie.Need-slice-bounds-blank-start
+part-blank-start : tie.Need-slice_bounds-blank-start
 part-blank-start c = search rules
 
-part-blank-end : tie.Need-slice-bounds-blank-end
-part-blank-end c = inside c.before.before.before.before
+part-blank-end : tie.Need-slice_bounds-blank-end-2
+part-blank-end c = inside c.before.before
 
 blank-requires-2 : tie.Need-blank-requires-2
 blank-requires-2 c κs = search rules
@@ -94,7 +94,7 @@ unfolding kind? value?
 returns c =
     let f = c.before.before.before.before.before.before in
     let n = f.before in
-    let s = n.before.before in
+    let s = n in
     let a = s.args in
     let ms : List ℕ = a.marks.now in
     let k = kind_need a.kind a.blocks a.columns ms in
@@ -102,29 +102,11 @@ returns c =
     let es : List ℤ = kind_exponents a.kind a.blocks ms a.exponents.now in
     let b1 = blank? a.kind (a.blocks * a.columns) (pos 9999) ms vs in
     let b2 = blank? a.kind a.blocks (negsuc 0) ms es in
-    let e : f.blocks-before.result + length ms * a.blocks - f.blocks-before.result ≡ length ms * a.blocks = omega arith in
-    let r2 : c.blank2.result ≡ truth b2 = rw (e, f.blocks-before.ensures) at c.blank2.ensures in
-    let r1 : c.before.before.blank.result ≡ truth b1 = rw n.need.ensures at c.before.before.blank.ensures in
-    let r0 : c.before.before.before.before.all-between.result ≡ truth (all_dec value? vs) = rw n.need.ensures at c.before.before.before.before.all-between.ensures in
+    let e : f.blocks_before-first.result + length ms * a.blocks - f.blocks_before-first.result ≡ length ms * a.blocks = omega arith in
+    let r2 : c.blank-2.result ≡ truth b2 = rw (e, f.blocks_before-first.ensures) at c.blank-2.ensures in
+    let r1 : c.blank.result ≡ truth b1 = rw n.need-needed.ensures at c.blank.ensures in
+    let r0 : c.all_between.result ≡ truth (all_dec value? vs) = rw n.need-needed.ensures at c.all_between.ensures in
     both (all_dec value? vs) (×_dec b1 b2) r0 (both b1 b2 r1 r2)
 
-pub kind-fits-spec : {M : Type 1} → statement M
-kind-fits-spec =
-    tie.close
-    (tie.spec
-    mul-all
-    mul-need
-    need-requires
-    blocks-before-requires
-    add-end
-    slice-aggregate-all-between
-    all-between-requires
-    mul-blank
-    slice-aggregate-blank
-    blank-requires
-    mul-blank-2
-    sub-blank
-    part-blank-start
-    part-blank-end
-    blank-requires-2
-    returns)
+pub kind_fits_spec : {M : Type 1} → statement M
+kind_fits_spec = tie.close (tie.spec mul-all mul-need need-requires blocks-before-requires add-end slice-aggregate-all-between all-between-requires mul-blank slice-aggregate-blank blank-requires mul-blank-2 sub-blank part-blank-start part-blank-end blank-requires-2 returns)

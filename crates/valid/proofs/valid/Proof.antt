@@ -1,4 +1,6 @@
 -- `valid::valid` meets its contract.
+use mathlib.Core.Path.{ap}
+use mathlib.Core.Bool.{not}
 use borrow.Author.Rules.{rules}
 use mathlib.Core.Path.{◌≡◌, sym, ◌∙◌}
 use borrow.Author.Tests.{not-true, not-false}
@@ -15,29 +17,29 @@ use Rattle.valid.proofs.valid.Tie as tie
 abbrev lent : tie.Start → Areas
 lent s = six s.args.tec.now s.args.rms.now s.args.height.now s.args.exponents.now s.args.epochs.now s.args.marks.now
 
-is_sound : (c : tie.Else1) → Sound c.before.before.before.before.before.args.header (full c.before.before.before.before.before.args.texts c.before.before.before.before.before.args.descriptions.now) (lent c.before.before.before.before.before)
-is_sound c = truth_true _ (sym c.before.sound.ensures ∙ not-false _ c.if1.false)
+is_sound : (c : tie.Else-not-sound) → Sound c.args.header (full c.args.texts c.args.descriptions.now) (lent c.before.before.before.before.before)
+is_sound c = truth_true _ (sym c.sound.ensures ∙ not-false _ (ap not c.if-not-sound.false))
 
 sound-requires : tie.Need-sound-requires
 sound-requires c κs = search rules
 
-returns : tie.Need-returns
+returns : tie.Need-returns-then-not-sound
 returns c =
     let s = c.before.before.before.before.before in
-    validity_unsound s.args.header (full s.args.texts s.args.descriptions.now) (lent s) (truth_false _ (sym c.before.sound.ensures ∙ not-true _ c.if1.true))
+    validity_unsound s.args.header (full s.args.texts s.args.descriptions.now) (lent s) (truth_false _ (sym c.sound.ensures ∙ not-true _ (ap not c.if-not-sound.true)))
 
-rest-fits-requires : tie.Need-rest-fits-requires
+rest-fits-requires : tie.Need-rest_fits-requires
 rest-fits-requires c κs =
     let s = c.before.before.before.before.before in
     let l = sound_long s.args.header (full s.args.texts s.args.descriptions.now) (lent s) (is_sound c) in
     record { maps = l.maps; limits = l.limits; marks = l.marks; lengths = l.lengths }
 
-returns-2 : tie.Need-returns-2
+returns-2 : tie.Need-returns
 unfolding rest? needed
 returns-2 c =
     let s = c.before.before.before.before.before.before in
-    let e : c.rest-fits.result ≡ truth (rest? s.args.header (lent s)) = c.rest-fits.ensures in
+    let e : c.rest_fits.result ≡ truth (rest? s.args.header (lent s)) = c.rest_fits.ensures in
     e ∙ validity_rest s.args.header (full s.args.texts s.args.descriptions.now) (lent s) (is_sound c.before)
 
-pub valid-spec : {M : Type 1} → statement M
-valid-spec = tie.close (tie.spec sound-requires returns rest-fits-requires returns-2)
+pub valid_spec : {M : Type 1} → statement M
+valid_spec = tie.close (tie.spec sound-requires returns rest-fits-requires returns-2)

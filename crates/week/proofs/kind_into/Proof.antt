@@ -35,7 +35,7 @@ module _ (k B C F : ℕ) (ms : List ℕ) (vs es : List ℤ) where
   row : (at : ℕ) (l : List ℤ) {B' C' F' : ℕ} {r : List ℤ} → B' ≡ B → C' ≡ C → F' ≡ F → r ≡ sets l at (parts_rows k B' C' ms vs (take (length es - F') (drop F' es))) → r ≡ sets l at (parts_rows k B C ms vs (drop F es))
   row at l p q f e = rw (p, q, f, rest) at e
 
-module _ (c : tie.After-nodes) where
+module _ (c : tie.After-nodes-columns) where
   abbrev s : tie.Start
   s = c.before.before.before.before
 
@@ -46,100 +46,100 @@ module _ (c : tie.After-nodes) where
   all = blocks s.args.header
 
   few : all ≤ 300 * (64 * 361)
-  few = mul-le-mul s.pre.maps (mul-le-mul s.pre.limits.2 s.pre.limits.0)
+  few = mul-le-mul s.requires.maps (mul-le-mul s.requires.limits.2 s.requires.limits.0)
 
-  all_is : s.args.header.times.maps * c.before.per-map.result ≡ all
-  all_is = ap (λ (b : ℕ). s.args.header.times.maps * b) c.before.per-map.ensures
+  all_is : s.args.header.times.maps * c.per_map-blocks.result ≡ all
+  all_is = ap (λ (b : ℕ). s.args.header.times.maps * b) c.per_map-blocks.ensures
 
   -- the kind's rows
   abbrev each : ℕ
   each = 5 * (s.args.header.times.maps + 1)
 
   room : s.args.kind * each + each ≤ length s.args.rows.now
-  room = let k : suc s.args.kind * each ≤ 3 * each = mul-le-mul s.pre.kind (le_refl each) in omega (arith, s.pre.rows, k)
+  room = let k : suc s.args.kind * each ≤ 3 * each = mul-le-mul s.requires.kind (le_refl each) in omega (arith, s.requires.rows, k)
 
   marks_length : length (take s.args.header.times.maps s.args.marks.now) ≡ s.args.header.times.maps
-  marks_length = length-take-le _ _ s.pre.marks
+  marks_length = length-take-le _ _ s.requires.marks
 
 -- the kind's exponents
-module _ (f : tie.After-blocks-before) where
-  abbrev n : tie.After-nodes
+module _ (f : tie.After-blocks_before-first) where
+  abbrev n : tie.After-nodes-columns
   n = f.before.before
 
-  first_is : f.blocks-before.result ≡ first_of (kind_of (s n).args.kind) (all n)
-  first_is = f.blocks-before.ensures ∙ (λ i. first_of (f.before.kind-of.ensures i) (all_is n i))
+  first_is : f.blocks_before-first.result ≡ first_of (kind_of (s n).args.kind) (all n)
+  first_is = f.blocks_before-first.ensures ∙ (λ i. first_of (f.kind_of.ensures i) (all_is n i))
 
-  low : f.blocks-before.result ≤ 3 * all n
+  low : f.blocks_before-first.result ≤ 3 * all n
   low = omega (arith, first_is, first_within (kind_of (s n).args.kind) (all n))
 
-  inside : f.blocks-before.result ≤ length (es n)
+  inside : f.blocks_before-first.result ≤ length (es n)
   inside = omega (arith, low, (s n).pre.exponents)
 
-told : (c : tie.After-kind-rows) → let m = n c.before.before.before.before in
-    c.kind-rows.result ≡ figures (parts_nodes (s m).args.kind (per_map (s m).args.header) (columns (s m).args.header.grid) (take (s m).args.header.times.maps (s m).args.marks.now) (s m).args.values.now (drop (first_of (kind_of (s m).args.kind) (all m)) (es m)))
+told : (c : tie.After-kind_rows-u) → let m = n c.before.before.before in
+    c.kind_rows-u.result ≡ figures (parts_nodes (s m).args.kind (per_map (s m).args.header) (columns (s m).args.header.grid) (take (s m).args.header.times.maps (s m).args.marks.now) (s m).args.values.now (drop (first_of (kind_of (s m).args.kind) (all m)) (es m)))
 told c =
     let f = c.before.before.before.before in
-    let m = n f in
+    let m = n c.before.before.before in
     figure (s m).args.kind (per_map (s m).args.header) (columns (s m).args.header.grid) _ (take (s m).args.header.times.maps (s m).args.marks.now) (s m).args.values.now (es m)
-    m.before.per-map.ensures m.nodes.ensures (first_is f) c.kind-rows.ensures.0
+    m.before.per-map.ensures m.nodes.ensures (first_is c.before.before.before) c.kind_rows-u.ensures.0
 
-cast-maps : tie.Need-overflow-cast-maps
+cast-maps : tie.Need-overflow_cast-maps
 cast-maps c = search rules
 
-per-map-requires : tie.Need-per-map-requires
+per-map-requires : tie.Need-per_map-blocks-requires
 per-map-requires c κs = search rules
 
-nodes-requires : tie.Need-nodes-requires
+nodes-requires : tie.Need-nodes-columns-requires
 nodes-requires c κs = search rules
 
-kind-of-requires : tie.Need-kind-of-requires
+kind-of-requires : tie.Need-kind_of-requires
 kind-of-requires c κs = search rules
 
-mul-blocks-before : tie.Need-overflow-mul-blocks-before
+mul-blocks-before : tie.Need-overflow_mul-maps
 mul-blocks-before c = let m = c.before in omega (arith, all_is m, few m)
 
-blocks-before-requires : tie.Need-blocks-before-requires
+blocks-before-requires : tie.Need-blocks_before-first-requires
 blocks-before-requires c κs = let m = c.before in omega (arith, all_is m, few m)
 
-add_at : tie.Need-overflow-add-at
+add_at : tie.Need-overflow_add-at
 add_at c = search rules
 
-mul_at : tie.Need-overflow-mul-at
+mul_at : tie.Need-overflow_mul-at
 mul_at c = search rules
 
-mul-at-2 : tie.Need-overflow-mul-at-2
+mul-at-2 : tie.Need-overflow_mul-at-2
 mul-at-2 c = let m = n c in let g = (s m).good in omega (arith, room m)
 
-slice-aggregate-kind-rows : tie.Need-slice-aggregate-kind-rows
-slice-aggregate-kind-rows c = sym (marks_length (n c.before))
+slice-aggregate-kind-rows : tie.Need-slice_bounds-kind_rows-end
+slice-aggregate-kind-rows c = sym (marks_length (n c))
 
-mul-kind-rows : tie.Need-overflow-mul-kind-rows
-mul-kind-rows c = let f = c.before in omega (arith, low f, few (n f))
+mul-kind-rows : tie.Need-offset_bounds-exponents-first
+mul-kind-rows c = let f = c.before in omega (arith, low c, few (n c))
 
-sub-kind-rows : tie.Need-overflow-sub-kind-rows
-sub-kind-rows c = inside c.before
+sub-kind-rows : tie.Need-slice_bounds-kind_rows-count
+sub-kind-rows c = inside c
 
-part-kind-rows-start : tie.Need-slice-bounds-kind-rows-start
-part-kind-rows-start c = let h = inside c.before in search rules
+part-kind-rows-start : tie.Need-slice_bounds-kind_rows-start
+part-kind-rows-start c = let h = inside c in search rules
 
-part-kind-rows-end : tie.Need-slice-bounds-kind-rows-end
+part-kind-rows-end : tie.Need-slice_bounds-kind_rows-end-2
 part-kind-rows-end c = search rules
 
-kind-rows-requires : tie.Need-kind-rows-requires
+kind-rows-requires : tie.Need-kind_rows-u-requires
 kind-rows-requires c κs =
     let f = c.before.before.before in
-    let m = n f in (
+    let m = n c.before.before in (
       hold (s m).args.kind (per_map (s m).args.header) (columns (s m).args.header.grid) _ (take (s m).args.header.times.maps (s m).args.marks.now) (s m).args.values.now (es m)
-          m.before.per-map.ensures m.nodes.ensures (first_is f) (s m).pre.holds,
+          m.before.per-map.ensures m.nodes.ensures (first_is c.before.before) (s m).pre.holds,
       omega (arith, room m, marks_length m),
     )
 
 join-requires : tie.Need-join-requires
 join-requires c κs =
-    let m = n c.before.before.before.before.before in
+    let m = n c.before.before.before.before in
     ((s m).pre.ready, rw (told c.before) (parts_ready _ _ _ _ _ _ (s m).pre.holds))
 
-same_length : tie.Need-same-length
+same_length : tie.Need-shape_of-rows
 same_length c = search rules
 
 returns : tie.Need-returns
@@ -147,31 +147,11 @@ unfolding taken stored
 returns c =
     let k = c.before.before in
     let f = k.before.before.before.before in
-    let m = n f in (
+    let m = n k.before.before.before in (
       c.join.ensures ∙ ap (joined (s m).args.t) (told k),
       row (s m).args.kind (per_map (s m).args.header) (columns (s m).args.header.grid) _ (take (s m).args.header.times.maps (s m).args.marks.now) (s m).args.values.now (es m)
-          ((s m).args.kind * each m) (s m).args.rows.now m.before.per-map.ensures m.nodes.ensures (first_is f) k.kind-rows.ensures.1,
+          ((s m).args.kind * each m) (s m).args.rows.now m.before.per-map.ensures m.nodes.ensures (first_is k.before.before.before) k.kind_rows-u.ensures.1,
     )
 
-pub kind-into-spec : {M : Type 1} → statement M
-kind-into-spec =
-    tie.close
-    (tie.spec
-    cast-maps
-    per-map-requires
-    nodes-requires
-    kind-of-requires
-    mul-blocks-before
-    blocks-before-requires
-    add_at
-    mul_at
-    mul-at-2
-    slice-aggregate-kind-rows
-    mul-kind-rows
-    sub-kind-rows
-    part-kind-rows-start
-    part-kind-rows-end
-    kind-rows-requires
-    join-requires
-    same_length
-    returns)
+pub kind_into_spec : {M : Type 1} → statement M
+kind_into_spec = tie.close (tie.spec cast-maps per-map-requires nodes-requires kind-of-requires mul-blocks-before blocks-before-requires add_at mul_at mul-at-2 slice-aggregate-kind-rows mul-kind-rows sub-kind-rows part-kind-rows-start part-kind-rows-end kind-rows-requires join-requires same_length returns)

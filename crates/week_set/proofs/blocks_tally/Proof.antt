@@ -17,17 +17,17 @@ use Rattle.week_set.proofs.LoopLaws.{blocks_next, blocks_end}
 use Rattle.week_set.proofs.blocks_tally.Statement.{statement}
 use Rattle.week_set.proofs.blocks_tally.Tie as tie
 
-abbrev invariant-loop : tie.invariant-loop
+abbrev invariant-loop : tie.invariant-loop-j
 invariant-loop kind columns values exponents t₀ at₀ j₀ t at j =
     (j ≤ length exponents) × (at ≡ j * columns) × Bounded t × (nodes_in t ≤ j * columns)
     × (joined t (figures (blocks_nodes columns (drop at values) (drop j exponents))) ≡ figures (blocks_nodes columns values exponents))
 
-abbrev decreases-loop : tie.decreases-loop
+abbrev decreases-loop : tie.decreases-loop-j
 decreases-loop kind columns values exponents t₀ at₀ j₀ t at j = length exponents - j
 
 -- the block at hand
-module _ (c : tie.In-loop invariant-loop decreases-loop) where
-  abbrev l : tie.At-loop invariant-loop decreases-loop
+module _ (c : tie.In-loop-j invariant-loop decreases-loop) where
+  abbrev l : tie.At-loop-j invariant-loop decreases-loop
   l = c.before
 
   abbrev s : tie.Start invariant-loop decreases-loop
@@ -42,81 +42,81 @@ module _ (c : tie.In-loop invariant-loop decreases-loop) where
   abbrev es : List ℤ
   es = s.args.exponents.now
 
-  room : suc l.loop.j * C ≤ length es * C
-  room = let h : suc l.loop.j ≤ length es = omega arith in mul-le-mul h (le_refl C)
+  room : suc l.loop-j.j * C ≤ length es * C
+  room = let h : suc l.loop-j.j ≤ length es = omega arith in mul-le-mul h (le_refl C)
 
-  inside : l.loop.at + C ≤ length vs
-  inside = omega (arith, room, s.pre.values, l.loop.inv.1)
+  inside : l.loop-j.at + C ≤ length vs
+  inside = omega (arith, room, s.requires.values, l.loop-j.invariant.1)
 
-  span : l.loop.at + C - l.loop.at ≡ C
+  span : l.loop-j.at + C - l.loop-j.at ≡ C
   span = omega arith
 
   abbrev numbers : List ℤ
-  numbers = take C (drop l.loop.at vs)
+  numbers = take C (drop l.loop-j.at vs)
 
   numbers_length : length numbers ≡ C
-  numbers_length = length-take-le C (drop l.loop.at vs) (omega (arith, length-drop l.loop.at vs, inside))
+  numbers_length = length-take-le C (drop l.loop-j.at vs) (omega (arith, length-drop l.loop-j.at vs, inside))
 
   abbrev here : Tally
-  here = figures (map (λ v. plain v (get_or es l.loop.j (pos 0))) numbers)
+  here = figures (map (λ v. plain v (get_or es l.loop-j.j (pos 0))) numbers)
 
   here_ready : Ready here
-  here_ready = (bounded_numbers _ numbers, omega (arith, nodes_numbers (get_or es l.loop.j (pos 0)) numbers, numbers_length, room, s.pre.nodes))
+  here_ready = (bounded_numbers _ numbers, omega (arith, nodes_numbers (get_or es l.loop-j.j (pos 0)) numbers, numbers_length, room, s.requires.nodes))
 
-told : (c : tie.After-tally-of invariant-loop decreases-loop) → c.tally-of.result ≡ here c.before.before.before
+told : (c : tie.After-tally_of invariant-loop decreases-loop) → c.tally_of.result ≡ here c.before.before.before
 told c =
     let d = c.before.before.before in
-    (rw (span d) at c.tally-of.ensures) ∙ ap (λ (e : ℤ). figures (map (λ v. plain v e) (numbers d))) (search rules)
+    (rw (span d) at c.tally_of.ensures) ∙ ap (λ (e : ℤ). figures (map (λ v. plain v e) (numbers d))) (search rules)
 
-empty-requires : tie.Need-empty-requires invariant-loop decreases-loop
+empty-requires : tie.Need-empty-t-requires invariant-loop decreases-loop
 empty-requires c κs = search rules
 
-loop-holds : tie.Need-loop-init invariant-loop decreases-loop
+loop-holds : tie.Need-loop-j-init invariant-loop decreases-loop
 loop-holds c =
-    (omega arith, omega arith, rw c.empty.ensures (omega arith), rw c.empty.ensures (omega arith), rw c.empty.ensures (joined_none _))
+    (omega arith, omega arith, rw c.empty-t.ensures (omega arith), rw c.empty-t.ensures (omega arith), rw c.empty-t.ensures (joined_none _))
 
-add-end : tie.Need-overflow-add-end invariant-loop decreases-loop
+add-end : tie.Need-overflow_add-end invariant-loop decreases-loop
 add-end c = omega (arith, inside c)
 
-mul-tally-of : tie.Need-overflow-mul-tally-of invariant-loop decreases-loop
+mul-tally-of : tie.Need-offset_bounds-values-at invariant-loop decreases-loop
 mul-tally-of c = omega (arith, inside c)
 
-sub-tally-of : tie.Need-overflow-sub-tally-of invariant-loop decreases-loop
+sub-tally-of : tie.Need-slice_bounds-tally_of-count invariant-loop decreases-loop
 sub-tally-of c = search rules
 
-part-tally-of-start : tie.Need-slice-bounds-tally-of-start invariant-loop decreases-loop
+part-tally-of-start : tie.Need-slice_bounds-tally_of-start invariant-loop decreases-loop
 part-tally-of-start c = search rules
 
-part-tally-of-end : tie.Need-slice-bounds-tally-of-end invariant-loop decreases-loop
+part-tally-of-end : tie.Need-slice_bounds-tally_of-end invariant-loop decreases-loop
 part-tally-of-end c = let h = inside c in search rules
 
-mul-tally-of-2 : tie.Need-overflow-mul-tally-of-2 invariant-loop decreases-loop
+mul-tally-of-2 : tie.Need-offset_bounds-exponents-j invariant-loop decreases-loop
 mul-tally-of-2 c = omega arith
 
-shared-slice-copy-out-tally-of : tie.Need-shared-slice-copy-out-tally-of invariant-loop decreases-loop
+shared-slice-copy-out-tally-of : tie.Need-bounds-exponents-j invariant-loop decreases-loop
 shared-slice-copy-out-tally-of c = omega arith
 
-tally-of-requires : tie.Need-tally-of-requires invariant-loop decreases-loop
+tally-of-requires : tie.Need-tally_of-requires invariant-loop decreases-loop
 tally-of-requires c κs =
     let d = c.before.before in
     rw (span d) (omega (arith, numbers_length d, room d, (s d).requires.nodes))
 
-join-requires : tie.Need-join-requires invariant-loop decreases-loop
+join-requires : tie.Need-join-t-requires invariant-loop decreases-loop
 join-requires c κs =
     let d = c.before.before.before in
     (((l d).loop.invariant.2, omega (arith, (l d).loop.invariant.3, room d, (s d).requires.nodes)), rw (told c) (here_ready d))
 
-add-j : tie.Need-overflow-add-j invariant-loop decreases-loop
+add-j : tie.Need-overflow_add-j invariant-loop decreases-loop
 add-j c = omega arith
 
-loop-less : tie.Need-loop-smaller invariant-loop decreases-loop
+loop-less : tie.Need-loop-j-smaller invariant-loop decreases-loop
 loop-less c = omega arith
 
-loop-again : tie.Need-loop-preserved invariant-loop decreases-loop
+loop-again : tie.Need-loop-j-preserved invariant-loop decreases-loop
 loop-again c =
     let d = c.before.before.before.before in
     let t = (l d).loop.t in
-    let e : c.join.result ≡ joined t (here d) = c.join.ensures ∙ ap (joined t) (told c.before) in (
+    let e : c.join-t.result ≡ joined t (here d) = c.join-t.ensures ∙ ap (joined t) (told c.before) in (
       omega arith,
       omega (arith, (l d).loop.invariant.1),
       rw e (bounded_joined t (here d) (l d).loop.invariant.2 (here_ready d).0),
@@ -127,27 +127,8 @@ loop-again c =
 returns : tie.Need-returns invariant-loop decreases-loop
 returns c =
     let k = c.before in
-    let a = k.before.before.args in
-    sym (blocks_end a.columns a.values.now a.exponents.now k.loop.t k.loop.at k.loop.j (omega arith)) ∙ k.loop.invariant.4
+    let a = k.args in
+    sym (blocks_end a.columns a.values.now a.exponents.now k.loop-j.t k.loop-j.at k.loop-j.j (omega arith)) ∙ k.loop-j.invariant.4
 
-pub blocks-tally-spec : {M : Type 1} → statement M
-blocks-tally-spec =
-    tie.close
-    (tie.spec
-    invariant-loop
-    decreases-loop
-    empty-requires
-    loop-holds
-    add-end
-    mul-tally-of
-    sub-tally-of
-    part-tally-of-start
-    part-tally-of-end
-    mul-tally-of-2
-    shared-slice-copy-out-tally-of
-    tally-of-requires
-    join-requires
-    add-j
-    loop-less
-    loop-again
-    returns)
+pub blocks_tally_spec : {M : Type 1} → statement M
+blocks_tally_spec = tie.close (tie.spec invariant-loop decreases-loop empty-requires loop-holds add-end mul-tally-of sub-tally-of part-tally-of-start part-tally-of-end mul-tally-of-2 shared-slice-copy-out-tally-of tally-of-requires join-requires add-j loop-less loop-again returns)

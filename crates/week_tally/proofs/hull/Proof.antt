@@ -10,18 +10,18 @@ use Rattle.week_tally.proofs.hull.Statement.{statement}
 use Rattle.week_tally.proofs.hull.Tie as tie
 
 -- the two ranges
-module _ (k : tie.After-known-told2) where
+module _ (k : tie.In-From-s) where
   abbrev a : ℤ
-  a = k.before.before.before.before.r.given.0.0
+  a = k.in-From.a
 
   abbrev b : ℤ
-  b = k.before.before.before.before.r.given.0.1.0
+  b = k.in-From.b
 
   abbrev c2 : ℤ
-  c2 = k.before.s.given.0.0
+  c2 = k.in-From-s.c
 
   abbrev d : ℤ
-  d = k.before.s.given.0.1.0
+  d = k.in-From-s.d
 
   a_is : to_z w32 (of_z w32 a) ≡ a
   a_is = search rules
@@ -35,16 +35,16 @@ module _ (k : tie.After-known-told2) where
   d_is : to_z w32 (of_z w32 d) ≡ d
   d_is = search rules
 
-enum_told : tie.Need-enum-told
+enum_told : tie.Need-enum_told-1
 enum_told c = search rules
 
-enum-known-r : tie.Need-enum-known-r
+enum-known-r : tie.Need-enum_known-r
 enum-known-r c = search rules
 
-enum-told-2 : tie.Need-enum-told-2
+enum-told-2 : tie.Need-enum_told-in-Nothing-s
 enum-told-2 c = search rules
 
-enum-known-s : tie.Need-enum-known-s
+enum-known-s : tie.Need-enum_known-s
 enum-known-s c = search rules
 
 smaller-requires : tie.Need-smaller-requires
@@ -53,29 +53,18 @@ smaller-requires c κs = search rules
 larger-requires : tie.Need-larger-requires
 larger-requires c κs = search rules
 
-returns : tie.Need-returns
+returns : tie.Need-returns-in-Nothing
 returns c = search rules
 
-returns-2 : tie.Need-returns-2
-returns-2 c = rw (c.before.before.before.r.given.1, c.enum-told2.given.1) refl
+returns-2 : tie.Need-returns-in-Nothing-s
+returns-2 c = rw (c.in-From.is, c.in-Nothing-s.is) refl
 
-returns-3 : tie.Need-returns-3
+returns-3 : tie.Need-returns-in-From-s
 returns-3 c =
     let k = c.before.before in
-    let l : to_z w32 (of_z w32 c.before.smaller.result) ≡ smaller (a k) (c2 k) = to_z-of_z (record { sfits = c.before.smaller.type-inv }) ∙ (rw (a_is k, c_is k) at c.before.smaller.ensures) in
-    let h : to_z w32 (of_z w32 c.larger.result) ≡ larger (b k) (d k) = to_z-of_z (record { sfits = c.larger.type-inv }) ∙ (rw (b_is k, d_is k) at c.larger.ensures) in
-    rw (k.before.before.before.before.r.given.1, k.before.s.given.1, l, h) refl
+    let l : to_z w32 (of_z w32 c.smaller.result) ≡ smaller (a k) (c2 k) = to_z-of_z (record { sfits = c.smaller.type_inv }) ∙ (rw (a_is k, c_is k) at c.smaller.ensures) in
+    let h : to_z w32 (of_z w32 c.larger.result) ≡ larger (b k) (d k) = to_z-of_z (record { sfits = c.larger.type_inv }) ∙ (rw (b_is k, d_is k) at c.larger.ensures) in
+    rw (k.in-From.is, k.in-From-s.is, l, h) refl
 
-pub hull-spec : {M : Type 1} → statement M
-hull-spec =
-    tie.close
-    (tie.spec
-    enum_told
-    enum-known-r
-    enum-told-2
-    enum-known-s
-    smaller-requires
-    larger-requires
-    returns
-    returns-2
-    returns-3)
+pub hull_spec : {M : Type 1} → statement M
+hull_spec = tie.close (tie.spec enum_told enum-known-r enum-told-2 enum-known-s smaller-requires larger-requires returns returns-2 returns-3)

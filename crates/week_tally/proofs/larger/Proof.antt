@@ -13,13 +13,13 @@ module _ (s : tie.Start) where
   a_is = to_z-of_z s.ranges.a
 
   b_is : to_z w32 (of_z w32 s.args.b) ≡ s.args.b
-  b_is = to_z-of_z s.fits.b
+  b_is = to_z-of_z s.ranges.b
 
-returns : tie.Need-returns
-returns c = rw (b_is c.before) (first_no falling c.before.args.a c.before.args.b (under c.before.args.a c.before.args.b (rw (a_is c.before, b_is c.before) at c.if1.true)))
+returns : tie.Need-returns-then-a-b
+returns c = rw (b_is c.before) (first_no falling c.args.a c.args.b (under c.args.a c.args.b (rw (a_is c.before, b_is c.before) at c.if-a-b.true)))
 
-returns-2 : tie.Need-returns-2
-returns-2 c = rw (a_is c.before) (first_yes falling c.before.args.a c.before.args.b (not_under c.before.args.a c.before.args.b (rw (a_is c.before, b_is c.before) at c.if1.false)))
+returns-2 : tie.Need-returns
+returns-2 c = rw (a_is c.before) (first_yes falling c.args.a c.args.b (not_under c.args.a c.args.b (rw (a_is c.before, b_is c.before) at c.if-a-b.false)))
 
-pub larger-spec : {M : Type 1} → statement M
-larger-spec = tie.close (tie.spec returns returns-2)
+pub larger_spec : {M : Type 1} → statement M
+larger_spec = tie.close (tie.spec returns returns-2)

@@ -15,14 +15,14 @@ module _ (s : tie.Start) where
   v_is = to_z-of_z s.ranges.v
 
   wide : SFits w64 s.args.v
-  wide = sfits_widen tt s.fits.v
+  wide = sfits_widen tt s.ranges.v
 
-cast-t3 : tie.Need-overflow-cast-t3
+cast-t3 : tie.Need-overflow_cast-result
 cast-t3 c = rw (v_is c) (wide c)
 
 returns : tie.Need-returns
 unfolding figures given lacking range sum
 returns c = same refl refl (ap₂ R.From (v_is c) (v_is c)) (ap (λ (z : ℤ). to_z w64 (of_z w64 z)) (v_is c) ∙ to_z-of_z (wide c) ∙ sym (+ℤ_idr c.args.v))
 
-pub of-value-spec : {M : Type 1} → statement M
-of-value-spec = tie.close (tie.spec cast-t3 returns)
+pub of_value_spec : {M : Type 1} → statement M
+of_value_spec = tie.close (tie.spec cast-t3 returns)

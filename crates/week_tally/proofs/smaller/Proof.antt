@@ -13,13 +13,13 @@ module _ (s : tie.Start) where
   a_is = to_z-of_z s.ranges.a
 
   b_is : to_z w32 (of_z w32 s.args.b) ≡ s.args.b
-  b_is = to_z-of_z s.fits.b
+  b_is = to_z-of_z s.ranges.b
 
-returns : tie.Need-returns
-returns c = rw (b_is c.before) (first_no rising c.before.args.a c.before.args.b (under c.before.args.b c.before.args.a (rw (a_is c.before, b_is c.before) at c.if1.true)))
+returns : tie.Need-returns-then-b-a
+returns c = rw (b_is c.before) (first_no rising c.args.a c.args.b (under c.args.b c.args.a (rw (a_is c.before, b_is c.before) at c.if-b-a.true)))
 
-returns-2 : tie.Need-returns-2
-returns-2 c = rw (a_is c.before) (first_yes rising c.before.args.a c.before.args.b (not_under c.before.args.b c.before.args.a (rw (a_is c.before, b_is c.before) at c.if1.false)))
+returns-2 : tie.Need-returns
+returns-2 c = rw (a_is c.before) (first_yes rising c.args.a c.args.b (not_under c.args.b c.args.a (rw (a_is c.before, b_is c.before) at c.if-b-a.false)))
 
-pub smaller-spec : {M : Type 1} → statement M
-smaller-spec = tie.close (tie.spec returns returns-2)
+pub smaller_spec : {M : Type 1} → statement M
+smaller_spec = tie.close (tie.spec returns returns-2)

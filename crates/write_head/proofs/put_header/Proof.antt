@@ -44,64 +44,53 @@ module _ (s : tie.Start) where
   begins : On s.args.out.now s.args.at (first ++ (lines ++ (times ++ (middle ++ (systems ++ last)))))
   begins = subst (λ rows. PutsOn s.args.out.now s.args.at rows s.args.out.now s.args.at (first ++ (lines ++ (times ++ (middle ++ (systems ++ last)))))) (sym (header_is h s.args.texts s.args.descriptions.now)) leads_self
 
-on_first : (c : tie.After-put-first) → let s = c.before.before.before.before.before in On s c.put_first.new.0 c.put_first.result (lines s ++ (times s ++ (middle s ++ (systems s ++ last s))))
-on_first c = let s = c.before.before.before.before.before in leads_on (first s) (lines s ++ (times s ++ (middle s ++ (systems s ++ last s)))) (begins s) c.put_first.ensures
+on_first : (c : tie.After-put_first-a) → let s = c.before.before.before.before.before in On s.before c.put_first-a.new.out c.put_first-a.result (lines s.before ++ (times s.before ++ (middle s.before ++ (systems s.before ++ last s.before))))
+on_first c = let s = c.before.before.before.before.before in leads_on (first s.before) (lines s.before ++ (times s.before ++ (middle s.before ++ (systems s.before ++ last s.before)))) (begins s.before) c.put_first-a.ensures
 
-on_lines : (c : tie.After-put-descriptions) → let s = c.before.before.before.before.before.before.before.before.before in On s c.put-descriptions.new.0 c.put-descriptions.result (times s ++ (middle s ++ (systems s ++ last s)))
-on_lines c = let s = c.before.before.before.before.before.before.before.before.before in leads_on (lines s) (times s ++ (middle s ++ (systems s ++ last s))) (on_first c.before.before.before.before) c.put-descriptions.ensures
+on_lines : (c : tie.After-put_descriptions-b) → let s = c.before.before.before.before.before.before.before.before.before in On s.before c.put_descriptions-b.new.out c.put_descriptions-b.result (times s.before ++ (middle s.before ++ (systems s.before ++ last s.before)))
+on_lines c = let s = c.before.before.before.before.before.before.before.before.before in leads_on (lines s.before) (times s.before ++ (middle s.before ++ (systems s.before ++ last s.before))) (on_first c.before.before.before.before) c.put_descriptions-b.ensures
 
-on_times : (c : tie.After-put-times) → let s = c.before.before.before.before.before.before.before.before.before.before.before.before.before in On s c.put-times.new.0 c.put-times.result (middle s ++ (systems s ++ last s))
-on_times c = let s = c.before.before.before.before.before.before.before.before.before.before.before.before.before in leads_on (times s) (middle s ++ (systems s ++ last s)) (on_lines c.before.before.before.before) c.put-times.ensures
+on_times : (c : tie.After-put_times-c) → let s = c.before.before.before.before.before.before.before.before.before.before.before.before.before in On s.before.before c.put_times-c.new.out c.put_times-c.result (middle s.before.before ++ (systems s.before.before ++ last s.before.before))
+on_times c = let s = c.before.before.before.before.before.before.before.before.before.before.before.before.before in leads_on (times s.before.before) (middle s.before.before ++ (systems s.before.before ++ last s.before.before)) (on_lines c.before.before.before.before.before) c.put_times-c.ensures
 
-on_middle : (c : tie.After-put-middle) → let s = c.before.before.before.before.before.before.before.before.before.before.before.before.before.before.before.before.before in On s c.put-middle.new.0 c.put-middle.result (systems s ++ last s)
-on_middle c = let s = c.before.before.before.before.before.before.before.before.before.before.before.before.before.before.before.before.before in leads_on (middle s) (systems s ++ last s) (on_times c.before.before.before.before) c.put-middle.ensures
+on_middle : (c : tie.After-put_middle-d) → let s = c.before.before.before.before.before.before.before.before.before.before.before.before.before.before.before.before.before in On s.before.before c.put_middle-d.new.out c.put_middle-d.result (systems s.before.before ++ last s.before.before)
+on_middle c = let s = c.before.before.before.before.before.before.before.before.before.before.before.before.before.before.before.before.before in leads_on (middle s.before.before) (systems s.before.before ++ last s.before.before) (on_times c.before.before.before.before) c.put_middle-d.ensures
 
-on_systems : (c : tie.After-put-systems) → let s = c.before.before.before.before.before.before.before.before.before.before.before.before.before.before.before.before.before.before.before.before.before in On s c.put-systems.new.0 c.put-systems.result (last s)
-on_systems c = let s = c.before.before.before.before.before.before.before.before.before.before.before.before.before.before.before.before.before.before.before.before.before in leads_on (systems s) (last s) (on_middle c.before.before.before.before) c.put-systems.ensures
+on_systems : (c : tie.After-put_systems-e) → let s = c.before.before.before.before.before.before.before.before.before.before.before.before.before.before.before.before.before.before.before.before.before in On s.before.before.before c.put_systems-e.new.out c.put_systems-e.result (last s.before.before.before)
+on_systems c = let s = c.before.before.before.before.before.before.before.before.before.before.before.before.before.before.before.before.before.before.before.before.before in leads_on (systems s.before.before.before) (last s.before.before.before) (on_middle c.before.before.before.before.before) c.put_systems-e.ensures
 
-cast-lines : tie.Need-overflow-cast-lines
-cast-lines c = record { fits = omega (arith, c.before.before.before.requires.0.1.0.1.1.1.1.1.0) }
+cast-lines : tie.Need-overflow_cast-lines
+cast-lines c = record { fits = omega (arith, c.requires.0.1.0.1.1.1.1.1.0) }
 
-put-first-requires : tie.Need-put-first-requires
-put-first-requires c κs = let s = c.before.before.before.before in (s.requires.0.0, room_front (first s) (lines s ++ (times s ++ (middle s ++ (systems s ++ last s)))) ((begins s).room s.requires.1))
+put-first-requires : tie.Need-put_first-a-requires
+put-first-requires c κs = let s = c.before.before.before.before in (s.requires.0.0, room_front (first s.before) (lines s.before ++ (times s.before ++ (middle s.before ++ (systems s.before ++ last s.before)))) ((begins s.before).room s.requires.1))
 
-put-descriptions-requires : tie.Need-put-descriptions-requires
+put-descriptions-requires : tie.Need-put_descriptions-b-requires
 put-descriptions-requires c κs =
     let s = c.before.before.before.before.before.before.before.before in
     let d = s.requires.0.1.0.1.1.1.1.1 in
-    (omega (arith, d.0, d.1.0.0), room_front (lines s) (times s ++ (middle s ++ (systems s ++ last s))) ((on_first c.before.before.before).room s.requires.1))
+    (omega (arith, d.0, d.1.0.0), room_front (lines s.before) (times s.before ++ (middle s.before ++ (systems s.before ++ last s.before))) ((on_first c.before.before.before).room s.requires.1))
 
-put-times-requires : tie.Need-put-times-requires
-put-times-requires c κs = let s = c.before.before.before.before.before.before.before.before.before.before.before.before in (s.requires.0.1.1.0, room_front (times s) (middle s ++ (systems s ++ last s)) ((on_lines c.before.before.before).room s.requires.1))
+put-times-requires : tie.Need-put_times-c-requires
+put-times-requires c κs = let s = c.before.before.before.before.before.before.before.before.before.before.before.before in (s.requires.0.1.1.0, room_front (times s.before.before) (middle s.before.before ++ (systems s.before.before ++ last s.before.before)) ((on_lines c.before.before.before.before).room s.requires.1))
 
-put-middle-requires : tie.Need-put-middle-requires
+put-middle-requires : tie.Need-put_middle-d-requires
 put-middle-requires c κs =
     let s = c.before.before.before.before.before.before.before.before.before.before.before.before.before.before.before.before in
     let g = s.requires.0.1.1.1 in
-    ((g.0, (g.1.1.0, g.1.1.1.0)), room_front (middle s) (systems s ++ last s) ((on_times c.before.before.before).room s.requires.1))
+    ((g.0, (g.1.1.0, g.1.1.1.0)), room_front (middle s.before.before) (systems s.before.before ++ last s.before.before) ((on_times c.before.before.before).room s.requires.1))
 
-put-systems-requires : tie.Need-put-systems-requires
-put-systems-requires c κs = let s = c.before.before.before.before.before.before.before.before.before.before.before.before.before.before.before.before.before.before.before.before in (s.requires.0.1.1.1.1.1.1.1.0, room_front (systems s) (last s) ((on_middle c.before.before.before).room s.requires.1))
+put-systems-requires : tie.Need-put_systems-e-requires
+put-systems-requires c κs = let s = c.before.before.before.before.before.before.before.before.before.before.before.before.before.before.before.before.before.before.before.before in (s.requires.0.1.1.1.1.1.1.1.0, room_front (systems s.before.before.before) (last s.before.before.before) ((on_middle c.before.before.before.before).room s.requires.1))
 
-put-last-requires : tie.Need-put-last-requires
-put-last-requires c κs = let s = c.before.before.before.before.before.before.before.before.before.before.before.before.before.before.before.before.before.before.before.before.before.before.before.before in (s.requires.0.1.1.1.0, (on_systems c.before.before.before).room s.requires.1)
+put-last-requires : tie.Need-put_last-requires
+put-last-requires c κs = let s = c.before.before.before.before.before.before.before.before.before.before.before.before.before.before.before.before.before.before.before.before.before.before.before.before in (s.requires.0.1.1.1.0, (on_systems c.before.before.before.before.before).room s.requires.1)
 
-same_length : tie.Need-same-length
-same_length c = c.before.before.put_last.ensures.size ∙ (on_systems c.before.before.before.before.before.before).size
+same_length : tie.Need-shape_of-out
+same_length c = c.put_last.ensures.size ∙ (on_systems c.before.before.before.before.before.before.before.before).size
 
 returns : tie.Need-returns
-returns c = (on_systems c.before.before.before.before.before.before).rest _ _ c.before.before.put_last.ensures
+returns c = (on_systems c.before.before.before.before.before.before.before.before).rest _ _ c.put_last.ensures
 
-pub put-header-spec : {M : Type 1} → statement M
-put-header-spec =
-    tie.close
-    (tie.spec
-    cast-lines
-    put-first-requires
-    put-descriptions-requires
-    put-times-requires
-    put-middle-requires
-    put-systems-requires
-    put-last-requires
-    same_length
-    returns)
+pub put_header_spec : {M : Type 1} → statement M
+put_header_spec = tie.close (tie.spec cast-lines put-first-requires put-descriptions-requires put-times-requires put-middle-requires put-systems-requires put-last-requires same_length returns)

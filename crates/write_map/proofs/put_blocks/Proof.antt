@@ -19,15 +19,15 @@ use Rattle.write_map.proofs.BlockLaws.{few_values, one_block, blocks_from, block
 use Rattle.write_map.proofs.put_blocks.Statement.{statement}
 use Rattle.write_map.proofs.put_blocks.Tie as tie
 
-abbrev invariant-loop : tie.invariant-loop
+abbrev invariant-loop : tie.invariant-loop-d
 invariant-loop out₀ at header in_force es vs columns next₀ held₀ d₀ from₀ out next held d from =
     (d ≤ length es) × (from ≡ d * G.columns header.grid)
     × PutsOn out₀ at (block_rows header 0 (to_z w32 in_force) (map_blocks header es vs) []) out next (blocks_from header (G.columns header.grid) es vs d from (to_z w32 held))
 
-abbrev decreases-loop : tie.decreases-loop
+abbrev decreases-loop : tie.decreases-loop-d
 decreases-loop out₀ at header in_force es vs columns next₀ held₀ d₀ from₀ out next held d from = length es - d
 
-module _ (l : tie.At-loop invariant-loop decreases-loop) where
+module _ (l : tie.At-loop-d invariant-loop decreases-loop) where
   abbrev s : tie.Start invariant-loop decreases-loop
   s = l.before.before.before
 
@@ -35,112 +35,93 @@ module _ (l : tie.At-loop invariant-loop decreases-loop) where
   C = G.columns s.args.header.grid
 
   force_is : to_z w32 (of_z w32 s.args.in-force) ≡ s.args.in-force
-  force_is = to_z-of_z s.fits.in-force
+  force_is = to_z-of_z s.ranges.in-force
 
-  module _ (h : l.loop.d < length s.args.es.now) where
-    inside : l.loop.from + C ≤ length s.args.vs.now
-    inside = part_inside l.loop.d (length s.args.es.now) C l.loop.from (length s.args.vs.now) l.loop.inv.1 (s.pre.1.values ∙ ap (λ n. n * C) (sym s.pre.1.exponents)) h
+  module _ (h : l.loop-d.d < length s.args.es.now) where
+    inside : l.loop-d.from + C ≤ length s.args.vs.now
+    inside = part_inside l.loop-d.d (length s.args.es.now) C l.loop-d.from (length s.args.vs.now) l.loop-d.invariant.1 (s.requires.1.values ∙ ap (λ n. n * C) (sym s.requires.1.exponents)) h
 
-    here : PutsOn s.args.out.now s.args.at (block_rows s.args.header 0 s.args.in-force (map_blocks s.args.header s.args.es.now s.args.vs.now) []) l.loop.out l.loop.next
-        (one_block s.args.header l.loop.d (to_z w32 l.loop.held) (get_or s.args.es.now l.loop.d (pos 0)) (take C (drop l.loop.from s.args.vs.now))
-        ++ blocks_from s.args.header C s.args.es.now s.args.vs.now (l.loop.d + 1) (l.loop.from + C) (get_or s.args.es.now l.loop.d (pos 0)))
-    here = rw (force_is, blocks_next s.args.header C s.args.es.now s.args.vs.now l.loop.d l.loop.from (to_z w32 l.loop.held) h) at l.loop.inv.2
+    here : PutsOn s.args.out.now s.args.at (block_rows s.args.header 0 s.args.in-force (map_blocks s.args.header s.args.es.now s.args.vs.now) []) l.loop-d.out l.loop-d.next
+        (one_block s.args.header l.loop-d.d (to_z w32 l.loop-d.held) (get_or s.args.es.now l.loop-d.d (pos 0)) (take C (drop l.loop-d.from s.args.vs.now))
+        ++ blocks_from s.args.header C s.args.es.now s.args.vs.now (l.loop-d.d + 1) (l.loop-d.from + C) (get_or s.args.es.now l.loop-d.d (pos 0)))
+    here = rw (force_is, blocks_next s.args.header C s.args.es.now s.args.vs.now l.loop-d.d l.loop-d.from (to_z w32 l.loop-d.held) h) at l.loop-d.invariant.2
 
-  width : l.loop.from + l.before.nodes.result - l.loop.from ≡ C
-  width = omega (arith, l.before.nodes.ensures)
+  width : l.loop-d.from + l.nodes-columns.result - l.loop-d.from ≡ C
+  width = omega (arith, l.nodes-columns.ensures)
 
-exponent_is : (c : tie.After-exponent invariant-loop decreases-loop) → let l = c.before.before in to_z w32 (of_z w32 (get_or (s l).args.es.now l.loop.d (pos 0))) ≡ get_or (s l).args.es.now l.loop.d (pos 0)
-exponent_is c = to_z-of_z (record { sfits = c.exponent.given })
+exponent_is : (c : tie.After-exponent-1 invariant-loop decreases-loop) → let l = c.before.before in to_z w32 (of_z w32 (get_or (s l).args.es.now l.loop-d.d (pos 0))) ≡ get_or (s l).args.es.now l.loop-d.d (pos 0)
+exponent_is c = to_z-of_z (record { sfits = c.exponent-1.given })
 
-put_of : (c : tie.After-put-block invariant-loop decreases-loop) → let l = c.before.before.before.before.before in
-    Put l.loop.out l.loop.next (one_block (s l).args.header l.loop.d (to_z w32 l.loop.held) (get_or (s l).args.es.now l.loop.d (pos 0)) (take (C l) (drop l.loop.from (s l).args.vs.now)))
-    c.put-block.new.0 c.put-block.result
+put_of : (c : tie.After-put_block-next invariant-loop decreases-loop) → let l = c.before.before.before.before.before in
+    Put l.loop-d.out l.loop-d.next (one_block (s l.before).args.header l.loop-d.d (to_z w32 l.loop-d.held) (get_or (s l.before).args.es.now l.loop-d.d (pos 0)) (take (C l.before) (drop l.loop-d.from (s l.before).args.vs.now)))
+    c.put_block-next.new.out c.put_block-next.result
 put_of c =
     let l = c.before.before.before.before.before in
-    rw (width l, exponent_is c.before.before.before) at c.put-block.ensures
+    rw (width l.before, exponent_is c.before.before.before.before) at c.put_block-next.ensures
 
-nodes-requires : tie.Need-nodes-requires invariant-loop decreases-loop
+nodes-requires : tie.Need-nodes-columns-requires invariant-loop decreases-loop
 nodes-requires c κs = search rules
 
-loop-holds : tie.Need-loop-init invariant-loop decreases-loop
+loop-holds : tie.Need-loop-d-init invariant-loop decreases-loop
 loop-holds c =
     let s = c.before.before in
     (omega arith, omega arith, rw (blocks_start s.args.header s.args.es.now s.args.vs.now (to_z w32 (of_z w32 s.args.in-force)) s.requires.1.exponents) leads_self)
 
-mul-exponent : tie.Need-overflow-mul-exponent invariant-loop decreases-loop
+mul-exponent : tie.Need-offset_bounds-es-d invariant-loop decreases-loop
 mul-exponent c = search rules
 
-shared-slice-copy-out-exponent : tie.Need-shared-slice-copy-out-exponent invariant-loop decreases-loop
+shared-slice-copy-out-exponent : tie.Need-bounds-es-d invariant-loop decreases-loop
 shared-slice-copy-out-exponent c = search rules
 
-add-end : tie.Need-overflow-add-end invariant-loop decreases-loop
-add-end c = let l = c.before.before in omega (arith, inside l (omega arith), (s l).requires.1.values, few_values (s l).args.header (s l).requires.0.fine, l.before.nodes.ensures)
+add-end : tie.Need-overflow_add-end invariant-loop decreases-loop
+add-end c = let l = c.before.before in omega (arith, inside l (omega arith), (s l).requires.1.values, few_values (s l).args.header (s l).requires.0.fine, l.nodes-columns.ensures)
 
-mul-put-block : tie.Need-overflow-mul-put-block invariant-loop decreases-loop
-mul-put-block c = let l = c.before.before.before in omega (arith, inside l (omega arith), (s l).requires.1.values, few_values (s l).args.header (s l).requires.0.fine)
+mul-put-block : tie.Need-offset_bounds-vs-from invariant-loop decreases-loop
+mul-put-block c = let l = c.before.before.before in omega (arith, inside l (omega arith), (s l.before).requires.1.values, few_values (s l.before).args.header (s l.before).requires.0.fine)
 
-sub-put-block : tie.Need-overflow-sub-put-block invariant-loop decreases-loop
+sub-put-block : tie.Need-slice_bounds-put_block-count invariant-loop decreases-loop
 sub-put-block c = search rules
 
-part-put-block-start : tie.Need-slice-bounds-put-block-start invariant-loop decreases-loop
+part-put-block-start : tie.Need-slice_bounds-put_block-start invariant-loop decreases-loop
 part-put-block-start c = search rules
 
-part-put-block-end : tie.Need-slice-bounds-put-block-end invariant-loop decreases-loop
-part-put-block-end c = let l = c.before.before.before in let h = inside l (omega arith) in let e = l.before.nodes.ensures in search rules
+part-put-block-end : tie.Need-slice_bounds-put_block-end invariant-loop decreases-loop
+part-put-block-end c = let l = c.before.before.before in let h = inside l (omega arith) in let e = l.nodes-columns.ensures in search rules
 
-put-block-requires : tie.Need-put-block-requires invariant-loop decreases-loop
+put-block-requires : tie.Need-put_block-next-requires invariant-loop decreases-loop
 put-block-requires c κs =
     let l = c.before.before.before.before in
-    let h : l.loop.d < length (s l).args.es.now = omega arith in
-    rw (width l, exponent_is c.before.before)
-    (placed (s l).args.header.grid l.loop.d (s l).requires.0.fine.axes.heights (s l).requires.0.fine.axes.latitudes (s l).requires.0.fine.limits.2 (s l).requires.0.fine.limits.0 (omega (arith, (s l).requires.1.exponents)), room_front _ _ ((here l h).room (s l).requires.0.room))
+    let h : l.loop-d.d < length (s l.before).args.es.now = omega arith in
+    rw (width l.before, exponent_is c.before.before.before)
+    (placed (s l.before).args.header.grid l.loop-d.d (s l.before).requires.0.fine.axes.heights (s l.before).requires.0.fine.axes.latitudes (s l.before).requires.0.fine.limits.2 (s l.before).requires.0.fine.limits.0 (omega (arith, (s l.before).requires.1.exponents)), room_front _ _ ((here l h).room (s l.before).requires.0.room))
 
-add-d : tie.Need-overflow-add-d invariant-loop decreases-loop
+add-d : tie.Need-overflow_add-d invariant-loop decreases-loop
 add-d c = search rules
 
-loop-less : tie.Need-loop-smaller invariant-loop decreases-loop
+loop-less : tie.Need-loop-d-smaller invariant-loop decreases-loop
 loop-less c = search rules
 
-loop-again : tie.Need-loop-preserved invariant-loop decreases-loop
+loop-again : tie.Need-loop-d-preserved invariant-loop decreases-loop
 loop-again c =
     let l = c.before.before.before.before.before.before.before in
-    let h : l.loop.d < length (s l).args.es.now = omega arith in
+    let h : l.loop-d.d < length (s l.before).args.es.now = omega arith in
     let p = leads_on _ _ (here l h) (put_of c.before.before) in (
       omega arith,
-      ap (λ n. l.loop.from + n) l.before.nodes.ensures ∙ part_next _ _ _ _ _ l.loop.invariant.1 refl h,
-      rw (force_is l, exponent_is c.before.before.before.before.before)
-          (subst (λ (n : ℕ). PutsOn (s l).args.out.now (s l).args.at (block_rows (s l).args.header 0 (s l).args.in-force (map_blocks (s l).args.header (s l).args.es.now (s l).args.vs.now) [])
-          c.before.before.put-block.new.0 c.before.before.put-block.result
-          (blocks_from (s l).args.header (C l) (s l).args.es.now (s l).args.vs.now (l.loop.d + 1) (l.loop.from + n) (get_or (s l).args.es.now l.loop.d (pos 0)))) (sym l.before.nodes.ensures) p),
+      ap (λ n. l.loop-d.from + n) l.nodes-columns.ensures ∙ part_next _ _ _ _ _ l.loop-d.invariant.1 refl h,
+      rw (force_is l.before, exponent_is c.before.before.before.before.before.before)
+          (subst (λ (n : ℕ). PutsOn (s l.before).args.out.now (s l.before).args.at (block_rows (s l.before).args.header 0 (s l.before).args.in-force (map_blocks (s l.before).args.header (s l.before).args.es.now (s l.before).args.vs.now) [])
+          c.put_block-next.new.out c.put_block-next.result
+          (blocks_from (s l.before).args.header (C l.before) (s l.before).args.es.now (s l.before).args.vs.now (l.loop-d.d + 1) (l.loop-d.from + n) (get_or (s l.before).args.es.now l.loop-d.d (pos 0)))) (sym l.nodes-columns.ensures) p),
     )
 
-same_length : tie.Need-same-length invariant-loop decreases-loop
-same_length c = c.before.loop.invariant.2.size
+same_length : tie.Need-shape_of-out invariant-loop decreases-loop
+same_length c = c.loop-d.invariant.2.size
 
 returns : tie.Need-returns invariant-loop decreases-loop
 returns c =
     let l = c.before in
-    let e = blocks_end (s l).args.header (C l) (s l).args.es.now (s l).args.vs.now l.loop.d l.loop.from (to_z w32 l.loop.held) (omega arith) in
-    (rw (force_is l, e) at l.loop.invariant.2).rest _ _ put_none
+    let e = blocks_end (s l).args.header (C l) (s l).args.es.now (s l).args.vs.now l.loop-d.d l.loop-d.from (to_z w32 l.loop-d.held) (omega arith) in
+    (rw (force_is l, e) at l.loop-d.invariant.2).rest _ _ put_none
 
-pub put-blocks-spec : {M : Type 1} → statement M
-put-blocks-spec =
-    tie.close
-    (tie.spec
-    invariant-loop
-    decreases-loop
-    nodes-requires
-    loop-holds
-    mul-exponent
-    shared-slice-copy-out-exponent
-    add-end
-    mul-put-block
-    sub-put-block
-    part-put-block-start
-    part-put-block-end
-    put-block-requires
-    add-d
-    loop-less
-    loop-again
-    same_length
-    returns)
+pub put_blocks_spec : {M : Type 1} → statement M
+put_blocks_spec = tie.close (tie.spec invariant-loop decreases-loop nodes-requires loop-holds mul-exponent shared-slice-copy-out-exponent add-end mul-put-block sub-put-block part-put-block-start part-put-block-end put-block-requires add-d loop-less loop-again same_length returns)

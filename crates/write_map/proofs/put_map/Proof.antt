@@ -30,48 +30,40 @@ module _ (s : tie.Start) where
   begins = leads_self
 
   force_is : to_z w32 (of_z w32 s.args.in-force) ≡ s.args.in-force
-  force_is = to_z-of_z s.fits.in-force
+  force_is = to_z-of_z s.ranges.in-force
 
-started : (c : tie.After-put-start) → let s = c.before.before.before in PutsOn s.args.out.now s.args.at (all s) c.put-start.new.0 c.put-start.result (epoch_rows s.args.kind s.args.epoch ++ (rows_at s ++ close_row s))
-started c = leads_next (begins c.before.before.before) c.put-start.ensures
+started : (c : tie.After-put_start-first) → let s = c.before.before.before in PutsOn s.args.out.now s.args.at (all s) c.put_start-first.new.out c.put_start-first.result (epoch_rows s.args.kind s.args.epoch ++ (rows_at s ++ close_row s))
+started c = leads_next (begins c.before.before.before) c.put_start-first.ensures
 
-dated : (c : tie.After-put-epoch) → let s = c.before.before.before.before.before.before.before in PutsOn s.args.out.now s.args.at (all s) c.put-epoch.new.0 c.put-epoch.result (rows_at s ++ close_row s)
-dated c = leads_on _ _ (started c.before.before.before.before) c.put-epoch.ensures
+dated : (c : tie.After-put_epoch-second) → let s = c.before.before.before.before.before.before.before in PutsOn s.args.out.now s.args.at (all s) c.put_epoch-second.new.out c.put_epoch-second.result (rows_at s ++ close_row s)
+dated c = leads_on _ _ (started c.before.before.before.before) c.put_epoch-second.ensures
 
-filled : (c : tie.After-put-blocks) → let s = c.before.before.before.before.before.before.before.before.before.before.before in PutsOn s.args.out.now s.args.at (all s) c.put-blocks.new.0 c.put-blocks.result (close_row s)
+filled : (c : tie.After-put_blocks-third) → let s = c.before.before.before.before.before.before.before.before.before.before.before in PutsOn s.args.out.now s.args.at (all s) c.put_blocks-third.new.out c.put_blocks-third.result (close_row s)
 filled c =
     let s = c.before.before.before.before.before.before.before.before.before.before.before in
-    leads_on _ _ (dated c.before.before.before.before) (rw (force_is s) at c.put-blocks.ensures)
+    leads_on _ _ (dated c.before.before.before.before) (rw (force_is s) at c.put_blocks-third.ensures)
 
-put-start-requires : tie.Need-put-start-requires
+put-start-requires : tie.Need-put_start-first-requires
 put-start-requires c κs = let s = c.before.before in (s.requires.2, room_first ((begins s).room s.requires.0.room))
 
-put-epoch-requires : tie.Need-put-epoch-requires
+put-epoch-requires : tie.Need-put_epoch-second-requires
 put-epoch-requires c κs = let s = c.before.before.before.before.before.before in room_front _ _ ((started c.before.before.before).room s.requires.0.room)
 
-put-blocks-requires : tie.Need-put-blocks-requires
+put-blocks-requires : tie.Need-put_blocks-third-requires
 put-blocks-requires c κs =
     let s = c.before.before.before.before.before.before.before.before.before.before in
     rw (force_is s) (record { fine = s.requires.0.fine; room = room_front _ _ ((dated c.before.before.before).room s.requires.0.room) }, s.requires.1)
 
-put-end-requires : tie.Need-put-end-requires
+put-end-requires : tie.Need-put_end-requires
 put-end-requires c κs =
     let s = c.before.before.before.before.before.before.before.before.before.before.before.before.before.before in
     (s.requires.2, (filled c.before.before.before).room s.requires.0.room)
 
-same_length : tie.Need-same-length
+same_length : tie.Need-shape_of-out
 same_length c = search rules
 
 returns : tie.Need-returns
-returns c = (filled c.before.before.before.before.before.before).rest _ _ c.before.before.put-end.ensures
+returns c = (filled c.before.before.before.before.before.before).rest _ _ c.put_end.ensures
 
-pub put-map-spec : {M : Type 1} → statement M
-put-map-spec =
-    tie.close
-    (tie.spec
-    put-start-requires
-    put-epoch-requires
-    put-blocks-requires
-    put-end-requires
-    same_length
-    returns)
+pub put_map_spec : {M : Type 1} → statement M
+put_map_spec = tie.close (tie.spec put-start-requires put-epoch-requires put-blocks-requires put-end-requires same_length returns)

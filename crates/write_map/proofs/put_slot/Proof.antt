@@ -1,4 +1,5 @@
 -- `write_map::put_slot` meets its contract.
+use mathlib.Core.Bool.{not}
 use borrow.Author.Rules.{rules}
 use mathlib.Core.Path.{◌≡◌, sym, ap, ◌∙◌}
 use mathlib.Core.List.{List}
@@ -28,39 +29,39 @@ module _ (s : tie.Start) where
   bs = slot_blocks s.args.header s.args.es.now s.args.vs.now s.args.from
 
   force_is : to_z w32 (of_z w32 s.args.in-force) ≡ s.args.in-force
-  force_is = to_z-of_z s.fits.in-force
+  force_is = to_z-of_z s.ranges.in-force
 
   width : s.args.end - s.args.from ≡ per_map s.args.header * G.columns s.args.header.grid
-  width = omega (arith, s.pre.width)
+  width = omega (arith, s.requires.width)
 
 present-requires : tie.Need-present-requires
 present-requires c κs = search rules
 
-is_there : (c : tie.Else1) → Present c.before.before.before.args.kind c.before.before.before.args.mark
-is_there c = truth_true _ (sym c.before.present.ensures ∙ not-false _ c.if1.false)
+is_there : (c : tie.Else-not-present) → Present c.args.kind c.args.mark
+is_there c = truth_true _ (sym c.present.ensures ∙ not-false _ (ap not c.if-not-present.false))
 
-returns : tie.Need-returns
+returns : tie.Need-returns-then-not-present
 returns c =
     let s = c.before.before.before in
-    let n = truth_false _ (sym c.before.present.ensures ∙ not-true _ c.if1.true) in
+    let n = truth_false _ (sym c.present.ensures ∙ not-true _ (ap not c.if-not-present.true)) in
     record {
       put = rw (map_absent s.args.kind s.args.header s.args.number s.args.epoch s.args.mark s.args.in-force (bs s) n) put_none;
       force = force_is s ∙ sym (force_absent s.args.kind s.args.mark s.args.in-force (bs s) n);
     }
 
-mul-put-map : tie.Need-overflow-mul-put-map
+mul-put-map : tie.Need-offset_bounds-vs-from
 mul-put-map c = let s = c.before.before.before.before in omega (arith, s.requires.width, s.requires.low)
 
-sub-put-map : tie.Need-overflow-sub-put-map
+sub-put-map : tie.Need-slice_bounds-put_map-count
 sub-put-map c = let s = c.before.before.before.before in omega (arith, s.requires.width)
 
-part-put-map-start : tie.Need-slice-bounds-put-map-start
+part-put-map-start : tie.Need-slice_bounds-put_map-start
 part-put-map-start c = let s = c.before.before.before.before in let w = s.requires.width in search rules
 
-part-put-map-end : tie.Need-slice-bounds-put-map-end
+part-put-map-end : tie.Need-slice_bounds-put_map-end
 part-put-map-end c = let s = c.before.before.before.before in s.requires.values (is_there c.before)
 
-put-map-requires : tie.Need-put-map-requires
+put-map-requires : tie.Need-put_map-next-requires
 put-map-requires c κs =
     let s = c.before.before.before.before.before in
     let p = is_there c.before.before in
@@ -71,44 +72,30 @@ put-map-requires c κs =
       s.requires.number,
     )
 
-sub-t20 : tie.Need-overflow-sub-t20
+sub-t20 : tie.Need-overflow_sub-result
 sub-t20 c = let s = c.before.before.before.before.before.before.before.before in omega (arith, s.requires.exponents)
 
-mul-t23 : tie.Need-overflow-mul-t23
+mul-t23 : tie.Need-offset_bounds-es-es
 mul-t23 c =
     let s = c.before.before.before.before.before.before.before.before in
     omega (arith, s.requires.exponents, few_blocks s.args.header s.requires.ready.fine)
 
-shared-slice-copy-out-t25 : tie.Need-shared-slice-copy-out-t25
+shared-slice-copy-out-t25 : tie.Need-bounds-es-es
 shared-slice-copy-out-t25 c = let s = c.before.before.before.before.before.before.before.before in omega (arith, s.requires.exponents)
 
-same_length : tie.Need-same-length
+same_length : tie.Need-shape_of-out
 same_length c = search rules
 
-returns-2 : tie.Need-returns-2
+returns-2 : tie.Need-returns
 returns-2 c =
     let s = c.before.before.before.before.before.before.before.before.before in
     let p = is_there c.before.before.before.before.before.before in
     record {
-      put = rw (map_there s.args.kind s.args.header s.args.number s.args.epoch s.args.mark s.args.in-force (bs s) p) (rw (force_is s, width s) at c.before.before.before.put_map.ensures);
-      force = to_z-of_z (record { sfits = c.t25.given }) ∙ ap (λ n. get_or s.args.es.now (n - 1) (pos 0)) s.requires.exponents
+      put = rw (map_there s.args.kind s.args.header s.args.number s.args.epoch s.args.mark s.args.in-force (bs s) p) (rw (force_is s, width s) at c.put_map-next.ensures);
+      force = to_z-of_z (record { sfits = c.result-1.given }) ∙ ap (λ n. get_or s.args.es.now (n - 1) (pos 0)) s.requires.exponents
           ∙ sym (force_there s.args.kind s.args.mark s.args.in-force (bs s) p
           ∙ last_in_force (G.columns s.args.header.grid) s.args.in-force (per_map s.args.header) s.args.es.now (take (per_map s.args.header * G.columns s.args.header.grid) (drop s.args.from s.args.vs.now)) s.requires.exponents (some_blocks s.args.header));
     }
 
-pub put-slot-spec : {M : Type 1} → statement M
-put-slot-spec =
-    tie.close
-    (tie.spec
-    present-requires
-    returns
-    mul-put-map
-    sub-put-map
-    part-put-map-start
-    part-put-map-end
-    put-map-requires
-    sub-t20
-    mul-t23
-    shared-slice-copy-out-t25
-    same_length
-    returns-2)
+pub put_slot_spec : {M : Type 1} → statement M
+put_slot_spec = tie.close (tie.spec present-requires returns mul-put-map sub-put-map part-put-map-start part-put-map-end put-map-requires sub-t20 mul-t23 shared-slice-copy-out-t25 same_length returns-2)

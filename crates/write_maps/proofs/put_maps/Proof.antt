@@ -38,84 +38,76 @@ module _ (s : tie.Start) where
   abbrev others : List (List ℕ)
   others = area_rows s.args.header a K.Rms k1 ++ heights
 
-put-kind-requires : tie.Need-put-kind-requires
+put-kind-requires : tie.Need-put_kind-a-requires
 put-kind-requires c κs =
     let s = c.before.before.before.before in
     area_ready s.args.header (a s) s.requires.long K.Tec (negsuc 0) (negsuc 0) refl s.requires.ready.fine s.requires.epochs (room_front (area_rows s.args.header (a s) K.Tec (negsuc 0)) (others s) s.requires.ready.room)
 
 -- ---- after the TEC maps
-module _ (c : tie.After-put-kind) where
+module _ (c : tie.After-put_kind-a) where
   abbrev s1 : tie.Start
   s1 = c.before.before.before.before.before
 
-  tec : PutTo s1.args.out.now s1.args.at (area_rows s1.args.header (a s1) K.Tec (negsuc 0)) (k1 s1) c.put-kind.new.0 c.put-kind.result
-  tec = area_put s1.args.header (a s1) s1.pre.long K.Tec (negsuc 0) (negsuc 0) refl c.put-kind.ensures
+  tec : PutTo s1.args.out.now s1.args.at (area_rows s1.args.header (a s1) K.Tec (negsuc 0)) (k1 s1) c.put_kind-a.new.out c.put_kind-a.result
+  tec = area_put s1.args.header (a s1) s1.requires.long K.Tec (negsuc 0) (negsuc 0) refl c.put_kind-a.ensures
 
-  lead1 : PutsOn s1.args.out.now s1.args.at (all_rows s1.args.header (a s1)) c.put-kind.new.0 c.put-kind.result.at (others s1)
+  lead1 : PutsOn s1.args.out.now s1.args.at (all_rows s1.args.header (a s1)) c.put_kind-a.new.out c.put_kind-a.result.at (others s1)
   lead1 = leads_on (area_rows s1.args.header (a s1) K.Tec (negsuc 0)) (others s1) leads_self tec.put
 
-force1 : (c : tie.After-struct-told) → to_z w32 (of_z w32 c.before.before.before.before.put-kind.result.exponent) ≡ k1 (s1 c.before.before.before.before)
-force1 c = to_z-of_z (record { sfits = c.struct_told.given.1.0.1 }) ∙ (tec c.before.before.before.before).force
+force1 : (c : tie.After-struct_told-1) → to_z w32 (of_z w32 c.put_kind-a.result.exponent) ≡ k1 (s1 c.before.before.before.before)
+force1 c = to_z-of_z (record { sfits = c.struct_told-1.given.1.0.1 }) ∙ (tec c.before.before.before.before).force
 
-put-kind-requires-2 : tie.Need-put-kind-requires-2
+put-kind-requires-2 : tie.Need-put_kind-b-requires
 put-kind-requires-2 c κs =
     let d = c.before.before.before.before in
     let s = s1 d in
     area_ready s.args.header (a s) s.pre.long K.Rms (k1 s) _ (force1 c) s.pre.ready.fine s.pre.epochs (room_front (area_rows s.args.header (a s) K.Rms (k1 s)) (heights s) ((lead1 d).room s.pre.ready.room))
 
 -- ---- after the RMS maps
-module _ (c : tie.After-put-kind2) where
-  abbrev c1 : tie.After-put-kind
+module _ (c : tie.After-put_kind-b) where
+  abbrev c1 : tie.After-put_kind-a
   c1 = c.before.before.before.before.before
 
   abbrev s2 : tie.Start
   s2 = s1 c1
 
-  rms : PutTo c1.put-kind.last.0 c1.put-kind.result.at (area_rows s2.args.header (a s2) K.Rms (k1 s2)) (k2 s2) c.put-kind2.new.0 c.put-kind2.result
-  rms = area_put s2.args.header (a s2) s2.pre.long K.Rms (k1 s2) _ (force1 c.before) c.put-kind2.ensures
+  rms : PutTo c1.put_kind-a.last.0 c1.put_kind-a.result.at (area_rows s2.args.header (a s2) K.Rms (k1 s2)) (k2 s2) c.put_kind-b.new.out c.put_kind-b.result
+  rms = area_put s2.args.header (a s2) s2.requires.long K.Rms (k1 s2) _ (force1 c.before) c.put_kind-b.ensures
 
-  lead2 : PutsOn s2.args.out.now s2.args.at (all_rows s2.args.header (a s2)) c.put-kind2.new.0 c.put-kind2.result.at (heights s2)
+  lead2 : PutsOn s2.args.out.now s2.args.at (all_rows s2.args.header (a s2)) c.put_kind-b.new.out c.put_kind-b.result.at (heights s2)
   lead2 = leads_on (area_rows s2.args.header (a s2) K.Rms (k1 s2)) (heights s2) (lead1 c1) rms.put
 
-force2 : (c : tie.After-struct-told2) → to_z w32 (of_z w32 c.before.before.before.before.put-kind2.result.exponent) ≡ k2 (s2 c.before.before.before.before)
-force2 c = to_z-of_z (record { sfits = c.struct-told2.given.1.0.1 }) ∙ (rms c.before.before.before.before).force
+force2 : (c : tie.After-struct_told-2-1) → to_z w32 (of_z w32 c.put_kind-b.result.exponent) ≡ k2 (s2 c.before.before.before.before)
+force2 c = to_z-of_z (record { sfits = c.struct_told-2-1.given.1.0.1 }) ∙ (rms c.before.before.before.before).force
 
-put-kind-requires-3 : tie.Need-put-kind-requires-3
+put-kind-requires-3 : tie.Need-put_kind-c-requires
 put-kind-requires-3 c κs =
     let d = c.before.before.before.before in
     let s = s2 d in
     area_ready s.args.header (a s) s.pre.long K.Height (k2 s) _ (force2 c) s.pre.ready.fine s.pre.epochs (room_front (area_rows s.args.header (a s) K.Height (k2 s)) (last_row s) ((lead2 d).room s.pre.ready.room))
 
 -- ---- after the height maps
-module _ (c : tie.After-put-kind3) where
-  abbrev c2 : tie.After-put-kind2
+module _ (c : tie.After-put_kind-c) where
+  abbrev c2 : tie.After-put_kind-b
   c2 = c.before.before.before.before.before
 
   abbrev s3 : tie.Start
   s3 = s2 c2
 
-  height : PutTo c2.put-kind2.last.0 c2.put-kind2.result.at (area_rows s3.args.header (a s3) K.Height (k2 s3)) (area_force s3.args.header (a s3) K.Height (k2 s3)) c.put-kind3.new.0 c.put-kind3.result
-  height = area_put s3.args.header (a s3) s3.pre.long K.Height (k2 s3) _ (force2 c.before) c.put-kind3.ensures
+  height : PutTo c2.put_kind-b.last.0 c2.put_kind-b.result.at (area_rows s3.args.header (a s3) K.Height (k2 s3)) (area_force s3.args.header (a s3) K.Height (k2 s3)) c.put_kind-c.new.out c.put_kind-c.result
+  height = area_put s3.args.header (a s3) s3.requires.long K.Height (k2 s3) _ (force2 c.before) c.put_kind-c.ensures
 
-  lead3 : PutsOn s3.args.out.now s3.args.at (all_rows s3.args.header (a s3)) c.put-kind3.new.0 c.put-kind3.result.at (last_row s3)
+  lead3 : PutsOn s3.args.out.now s3.args.at (all_rows s3.args.header (a s3)) c.put_kind-c.new.out c.put_kind-c.result.at (last_row s3)
   lead3 = leads_on (area_rows s3.args.header (a s3) K.Height (k2 s3)) (last_row s3) (lead2 c2) height.put
 
-put-file-end-requires : tie.Need-put-file-end-requires
+put-file-end-requires : tie.Need-put_file_end-requires
 put-file-end-requires c κs = let d = c.before.before.before in (lead3 d).room (s3 d).requires.ready.room
 
-same_length : tie.Need-same-length
-same_length c = c.before.before.put-file-end.ensures.size ∙ (lead3 c.before.before.before.before.before.before).size
+same_length : tie.Need-shape_of-out
+same_length c = c.put_file_end.ensures.size ∙ (lead3 c.before.before.before.before.before.before).size
 
 returns : tie.Need-returns
-returns c = (lead3 c.before.before.before.before.before.before).rest _ _ c.before.before.put-file-end.ensures
+returns c = (lead3 c.before.before.before.before.before.before).rest _ _ c.put_file_end.ensures
 
-pub put-maps-spec : {M : Type 1} → statement M
-put-maps-spec =
-    tie.close
-    (tie.spec
-    put-kind-requires
-    put-kind-requires-2
-    put-kind-requires-3
-    put-file-end-requires
-    same_length
-    returns)
+pub put_maps_spec : {M : Type 1} → statement M
+put_maps_spec = tie.close (tie.spec put-kind-requires put-kind-requires-2 put-kind-requires-3 put-file-end-requires same_length returns)

@@ -19,64 +19,51 @@ module _ (s : tie.Start) where
   step_fits : SFits w32 s.args.grid.longitudes.step
   step_fits = search rules
 
-nodes-requires : tie.Need-nodes-requires
+nodes-requires : tie.Need-nodes-rows-requires
 nodes-requires c κs = search rules
 
-rem-node : tie.Need-nonzero-rem-node
+rem-node : tie.Need-nonzero_rem-d
 rem-node c = search rules
 
-node-requires : tie.Need-node-requires
+node-requires : tie.Need-node-latitude-requires
 node-requires c κs =
     let s = c.before in
-    latitude_placed s.args.grid s.args.d c.nodes.result c.nodes.ensures s.requires
+    latitude_placed s.args.grid s.args.d c.nodes-rows.result c.nodes-rows.ensures s.requires
 
-div-node : tie.Need-nonzero-div-node
+div-node : tie.Need-nonzero_div-d
 div-node c = search rules
 
-node-requires-2 : tie.Need-node-requires-2
+node-requires-2 : tie.Need-node-height-requires
 node-requires-2 c κs =
     let s = c.before.before in
-    height_placed s.args.grid s.args.d c.before.nodes.result c.before.nodes.ensures s.requires
+    height_placed s.args.grid s.args.d c.nodes-rows.result c.nodes-rows.ensures s.requires
 
-three-row-requires : tie.Need-three-row-requires
+three-row-requires : tie.Need-three_row-row-requires
 three-row-requires c κs = search rules
 
-slice-aggregate-put-tenths : tie.Need-slice-aggregate-put-tenths
+slice-aggregate-put-tenths : tie.Need-slice_bounds-put_tenths-end
 slice-aggregate-put-tenths c = search rules
 
-put-tenths-requires : tie.Need-put-tenths-requires
+put-tenths-requires : tie.Need-put_tenths-requires
 put-tenths-requires c κs = search rules
 
-slice-aggregate-put-tenths-2 : tie.Need-slice-aggregate-put-tenths-2
+slice-aggregate-put-tenths-2 : tie.Need-slice_bounds-put_tenths-end-2
 slice-aggregate-put-tenths-2 c = search rules
 
-put-tenths-requires-2 : tie.Need-put-tenths-requires-2
+put-tenths-requires-2 : tie.Need-put_tenths-requires-2
 put-tenths-requires-2 c κs = search rules
 
 returns : tie.Need-returns
 returns c =
     let s = c.before.before.before.before.before.before.before.before.before.before.before.before.before in
     let g = s.args.grid in
-    opening_filled g s.args.d c.before.before.before.before.before.before.before.before.before.before.before.before.nodes.result c.before.before.before.before.before.before.before.before.before.before.before.before.nodes.ensures _ _ _ _ _ _
-    (block_filled _ _ _ _ _ _ _ _ c.before.before.before.before.before.before.before.three-row.ensures c.before.before.before.before.put-tenths.ensures c.before.put-tenths2.ensures)
-    (to_z-of_z (record { sfits = c.before.before.before.before.before.before.before.before.before.before.before.node.type-inv }) ∙ c.before.before.before.before.before.before.before.before.before.before.before.node.ensures)
-    (to_z-of_z (first_fits s))
-    (to_z-of_z (last_fits s))
-    (to_z-of_z (step_fits s))
-    (to_z-of_z (record { sfits = c.before.before.before.before.before.before.before.before.before.before.node2.type-inv }) ∙ c.before.before.before.before.before.before.before.before.before.before.node2.ensures)
+    opening_filled g s.args.d c.nodes-rows.result c.nodes-rows.ensures _ _ _ _ _ _
+    (block_filled _ _ _ _ _ _ _ _ c.three_row-row.ensures c.put_tenths.ensures c.put_tenths-2.ensures)
+    (to_z-of_z (record { sfits = c.node-latitude.type_inv }) ∙ c.node-latitude.ensures)
+    (to_z-of_z (first_fits s.before.before.before))
+    (to_z-of_z (last_fits s.before.before.before))
+    (to_z-of_z (step_fits s.before.before.before))
+    (to_z-of_z (record { sfits = c.node-height.type_inv }) ∙ c.node-height.ensures)
 
-pub opening-row-spec : {M : Type 1} → statement M
-opening-row-spec =
-    tie.close
-    (tie.spec
-    nodes-requires
-    rem-node
-    node-requires
-    div-node
-    node-requires-2
-    three-row-requires
-    slice-aggregate-put-tenths
-    put-tenths-requires
-    slice-aggregate-put-tenths-2
-    put-tenths-requires-2
-    returns)
+pub opening_row_spec : {M : Type 1} → statement M
+opening_row_spec = tie.close (tie.spec nodes-requires rem-node node-requires div-node node-requires-2 three-row-requires slice-aggregate-put-tenths put-tenths-requires slice-aggregate-put-tenths-2 put-tenths-requires-2 returns)

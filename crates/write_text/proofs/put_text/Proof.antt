@@ -26,18 +26,18 @@ module _ (s : tie.Start) where
   head_of = whole_header s.args.header (full s.args.texts s.args.descriptions.now)
 
   begins : PutsOn s.args.out.now s.args.at (canon_rows (nested s.args.header (full s.args.texts s.args.descriptions.now) a)) s.args.out.now s.args.at (head_of ++ all_rows s.args.header a)
-  begins = leads_same leads_self (canon_are s.args.header a (sound_long s.args.header (full s.args.texts s.args.descriptions.now) a s.pre.0.sound) s.pre.0.sound.room.epochs (full s.args.texts s.args.descriptions.now))
+  begins = leads_same leads_self (canon_are s.args.header a (sound_long s.args.header (full s.args.texts s.args.descriptions.now) a s.requires.0.sound) s.requires.0.sound.room.epochs (full s.args.texts s.args.descriptions.now))
 
-headed : (c : tie.After-put-header) → let s = c.before.before.before.before.before.before in
-    PutsOn s.args.out.now s.args.at (canon_rows (nested s.args.header (full s.args.texts s.args.descriptions.now) (a s))) c.put-header.new.0 c.put-header.result (all_rows s.args.header (a s))
-headed c = let s = c.before.before.before.before.before.before in leads_on (head_of s) (all_rows s.args.header (a s)) (begins s) c.put-header.ensures
+headed : (c : tie.After-put_header-next) → let s = c.before.before.before.before.before.before in
+    PutsOn s.args.out.now s.args.at (canon_rows (nested s.args.header (full s.args.texts s.args.descriptions.now) (a s))) c.put_header-next.new.out c.put_header-next.result (all_rows s.args.header (a s))
+headed c = let s = c.before.before.before.before.before.before in leads_on (head_of s) (all_rows s.args.header (a s)) (begins s) c.put_header-next.ensures
 
-put-header-requires : tie.Need-put-header-requires
+put-header-requires : tie.Need-put_header-next-requires
 put-header-requires c κs =
     let s = c.before.before.before.before.before in
     ((sound_groups s.args.header (full s.args.texts s.args.descriptions.now) (a s) s.requires.0.sound).0, room_front (head_of s) (all_rows s.args.header (a s)) ((begins s).room s.requires.1))
 
-put-maps-requires : tie.Need-put-maps-requires
+put-maps-requires : tie.Need-put_maps-requires
 put-maps-requires c κs =
     let s = c.before.before.before.before.before.before.before.before.before in
     let v = s.requires.0 in
@@ -47,11 +47,11 @@ put-maps-requires c κs =
       long = sound_long s.args.header (full s.args.texts s.args.descriptions.now) (a s) v.sound;
     }
 
-same_length : tie.Need-same-length
-same_length c = c.before.before.put-maps.ensures.size ∙ (headed c.before.before.before.before.before.before).size
+same_length : tie.Need-shape_of-out
+same_length c = c.put_maps.ensures.size ∙ (headed c.before.before.before.before.before.before).size
 
 returns : tie.Need-returns
-returns c = (headed c.before.before.before.before.before.before).rest _ _ c.before.before.put-maps.ensures
+returns c = (headed c.before.before.before.before.before.before).rest _ _ c.put_maps.ensures
 
-pub put-text-spec : {M : Type 1} → statement M
-put-text-spec = tie.close (tie.spec put-header-requires put-maps-requires same_length returns)
+pub put_text_spec : {M : Type 1} → statement M
+put_text_spec = tie.close (tie.spec put-header-requires put-maps-requires same_length returns)

@@ -14,95 +14,77 @@ use Rattle.ask.proofs.sun.cells_at.Statement.{statement}
 use Rattle.ask.proofs.sun.cells_at.Tie as tie
 
 -- what the first search answers
-first_is : (c : tie.After-cell-at) → let a = c.before.before.before.args in CellFound (unit_of a.method) a.g a.lat (lon_at a.method a.lon a.second (epoch a.epochs.now a.shares.map)) c.Cell-at.result
-first_is c = let s = c.before.before.before in rw (to_z-of_z s.ranges.lat, to_z-of_z s.ranges.lon) at c.Cell-at.ensures
+first_is : (c : tie.After-cell_at) → let a = c.args in CellFound (unit_of a.method) a.g a.lat (lon_at a.method a.lon a.second (epoch a.epochs.now a.shares.map)) c.cell_at.result
+first_is c = let s = c.before.before.before in rw (to_z-of_z s.ranges.lat, to_z-of_z s.ranges.lon) at c.cell_at.ensures
 
-first_in : (c : tie.After-known-told) → let a = c.before.before.before.before.before.before.args in CellAt a.method a.g a.lat a.lon a.second (epoch a.epochs.now a.shares.map) c.before.first.given.0.0
-first_in c = rw c.before.first.given.1 at (first_is c.before.before.before)
+first_in : (c : tie.In-In) → let a = c.args in CellAt a.method a.g a.lat a.lon a.second (epoch a.epochs.now a.shares.map) c.in-In.first
+first_in c = rw c.in-In.is at (first_is c.before)
 
-second_is : (c : tie.After-cell-at2) → let a = c.before.before.before.before.before.before.before.before.before.before.before.args in CellFound (unit_of a.method) a.g a.lat (lon_at a.method a.lon a.second (epoch a.epochs.now (a.shares.map + 1))) c.cell-at2.result
-second_is c = let s = c.before.before.before.before.before.before.before.before.before.before.before in rw (to_z-of_z s.ranges.lat, to_z-of_z s.ranges.lon) at c.cell-at2.ensures
+second_is : (c : tie.After-cell_at-in-In) → let a = c.args in CellFound (unit_of a.method) a.g a.lat (lon_at a.method a.lon a.second (epoch a.epochs.now (a.shares.map + 1))) c.cell_at-in-In.result
+second_is c = let s = c.before.before.before.before.before.before.before.before.before in rw (to_z-of_z s.ranges.lat, to_z-of_z s.ranges.lon) at c.cell_at-in-In.ensures
 
-mul-cell-at : tie.Need-overflow-mul-cell-at
+mul-cell-at : tie.Need-offset_bounds-epochs-map
 mul-cell-at c = search rules
 
-shared-slice-read-cell-at : tie.Need-shared-slice-read-cell-at
+shared-slice-read-cell-at : tie.Need-bounds-epochs-map
 shared-slice-read-cell-at c = search rules
 
-cell-at-requires : tie.Need-cell-at-requires
-cell-at-requires c κs = let p = c.before.before.requires in (p.rows, p.columns, p.second, p.epochs _ p.map)
+cell-at-requires : tie.Need-cell_at-requires
+cell-at-requires c κs = let p = c.requires in (p.rows, p.columns, p.second, p.epochs _ p.map)
 
-enum_told : tie.Need-enum-told
+enum_told : tie.Need-enum_told-1
 enum_told c = search rules
 
-enum-known-first : tie.Need-enum-known-first
+enum-known-first : tie.Need-enum_known-first
 enum-known-first c = search rules
 
-returns : tie.Need-returns
-returns c = record { first_in = first_in c.before.before; second_in = inl (c.if1.true, refl) }
+returns : tie.Need-returns-then-shares-eq0
+returns c = record { first_in = first_in c.before.before; second_in = inl (c.if-shares-eq0.true, refl) }
 
-returns-2 : tie.Need-returns-2
+returns-2 : tie.Need-returns-then-method-lt2
 returns-2 c =
     let k = c.before.before.before in
-    let a = k.before.before.before.before.before.before.args in
-    plain_cells a.method c.if2.true a.g a.lat a.lon a.second a.epochs.now a.shares k.before.first.given.0.0 (first_in k)
+    let a = k.args in
+    plain_cells a.method c.if-method-lt2.true a.g a.lat a.lon a.second a.epochs.now a.shares k.in-In.first (first_in k)
 
 -- the next map is there
-more : (c : tie.Else2) → let a = c.before.before.before.before.before.before.before.before.before.args in a.shares.map + 1 < length a.epochs.now
-more c = let p = c.before.before.before.before.before.before.before.before.before.requires in ⊎_elim (λ z. absurd (c.before.if1.false z)) (λ h. h) p.next
+more : (c : tie.Else-method-lt2) → let a = c.args in a.shares.map + 1 < length a.epochs.now
+more c = let p = c.requires in ⊎_elim (λ z. absurd (c.if-shares-eq0.false z)) (λ h. h) p.next
 
-add-cell-at : tie.Need-overflow-add-cell-at
+add-cell-at : tie.Need-overflow_add-map
 add-cell-at c = search rules
 
-mul-cell-at-2 : tie.Need-overflow-mul-cell-at-2
+mul-cell-at-2 : tie.Need-offset_bounds-epochs-map-in-In
 mul-cell-at-2 c = search rules
 
-shared-slice-read-cell-at-2 : tie.Need-shared-slice-read-cell-at-2
+shared-slice-read-cell-at-2 : tie.Need-bounds-epochs-map-in-In
 shared-slice-read-cell-at-2 c = more c.before
 
-cell-at-requires-2 : tie.Need-cell-at-requires-2
+cell-at-requires-2 : tie.Need-cell_at-requires-in-In
 cell-at-requires-2 c κs =
-    let p = c.before.before.before.before.before.before.before.before.before.before.requires in
+    let p = c.requires in
     (p.rows, p.columns, p.second, p.epochs _ (more c.before))
 
-enum-told-2 : tie.Need-enum-told-2
+enum-told-2 : tie.Need-enum_told-in-Outside-cell_at
 enum-told-2 c = search rules
 
-enum-known-other : tie.Need-enum-known-other
+enum-known-other : tie.Need-enum_known-other
 enum-known-other c = search rules
 
-returns-3 : tie.Need-returns-3
-returns-3 c = (_, rw c.enum_told.given.1 at (first_is c.before.before))
+returns-3 : tie.Need-returns-in-Outside
+returns-3 c = (_, rw c.in-Outside.is at (first_is c.before))
 
-returns-4 : tie.Need-returns-4
-returns-4 c = (_, rw c.enum-told2.given.1 at (second_is c.before.before))
+returns-4 : tie.Need-returns-in-Outside-cell_at
+returns-4 c = (_, rw c.in-Outside-cell_at.is at (second_is c.before))
 
-returns-5 : tie.Need-returns-5
+returns-5 : tie.Need-returns-in-In-cell_at
 returns-5 c =
-    let l = c.before.before.before in
+    let l = c.before in
     let e = l.before.before in
     record {
       first_in = first_in e.before.before.before;
-      second_in = inr (omega (arith, e.before.if1.false), rw c.before.other.given.1 at (second_is l));
+      second_in = inr (omega (arith, e.if-shares-eq0.false), rw c.in-In-cell_at.is at (second_is l));
     }
 
-pub cells-at-spec : {M : Type 1} → statement M
-cells-at-spec =
-    tie.close
-    (tie.spec
-    mul-cell-at
-    shared-slice-read-cell-at
-    cell-at-requires
-    enum_told
-    enum-known-first
-    returns
-    returns-2
-    add-cell-at
-    mul-cell-at-2
-    shared-slice-read-cell-at-2
-    cell-at-requires-2
-    enum-told-2
-    enum-known-other
-    returns-3
-    returns-4
-    returns-5)
+pub cells_at_spec : {M : Type 1} → statement M
+cells_at_spec = tie.close (tie.spec mul-cell-at shared-slice-read-cell-at cell-at-requires enum_told enum-known-first returns returns-2 add-cell-at mul-cell-at-2 shared-slice-read-cell-at-2 cell-at-requires-2 enum-told-2 enum-known-other returns-3 returns-4 returns-5)

@@ -1,4 +1,5 @@
 -- `ask::sun::serves` meets its contract.
+use mathlib.Core.Bool.{not}
 use borrow.Author.Rules.{rules}
 use borrow.Author.Tests.{not-true, not-false}
 use native.Mathlib.Omega.{arith}
@@ -31,50 +32,41 @@ module _ (m : ℕ) (h : 2 ≤ m) (a : Axis) (es : List ℕ) where
   by_close r k true s = inr (record { round = r; step = k; close = s })
   by_close r k false s = refuse (λ t. s t.close)
 
-sized : (c : tie.After-size) → c.size.result ≡ nat_abs c.before.before.before.before.before.before.args.a.step
+sized : (c : tie.After-size) → c.size.result ≡ nat_abs c.args.a.step
 sized c =
-    let a = c.before.before.before.before.before.before.args.a in
+    let a = c.args.a in
     let e : to_z w32 (of_z w32 a.step) ≡ a.step = search rules in
     c.size.ensures ∙ ap nat_abs e
 
-returns : tie.Need-returns
-returns c = inl c.if1.true
+returns : tie.Need-returns-then-method-lt2
+returns c = inl c.if-method-lt2.true
 
-goes-round-requires : tie.Need-goes-round-requires
+goes-round-requires : tie.Need-goes_round-requires
 goes-round-requires c κs = search rules
 
-returns-2 : tie.Need-returns-2
+returns-2 : tie.Need-returns-then-not-goes_round
 returns-2 c =
     let s = c.before.before.before.before in
-    refuse s.args.method c.before.before.if1.false s.args.a s.args.epochs.now (λ t. truth_false (goes_round? s.args.a) (sym c.before.goes-round.ensures ∙ not-true _ c.if2.true) t.round)
+    refuse s.args.method c.if-method-lt2.false s.args.a s.args.epochs.now (λ t. truth_false (goes_round? s.args.a) (sym c.goes_round.ensures ∙ not-true _ (ap not c.if-not-goes_round.true)) t.round)
 
 size-requires : tie.Need-size-requires
 size-requires c κs = search rules
 
-returns-3 : tie.Need-returns-3
+returns-3 : tie.Need-returns-then-size-gt50
 returns-3 c =
     let s = c.before.before.before.before.before.before.before in
-    refuse s.args.method c.before.before.before.before.before.if1.false s.args.a s.args.epochs.now (λ t. omega (arith, t.step, c.if3.true, sized c.before))
+    refuse s.args.method c.if-method-lt2.false s.args.a s.args.epochs.now (λ t. omega (arith, t.step, c.if-size-gt50.true, sized c.before))
 
-is-close-requires : tie.Need-is-close-requires
+is-close-requires : tie.Need-is_close-requires
 is-close-requires c κs = search rules
 
-returns-4 : tie.Need-returns-4
+returns-4 : tie.Need-returns
 returns-4 c =
     let f = c.before in
     let s = f.before.before.before.before.before.before.before in
-    by_close s.args.method f.before.before.before.before.before.if1.false s.args.a s.args.epochs.now
-    (truth_true (goes_round? s.args.a) (sym f.before.before.before.before.goes-round.ensures ∙ not-false _ f.before.before.before.if2.false))
-    (omega (arith, f.if3.false, sized f.before)) c.is-close.result c.is-close.ensures
+    by_close s.args.method f.if-method-lt2.false s.args.a s.args.epochs.now
+    (truth_true (goes_round? s.args.a) (sym f.goes_round.ensures ∙ not-false _ (ap not f.if-not-goes_round.false)))
+    (omega (arith, f.if-size-gt50.false, sized f.before)) c.is_close.result c.is_close.ensures
 
-pub serves-spec : {M : Type 1} → statement M
-serves-spec =
-    tie.close
-    (tie.spec
-    returns
-    goes-round-requires
-    returns-2
-    size-requires
-    returns-3
-    is-close-requires
-    returns-4)
+pub serves_spec : {M : Type 1} → statement M
+serves_spec = tie.close (tie.spec returns goes-round-requires returns-2 size-requires returns-3 is-close-requires returns-4)

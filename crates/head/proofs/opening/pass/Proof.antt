@@ -10,98 +10,81 @@ use Rattle.head.proofs.opening.pass.Statement.{statement}
 use Rattle.head.proofs.opening.pass.Tie as tie
 
 -- the row that was found
-led : (c : tie.After-known-told3) →
-    let r = c.before.before.before in
-    let o = r.next-record.ensures in
-    let e = c.before.start.given.0 in
-    LeadsRow r.before.before.before.args.text.now o.at o.n e.0 e.1.0 e.1.1.0 e.1.1.1.0
+led : (c : tie.In-Row) →
+    let r = c.before in
+    let o = r.next_record.ensures in
+    let e = c.start.given.0 in
+    LeadsRow r.args.text.now o.at o.n e.0 e.1.0 e.1.1.0 e.1.1.1.0
 led c =
-    let r = c.before.before.before in
-    let o = r.next-record.ensures in
-    subst (Leads r.before.before.before.args.text.now o.at o.n) c.before.start.given.1 o.leads
+    let r = c.before in
+    let o = r.next_record.ensures in
+    subst (Leads r.args.text.now o.at o.n) c.in-Row.is o.leads
 
-next-record-requires : tie.Need-next-record-requires
+next-record-requires : tie.Need-next_record-requires
 next-record-requires c κs = search rules
 
-enum-known-n : tie.Need-enum-known-n
+enum-known-n : tie.Need-enum_known-n
 enum-known-n c = search rules
 
-line-after-requires : tie.Need-line-after-requires
+line-after-requires : tie.Need-line_after-requires
 line-after-requires c κs = search rules
 
-enum-known-number : tie.Need-enum-known-number
+enum-known-number : tie.Need-enum_known-number
 enum-known-number c = search rules
 
-enum-known-start : tie.Need-enum-known-start
+enum-known-start : tie.Need-enum_known-start
 enum-known-start c = search rules
 
-sub-step : tie.Need-overflow-sub-step
+sub-step : tie.Need-slice_bounds-step-count
 sub-step c = omega (arith, (led c).inside)
 
-part-step-start : tie.Need-slice-bounds-step-start
+part-step-start : tie.Need-slice_bounds-step-start
 part-step-start c = omega (arith, (led c).inside, (led c).whole)
 
-part-step-end : tie.Need-slice-bounds-step-end
+part-step-end : tie.Need-slice_bounds-step-end
 part-step-end c = omega (arith, (led c).inside, (led c).whole)
 
-step-requires : tie.Need-step-requires
-step-requires c κs = let k = c.before.before in let f = (led k).ranges in (simp (length-take, length-drop) (omega arith), k.before.before.before.before.before.before.requires.2.holds)
+step-requires : tie.Need-step-r-requires
+step-requires c κs = let k = c.before.before in let f = (led k).ranges in (simp (length-take, length-drop) (omega arith), k.requires.2.holds)
 
-add-led-to : tie.Need-overflow-add-led-to
+add-led-to : tie.Need-overflow_add-n
 add-led-to c = let k = led c.before.before.before.before.before.before in omega (arith, k.passed, k.ahead, k.within)
 
-led-to-requires : tie.Need-led-to-requires
+led-to-requires : tie.Need-led_to-requires
 led-to-requires c κs = search rules
 
-returns : tie.Need-returns
+returns : tie.Need-returns-in-Over
 returns c =
-    let r = c.before.before.before.before in
-    let a = r.before.before.before.args in
-    let o = r.next-record.ensures in
-    past_over a.text.now a.version a.s a.lines.now a.from a.passed o.at o.n o.past c.before.before.n.given.0.0 c.line_after.result
-    (subst (Leads a.text.now o.at o.n) c.before.before.n.given.1 o.leads).on c.line_after.ensures
+    let r = c.before.before in
+    let a = r.args in
+    let o = r.next_record.ensures in
+    past_over a.text.now a.version a.s a.lines.now a.from a.passed o.at o.n o.past c.in-Over.n c.line_after.result
+    (subst (Leads a.text.now o.at o.n) c.in-Over.is o.leads).on c.line_after.ensures
 
-returns-2 : tie.Need-returns-2
+returns-2 : tie.Need-returns-in-Bad
 returns-2 c =
-    let r = c.before.before.before in
-    let a = r.before.before.before.args in
-    let o = r.next-record.ensures in
-    let e = c.before.number.given in
+    let r = c.before in
+    let a = r.args in
+    let o = r.next_record.ensures in
+    let e = c.number.given in
     past_bad a.text.now a.version a.s a.lines.now a.from a.passed o.at o.n o.past e.0.0 e.0.1.0 e.0.1.1.0 (subst (Leads a.text.now o.at o.n) e.1 o.leads)
 
-same_length : tie.Need-same-length
+same_length : tie.Need-shape_of-lines
 same_length c = search rules
 
 exponent_is : (b : tie.Start) → to_z w32 (of_z w32 b.args.s.exponent) ≡ b.args.s.exponent
 exponent_is b = search rules
 
-returns-3 : tie.Need-returns-3
+returns-3 : tie.Need-returns-in-Row
 returns-3 c =
     let p = c.before.before.before.before.before in
     let k = p.before.before.before in
-    let r = k.before.before.before in
+    let r = k.before in
     let b = r.before.before.before in
     let a = b.args in
-    let o = r.next-record.ensures in
-    rw c.led-to.ensures
-    (past_on a.text.now a.version a.s a.lines.now a.from a.passed o.at o.n o.past _ _ _ _ (led k) b.requires.2 p.step.result _ _ (exponent_is b) p.step.ensures)
+    let o = r.next_record.ensures in
+    rw c.led_to.ensures
+    (past_on a.text.now a.version a.s a.lines.now a.from a.passed o.at o.n o.past _ _ _ _ (led k) b.requires.2 p.step-r.result _ _ (exponent_is b) p.step-r.ensures)
 
 pub pass_spec : {M : Type 1} → statement M
-pass_spec =
-    tie.close
-    (tie.spec
-    next-record-requires
-    enum-known-n
-    line-after-requires
-    enum-known-number
-    enum-known-start
-    sub-step
-    part-step-start
-    part-step-end
-    step-requires
-    add-led-to
-    led-to-requires
-    returns
-    returns-2
-    same_length
-    returns-3)
+pass_spec = tie.close (tie.spec next-record-requires enum-known-n line-after-requires enum-known-number enum-known-start sub-step part-step-start part-step-end step-requires add-led-to led-to-requires returns returns-2 same_length returns-3)

@@ -33,149 +33,118 @@ abbrev lines : List ℕ → List ℕ
 lines b = take 1200 (drop 124 b)
 
 -- the description that is handed back is the later set's
-later_lines : (c : tie.After-put-joined-arg) → length (lines c.before.before.before.before.before.before.before.before.before.before.before.before.before.before.before.before.before.before.before.before.before.before.before.before.before.before.before.before.before.before.before.before.before.before.before.before.args.btexts.now) ≡ 1200
-later_lines c = c.put-joined-arg.given.2
+later_lines : (c : tie.After-put_joined-arg-1) → length (lines c.args.btexts.now) ≡ 1200
+later_lines c = c.put_joined-arg-1.given.2
 
 -- the number told of the call's own areas, and that they are long enough where it is 0
-told : (c : tie.After-too-short) → c.too_short.result ≡ too_short (headers c.before.before.before.before.before.before.before.before.before.before.before.before.before) (bytes c.before.before.before.before.before.before.before.before.before.before.before.before.before) (length c.before.before.before.before.before.before.before.before.before.before.before.before.before.args.place.now) 2
-told c = let s = c.before.before.before.before.before.before.before.before.before.before.before.before.before in c.too_short.ensures ∙ (λ i. too_short (c.before.before.shortest.ensures i) (c.before.shortest2.ensures i) (length s.args.place.now) 2)
+told : (c : tie.After-too_short-short) → c.too_short-short.result ≡ too_short (headers c.before.before.before.before.before.before.before.before.before.before.before.before.before) (bytes c.before.before.before.before.before.before.before.before.before.before.before.before.before) (length c.args.place.now) 2
+told c = let s = c.before.before.before.before.before.before.before.before.before.before.before.before.before in c.too_short-short.ensures ∙ (λ i. too_short (c.shortest-headers.ensures i) (c.shortest-bytes.ensures i) (length s.args.place.now) 2)
 
-fits : (c : tie.Else1) → Fit (headers c.before.before.before.before.before.before.before.before.before.before.before.before.before.before) (bytes c.before.before.before.before.before.before.before.before.before.before.before.before.before.before) (length c.before.before.before.before.before.before.before.before.before.before.before.before.before.before.args.place.now) 2
-fits c = fit (headers c.before.before.before.before.before.before.before.before.before.before.before.before.before.before) (bytes c.before.before.before.before.before.before.before.before.before.before.before.before.before.before) (length c.before.before.before.before.before.before.before.before.before.before.before.before.before.before.args.place.now) 2 (told c.before) (omega (arith, c.if1.false))
+fits : (c : tie.Else-short-gt0) → Fit (headers c.before.before.before.before.before.before.before.before.before.before.before.before.before.before) (bytes c.before.before.before.before.before.before.before.before.before.before.before.before.before.before) (length c.args.place.now) 2
+fits c = fit (headers c.before.before.before.before.before.before.before.before.before.before.before.before.before.before) (bytes c.before.before.before.before.before.before.before.before.before.before.before.before.before.before) (length c.args.place.now) 2 (told c.before) (omega (arith, c.if-short-gt0.false))
 
 -- the texts reach to the end of the description
-long : (c : tie.Else1) → let s = c.before.before.before.before.before.before.before.before.before.before.before.before.before.before in (1324 ≤ length s.args.atexts.now) × (1324 ≤ length s.args.btexts.now) × (1324 ≤ length s.args.texts.now)
+long : (c : tie.Else-short-gt0) → let s = c.before.before.before.before.before.before.before.before.before.before.before.before.before.before in (1324 ≤ length s.args.atexts.now) × (1324 ≤ length s.args.btexts.now) × (1324 ≤ length s.args.texts.now)
 long c = let s = c.before.before.before.before.before.before.before.before.before.before.before.before.before.before in all_long 1324 (length s.args.atexts.now) (length s.args.btexts.now) (length s.args.texts.now) (fits c).texts
 
-shortest-requires : tie.Need-shortest-requires
+shortest-requires : tie.Need-shortest-headers-requires
 shortest-requires c κs = search rules
 
-shortest-requires-2 : tie.Need-shortest-requires-2
+shortest-requires-2 : tie.Need-shortest-bytes-requires
 shortest-requires-2 c κs = search rules
 
-too-short-requires : tie.Need-too-short-requires
+too-short-requires : tie.Need-too_short-short-requires
 too-short-requires c κs = search rules
 
-returns : tie.Need-returns
-returns c = let s = c.before.before.before.before.before.before.before.before.before.before.before.before.before.before in join_short s.args.aheader.now s.args.atexts.now (early s) s.args.bheader.now s.args.btexts.now (late s) (out s) s.args.header.now s.args.texts.now s.args.place.now (told c.before) (omega (arith, c.if1.true))
+returns : tie.Need-returns-then-short-gt0
+returns c = let s = c.before.before.before.before.before.before.before.before.before.before.before.before.before.before in join_short s.args.aheader.now s.args.atexts.now (early s) s.args.bheader.now s.args.btexts.now (late s) (out s) s.args.header.now s.args.texts.now s.args.place.now (told c.before) (omega (arith, c.if-short-gt0.true))
 
-header-in-requires : tie.Need-header-in-requires
+header-in-requires : tie.Need-header_in-early-requires
 header-in-requires c κs = let s = c.before.before.before.before.before.before.before.before.before.before.before.before.before.before in (all_long 45 (length s.args.aheader.now) (length s.args.bheader.now) (length s.args.header.now) (fits c).header).0
 
-texts-in-requires : tie.Need-texts-in-requires
+texts-in-requires : tie.Need-texts_in-etexts-requires
 texts-in-requires c κs = let s = c.before.before.before.before.before.before.before.before.before.before.before.before.before.before.before in (all_long 1324 (length s.args.atexts.now) (length s.args.btexts.now) (length s.args.texts.now) (fits c.before).texts).0
 
-header-in-requires-2 : tie.Need-header-in-requires-2
+header-in-requires-2 : tie.Need-header_in-late-requires
 header-in-requires-2 c κs = let s = c.before.before.before.before.before.before.before.before.before.before.before.before.before.before.before.before in (all_long 45 (length s.args.aheader.now) (length s.args.bheader.now) (length s.args.header.now) (fits c.before.before).header).1
 
-texts-in-requires-2 : tie.Need-texts-in-requires-2
+texts-in-requires-2 : tie.Need-texts_in-ltexts-requires
 texts-in-requires-2 c κs = let s = c.before.before.before.before.before.before.before.before.before.before.before.before.before.before.before.before.before in (all_long 1324 (length s.args.atexts.now) (length s.args.btexts.now) (length s.args.texts.now) (fits c.before.before.before).texts).1
 
-sub-join : tie.Need-overflow-sub-join
+sub-join : tie.Need-slice_bounds-join-count
 sub-join c = search rules
 
-part-join-start : tie.Need-slice-bounds-join-start
+part-join-start : tie.Need-slice_bounds-join-start
 part-join-start c = omega (arith, (long c.before.before.before.before).0)
 
-part-join-end : tie.Need-slice-bounds-join-end
+part-join-end : tie.Need-slice_bounds-join-end
 part-join-end c = omega (arith, (long c.before.before.before.before).0)
 
-sub-join-2 : tie.Need-overflow-sub-join-2
+sub-join-2 : tie.Need-slice_bounds-join-count-2
 sub-join-2 c = search rules
 
-part-join-start-2 : tie.Need-slice-bounds-join-start-2
+part-join-start-2 : tie.Need-slice_bounds-join-start-2
 part-join-start-2 c = omega (arith, (long c.before.before.before.before.before).1)
 
-part-join-end-2 : tie.Need-slice-bounds-join-end-2
+part-join-end-2 : tie.Need-slice_bounds-join-end-2
 part-join-end-2 c = omega (arith, (long c.before.before.before.before.before).1)
 
-join-requires : tie.Need-join-requires
+join-requires : tie.Need-join-r-requires
 join-requires c κs = search rules
 
-sub-put-joined : tie.Need-overflow-sub-put-joined
+sub-put-joined : tie.Need-slice_bounds-put_joined-count
 sub-put-joined c = search rules
 
-part-put-joined-start : tie.Need-slice-bounds-put-joined-start
+part-put-joined-start : tie.Need-slice_bounds-put_joined-start
 part-put-joined-start c = omega (arith, (long c.before.before.before.before.before.before.before.before.before.before.before.before.before.before.before.before.before.before.before.before.before).1)
 
-part-put-joined-end : tie.Need-slice-bounds-put-joined-end
+part-put-joined-end : tie.Need-slice_bounds-put_joined-end
 part-put-joined-end c = omega (arith, (long c.before.before.before.before.before.before.before.before.before.before.before.before.before.before.before.before.before.before.before.before.before).1)
 
-put-joined-requires : tie.Need-put-joined-requires
+put-joined-requires : tie.Need-put_joined-requires
 put-joined-requires c κs =
     let s = c.before.before.before.before.before.before.before.before.before.before.before.before.before.before.before.before.before.before.before.before.before.before.before.before.before.before.before.before.before.before.before.before.before.before.before.before.before.before.before in
-    let r = c.before.before.before.before.before.before.before.before.before.before.before.before.join in
+    let r = c.join-r in
     let f = fits c.before.before.before.before.before.before.before.before.before.before.before.before.before.before.before.before.before.before.before.before.before.before.before.before.before in
-    let z = small_epochs (lent_of c.before.before.before.before.before.before.before.before.before.before.before.before.before.before.before.before.before.before.before.before.before.before.before.before.header-in.result (full c.before.before.before.before.before.before.before.before.before.before.before.before.before.before.before.before.before.before.before.before.before.before.before.texts-in.result (lines s.args.atexts.now)) (early s)) (lent_of c.before.before.before.before.before.before.before.before.before.before.before.before.before.before.before.before.before.before.before.before.before.before.header-in2.result (full c.before.before.before.before.before.before.before.before.before.before.before.before.before.before.before.before.before.before.before.before.before.texts-in2.result (lines s.args.btexts.now)) (late s)) (out s) r.result (full c.before.before.before.before.before.before.before.before.before.before.before.before.before.before.before.before.before.before.before.before.before.texts-in2.result (lines s.args.btexts.now)) (six r.new.1.1.1.1.1.1.1.1.1.1.1.1.1.1.1.1.1.1.0 r.new.1.1.1.1.1.1.1.1.1.1.1.1.1.1.1.1.1.1.1.0 r.new.1.1.1.1.1.1.1.1.1.1.1.1.1.1.1.1.1.1.1.1.0 r.new.1.1.1.1.1.1.1.1.1.1.1.1.1.1.1.1.1.1.1.1.1.0 r.new.1.1.1.1.1.1.1.1.1.1.1.1.1.1.1.1.1.1.1.1.1.1.0 r.new.1.1.1.1.1.1.1.1.1.1.1.1.1.1.1.1.1.1.1.1.1.1.1.0) r.ensures in
+    let z = small_epochs (lent_of c.header_in-early.result (full c.texts_in-etexts.result (lines s.args.atexts.now)) (early s)) (lent_of c.header_in-late.result (full c.texts_in-ltexts.result (lines s.args.btexts.now)) (late s)) (out s) r.result (full c.texts_in-ltexts.result (lines s.args.btexts.now)) (six r.new.1.1.1.1.1.1.1.1.1.1.1.1.1.1.1.1.1.1.0 r.new.1.1.1.1.1.1.1.1.1.1.1.1.1.1.1.1.1.1.1.0 r.new.1.1.1.1.1.1.1.1.1.1.1.1.1.1.1.1.1.1.1.1.0 r.new.1.1.1.1.1.1.1.1.1.1.1.1.1.1.1.1.1.1.1.1.1.0 r.new.1.1.1.1.1.1.1.1.1.1.1.1.1.1.1.1.1.1.1.1.1.1.0 r.new.1.1.1.1.1.1.1.1.1.1.1.1.1.1.1.1.1.1.1.1.1.1.1.0) r.ensures in
     ((all_long 45 (length s.args.aheader.now) (length s.args.bheader.now) (length s.args.header.now) f.header).2, ((all_long 1324 (length s.args.atexts.now) (length s.args.btexts.now) (length s.args.texts.now) f.texts).2, (f.result, (later_lines c.before.before.before, z))))
 
-same_length : tie.Need-same-length
+same_length : tie.Need-shape_of-tec
 same_length c = search rules
 
-same-length-2 : tie.Need-same-length-2
+same-length-2 : tie.Need-shape_of-rms
 same-length-2 c = search rules
 
-same-length-3 : tie.Need-same-length-3
+same-length-3 : tie.Need-shape_of-height
 same-length-3 c = search rules
 
-same-length-4 : tie.Need-same-length-4
+same-length-4 : tie.Need-shape_of-exponents
 same-length-4 c = search rules
 
-same-length-5 : tie.Need-same-length-5
+same-length-5 : tie.Need-shape_of-epochs
 same-length-5 c = search rules
 
-same-length-6 : tie.Need-same-length-6
+same-length-6 : tie.Need-shape_of-marks
 same-length-6 c = search rules
 
-same-length-7 : tie.Need-same-length-7
+same-length-7 : tie.Need-shape_of-header
 same-length-7 c = search rules
 
-same-length-8 : tie.Need-same-length-8
+same-length-8 : tie.Need-shape_of-texts
 same-length-8 c = search rules
 
-same-length-9 : tie.Need-same-length-9
+same-length-9 : tie.Need-shape_of-place
 same-length-9 c = search rules
 
-returns-2 : tie.Need-returns-2
+returns-2 : tie.Need-returns
 returns-2 c =
     let s = c.before.before.before.before.before.before.before.before.before.before.before.before.before.before.before.before.before.before.before.before.before.before.before.before.before.before.before.before.before.before.before.before.before.before.before.before.before.before.before.before.before.before.before.before.before in
-    let r = c.before.before.before.before.before.before.before.before.before.before.before.before.before.before.before.before.before.before.join in
-    let w = c.before.before.before.before.before.put-joined.ensures in
-    let y = c.before.before.before.before.before.before.before.before.before.before.before.before.before.before.before.before.before.before.before.before.before.before.before.before.before.before.before.texts-in2.ensures in
-    let e = rw (c.before.before.before.before.before.before.before.before.before.before.before.before.before.before.before.before.before.before.before.before.before.before.before.before.before.before.before.before.before.before.header-in.ensures, c.before.before.before.before.before.before.before.before.before.before.before.before.before.before.before.before.before.before.before.before.before.before.before.before.before.before.before.before.before.texts-in.ensures, c.before.before.before.before.before.before.before.before.before.before.before.before.before.before.before.before.before.before.before.before.before.before.before.before.before.before.before.before.header-in2.ensures, y) at r.ensures in
-    let n = none (headers s) (bytes s) (length s.args.place.now) 2 (told c.before.before.before.before.before.before.before.before.before.before.before.before.before.before.before.before.before.before.before.before.before.before.before.before.before.before.before.before.before.before.before.before) (omega (arith, c.before.before.before.before.before.before.before.before.before.before.before.before.before.before.before.before.before.before.before.before.before.before.before.before.before.before.before.before.before.before.before.if1.false)) in
+    let r = c.join-r in
+    let w = c.put_joined.ensures in
+    let y = c.texts_in-ltexts.ensures in
+    let e = rw (c.header_in-early.ensures, c.texts_in-etexts.ensures, c.header_in-late.ensures, y) at r.ensures in
+    let n = none (headers s) (bytes s) (length s.args.place.now) 2 (told c.before.before.before.before.before.before.before.before.before.before.before.before.before.before.before.before.before.before.before.before.before.before.before.before.before.before.before.before.before.before.before.before) (omega (arith, c.if-short-gt0.false)) in
     join_answer s.args.aheader.now s.args.atexts.now (early s) s.args.bheader.now s.args.btexts.now (late s) (out s) s.args.header.now s.args.texts.now s.args.place.now n r.result (six r.new.1.1.1.1.1.1.1.1.1.1.1.1.1.1.1.1.1.1.0 r.new.1.1.1.1.1.1.1.1.1.1.1.1.1.1.1.1.1.1.1.0 r.new.1.1.1.1.1.1.1.1.1.1.1.1.1.1.1.1.1.1.1.1.0 r.new.1.1.1.1.1.1.1.1.1.1.1.1.1.1.1.1.1.1.1.1.1.0 r.new.1.1.1.1.1.1.1.1.1.1.1.1.1.1.1.1.1.1.1.1.1.1.0 r.new.1.1.1.1.1.1.1.1.1.1.1.1.1.1.1.1.1.1.1.1.1.1.1.0) e w.0 w.1.0 (rw y at w.1.1.0) w.1.1.1
 
-pub ionex-join-spec : {M : Type 1} → statement M
-ionex-join-spec =
-    tie.close
-    (tie.spec
-    shortest-requires
-    shortest-requires-2
-    too-short-requires
-    returns
-    header-in-requires
-    texts-in-requires
-    header-in-requires-2
-    texts-in-requires-2
-    sub-join
-    part-join-start
-    part-join-end
-    sub-join-2
-    part-join-start-2
-    part-join-end-2
-    join-requires
-    sub-put-joined
-    part-put-joined-start
-    part-put-joined-end
-    put-joined-requires
-    same_length
-    same-length-2
-    same-length-3
-    same-length-4
-    same-length-5
-    same-length-6
-    same-length-7
-    same-length-8
-    same-length-9
-    returns-2)
+pub ionex_join_spec : {M : Type 1} → statement M
+ionex_join_spec = tie.close (tie.spec shortest-requires shortest-requires-2 too-short-requires returns header-in-requires texts-in-requires header-in-requires-2 texts-in-requires-2 sub-join part-join-start part-join-end sub-join-2 part-join-start-2 part-join-end-2 join-requires sub-put-joined part-put-joined-start part-put-joined-end put-joined-requires same_length same-length-2 same-length-3 same-length-4 same-length-5 same-length-6 same-length-7 same-length-8 same-length-9 returns-2)

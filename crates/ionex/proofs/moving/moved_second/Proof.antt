@@ -16,56 +16,44 @@ ended : {s : ℕ} {by : ℤ} {e f : Epoch} → DateAt e s → Later e by f → (
 ended {e = e} {f = f} p l (ok t) d = record { from = e; to = f; starts = p; later = l; ends = d }
 ended p l (refused w) n = (n.0, λ t m. n.1 l.to l.ends)
 
-here : (c : tie.After-known-told) → DateAt c.before.from.given.0.0 c.before.before.before.before.args.second
-here c = rw c.before.from.given.1 at c.before.before.before.at_second.ensures
+here : (c : tie.In-Date) → DateAt c.in-Date.from c.args.second
+here c = rw c.in-Date.is at c.at_second.ensures
 
-there : (c : tie.After-moved) → The (Later c.before.before.from.given.0.0 c.before.before.before.before.before.args.by) (told_found c.moved.result)
-there c = rw (to_z-of_z c.before.before.before.before.before.ranges.by) at c.moved.ensures
+there : (c : tie.After-moved) → The (Later c.in-Date.from c.args.by) (told_found c.moved.result)
+there c = rw (to_z-of_z c.ranges.by) at c.moved.ensures
 
-at-second-requires : tie.Need-at-second-requires
+at-second-requires : tie.Need-at_second-requires
 at-second-requires c κs = search rules
 
-enum_told : tie.Need-enum-told
+enum_told : tie.Need-enum_told-1
 enum_told c = search rules
 
-enum-known-from : tie.Need-enum-known-from
+enum-known-from : tie.Need-enum_known-from
 enum-known-from c = search rules
 
 moved-requires : tie.Need-moved-requires
 moved-requires c κs = search rules
 
-enum-told-2 : tie.Need-enum-told-2
+enum-told-2 : tie.Need-enum_told-in-Refused-moved
 enum-told-2 c = search rules
 
-enum-known-to : tie.Need-enum-known-to
+enum-known-to : tie.Need-enum_known-to
 enum-known-to c = search rules
 
 seconds-requires : tie.Need-seconds-requires
 seconds-requires c κs = search rules
 
-returns : tie.Need-returns
-returns c = let none = rw c.enum_told.given.1 at c.before.before.at_second.ensures in (refl, λ t m. none.1 m.from m.starts)
+returns : tie.Need-returns-in-Refused
+returns c = let none = rw c.in-Refused.is at c.at_second.ensures in (refl, λ t m. none.1 m.from m.starts)
 
-returns-2 : tie.Need-returns-2
+returns-2 : tie.Need-returns-in-Refused-moved
 returns-2 c =
-    let none = rw c.enum-told2.given.1 at (there c.before.before) in
-    let k = c.before.before.before in
-    (refl, λ t m. none.1 m.to (subst (λ e. Later e k.before.before.before.before.args.by m.to) (date_once _ _ _ m.starts (here k)) m.later))
+    let none = rw c.in-Refused-moved.is at (there c.before) in
+    let k = c.before.before in
+    (refl, λ t m. none.1 m.to (subst (λ e. Later e k.args.by m.to) (date_once _ _ _ m.starts (here k)) m.later))
 
-returns-3 : tie.Need-returns-3
-returns-3 c = ended (here c.before.before.before.before.before) (rw c.before.before.to.given.1 at (there c.before.before.before.before)) (told_when c.seconds.result) c.seconds.ensures
+returns-3 : tie.Need-returns-in-Date-moved
+returns-3 c = ended (here c.before.before.before) (rw c.in-Date-moved.is at (there c.before.before)) (told_when c.seconds.result) c.seconds.ensures
 
-pub moved-second-spec : {M : Type 1} → statement M
-moved-second-spec =
-    tie.close
-    (tie.spec
-    at-second-requires
-    enum_told
-    enum-known-from
-    moved-requires
-    enum-told-2
-    enum-known-to
-    seconds-requires
-    returns
-    returns-2
-    returns-3)
+pub moved_second_spec : {M : Type 1} → statement M
+moved_second_spec = tie.close (tie.spec at-second-requires enum_told enum-known-from moved-requires enum-told-2 enum-known-to seconds-requires returns returns-2 returns-3)

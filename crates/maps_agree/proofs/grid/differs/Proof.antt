@@ -1,3 +1,5 @@
+use mathlib.Core.Path.{ap}
+use mathlib.Core.Bool.{not}
 use mathlib.Core.Path.{◌≡◌, sym, ◌∙◌}
 use mir.Syntax.{w32}
 use mir.Val.{to_z, of_z}
@@ -10,43 +12,41 @@ use borrow.Author.Rules.{rules}
 use Rattle.maps_agree.proofs.grid.differs.Statement.{statement}
 use Rattle.maps_agree.proofs.grid.differs.Tie as tie
 
-at_first : (c : tie.After-same) → c.same.result ≡ truth (int? c.before.before.args.first c.before.before.args.a.first)
+at_first : (c : tie.After-same) → c.same.result ≡ truth (int? c.args.first c.args.a.first)
 at_first c =
-    let e : to_z w32 (of_z w32 c.before.before.args.a.first) ≡ c.before.before.args.a.first = search rules in
-    rw (to_z-of_z c.before.before.ranges.first, e) at c.same.ensures
+    let e : to_z w32 (of_z w32 c.args.a.first) ≡ c.args.a.first = search rules in
+    rw (to_z-of_z c.ranges.first, e) at c.same.ensures
 
-at_last : (c : tie.After-same2) → c.same2.result ≡ truth (int? c.before.before.before.before.before.args.last c.before.before.before.before.before.args.a.last)
+at_last : (c : tie.After-same-2) → c.same-2.result ≡ truth (int? c.args.last c.args.a.last)
 at_last c =
-    let e : to_z w32 (of_z w32 c.before.before.before.before.before.args.a.last) ≡ c.before.before.before.before.before.args.a.last = search rules in
-    rw (to_z-of_z c.before.before.before.before.before.ranges.last, e) at c.same2.ensures
+    let e : to_z w32 (of_z w32 c.args.a.last) ≡ c.args.a.last = search rules in
+    rw (to_z-of_z c.ranges.last, e) at c.same-2.ensures
 
-at_step : (c : tie.After-same3) → c.same3.result ≡ truth (int? c.before.before.before.before.before.before.before.before.args.step c.before.before.before.before.before.before.before.before.args.a.step)
+at_step : (c : tie.After-same-3) → c.same-3.result ≡ truth (int? c.args.step c.args.a.step)
 at_step c =
-    let e : to_z w32 (of_z w32 c.before.before.before.before.before.before.before.before.args.a.step) ≡ c.before.before.before.before.before.before.before.before.args.a.step = search rules in
-    rw (to_z-of_z c.before.before.before.before.before.before.before.before.ranges.step, e) at c.same3.ensures
+    let e : to_z w32 (of_z w32 c.args.a.step) ≡ c.args.a.step = search rules in
+    rw (to_z-of_z c.ranges.step, e) at c.same-3.ensures
 
 same-requires : tie.Need-same-requires
 same-requires c κs = search rules
 
-returns : tie.Need-returns
-returns c = first_differs c.before.before.before.args.a _ _ _ (sym (at_first c.before) ∙ not-true _ c.if1.true)
+returns : tie.Need-returns-then-not-same
+returns c = first_differs c.args.a _ _ _ (sym (at_first c.before) ∙ not-true _ (ap not c.if-not-same.true))
 
 same-requires-2 : tie.Need-same-requires-2
 same-requires-2 c κs = search rules
 
-returns-2 : tie.Need-returns-2
-returns-2 c = last_differs c.before.before.before.before.before.before.args.a _ _ _ (sym (at_first c.before.before.before.before) ∙ not-false _ c.before.before.before.if1.false) (sym (at_last c.before) ∙ not-true _ c.if2.true)
+returns-2 : tie.Need-returns-then-not-same-2
+returns-2 c = last_differs c.args.a _ _ _ (sym (at_first c.before.before.before.before) ∙ not-false _ (ap not c.if-not-same.false)) (sym (at_last c.before) ∙ not-true _ (ap not c.if-not-same-2.true))
 
 same-requires-3 : tie.Need-same-requires-3
 same-requires-3 c κs = search rules
 
-returns-3 : tie.Need-returns-3
-returns-3 c = step_differs c.before.before.before.before.before.before.before.before.before.args.a _ _ _ (sym (at_first c.before.before.before.before.before.before.before) ∙ not-false _ c.before.before.before.before.before.before.if1.false) (sym (at_last c.before.before.before.before) ∙ not-false _ c.before.before.before.if2.false) (sym (at_step c.before) ∙ not-true _ c.if3.true)
+returns-3 : tie.Need-returns-then-not-same-3
+returns-3 c = step_differs c.args.a _ _ _ (sym (at_first c.before.before.before.before.before.before.before) ∙ not-false _ (ap not c.if-not-same.false)) (sym (at_last c.before.before.before.before) ∙ not-false _ (ap not c.if-not-same-2.false)) (sym (at_step c.before) ∙ not-true _ (ap not c.if-not-same-3.true))
 
-returns-4 : tie.Need-returns-4
-returns-4 c = none_differs c.before.before.before.before.before.before.before.before.before.args.a _ _ _ (sym (at_first c.before.before.before.before.before.before.before) ∙ not-false _ c.before.before.before.before.before.before.if1.false) (sym (at_last c.before.before.before.before) ∙ not-false _ c.before.before.before.if2.false) (sym (at_step c.before) ∙ not-false _ c.if3.false)
+returns-4 : tie.Need-returns
+returns-4 c = none_differs c.args.a _ _ _ (sym (at_first c.before.before.before.before.before.before.before) ∙ not-false _ (ap not c.if-not-same.false)) (sym (at_last c.before.before.before.before) ∙ not-false _ (ap not c.if-not-same-2.false)) (sym (at_step c.before) ∙ not-false _ (ap not c.if-not-same-3.false))
 
-pub differs-spec : {M : Type 1} → statement M
-differs-spec =
-    tie.close
-    (tie.spec same-requires returns same-requires-2 returns-2 same-requires-3 returns-3 returns-4)
+pub differs_spec : {M : Type 1} → statement M
+differs_spec = tie.close (tie.spec same-requires returns same-requires-2 returns-2 same-requires-3 returns-3 returns-4)

@@ -14,12 +14,12 @@ use Rattle.maps_agree.proofs.grid.height_agrees.Tie as tie
 
 few : (c : tie.After-passed) → c.passed.result ≤ 64 * 361
 few c =
-    let g = c.before.before.args.grid in
-    let p : layers g * rows g ≤ 64 * 361 = mul-le-mul c.before.before.requires.0 c.before.before.requires.1 in
+    let g = c.args.grid in
+    let p : layers g * rows g ≤ 64 * 361 = mul-le-mul c.requires.0 c.requires.1 in
     omega (arith, c.passed.ensures)
 
-returns : tie.Need-returns
-returns c = any_height _ _ _ c.if1.true
+returns : tie.Need-returns-then-dimension-eq2
+returns c = any_height _ _ _ c.if-dimension-eq2.true
 
 passed-requires : tie.Need-passed-requires
 passed-requires c κs = search rules
@@ -27,26 +27,25 @@ passed-requires c κs = search rules
 nodes-requires : tie.Need-nodes-requires
 nodes-requires c κs = search rules
 
-div-i : tie.Need-nonzero-div-i
+div-i : tie.Need-nonzero_div-i
 div-i c = search rules
 
-is-node-requires : tie.Need-is-node-requires
-is-node-requires c κs = omega (arith, few c.before, div-le_self c.before.passed.result c.nodes.result)
+is-node-requires : tie.Need-is_node-requires
+is-node-requires c κs = omega (arith, few c.before.before.before, div-le_self c.passed.result c.nodes.result)
 
 -- what is compared is a node of the heights
-of_heights : (c : tie.After-is-node) → let a = c.before.before.before.before.args in
-    c.is-node.result ≡ truth (int? a.x (node a.grid.heights (c.before.before.passed.result / c.before.nodes.result)))
+of_heights : (c : tie.After-is_node) → let a = c.args in
+    c.is_node.result ≡ truth (int? a.x (node a.grid.heights (c.passed.result / c.nodes.result)))
 of_heights c =
     let s = c.before.before.before.before in
-    c.is-node.ensures ∙ (λ j. truth (int? (to_z-of_z s.ranges.x j) (node s.args.grid.heights (c.before.before.passed.result / c.before.nodes.result))))
+    c.is_node.ensures ∙ (λ j. truth (int? (to_z-of_z s.ranges.x j) (node s.args.grid.heights (c.passed.result / c.nodes.result))))
 
-returns-2 : tie.Need-returns-2
+returns-2 : tie.Need-returns
 returns-2 c =
-    let a = c.before.before.before.before.args in
+    let a = c.args in
     of_heights c
-    ∙ ap (λ (i : ℕ). truth (int? a.x (node a.grid.heights i))) (ap₂ ◌/◌ c.before.before.passed.ensures c.before.nodes.ensures)
-    ∙ this_height _ _ _ c.before.before.before.if1.false
+    ∙ ap (λ (i : ℕ). truth (int? a.x (node a.grid.heights i))) (ap₂ ◌/◌ c.passed.ensures c.nodes.ensures)
+    ∙ this_height _ _ _ c.if-dimension-eq2.false
 
-pub height-agrees-spec : {M : Type 1} → statement M
-height-agrees-spec =
-    tie.close (tie.spec returns passed-requires nodes-requires div-i is-node-requires returns-2)
+pub height_agrees_spec : {M : Type 1} → statement M
+height_agrees_spec = tie.close (tie.spec returns passed-requires nodes-requires div-i is-node-requires returns-2)

@@ -12,13 +12,13 @@ use Rattle.maps_agree.proofs.grid.row_agrees.Statement.{statement}
 use Rattle.maps_agree.proofs.grid.row_agrees.Tie as tie
 
 -- the blocks of a layer are its rows
-rows_in : (c : tie.After-nodes) → c.nodes.result ≡ rows c.before.before.args.grid
+rows_in : (c : tie.After-nodes) → c.nodes.result ≡ rows c.args.grid
 rows_in c = c.nodes.ensures
 
 few : (c : tie.After-passed) → c.passed.result ≤ 64 * 361
 few c =
-    let g = c.before.args.grid in
-    let p : layers g * rows g ≤ 64 * 361 = mul-le-mul c.before.requires.0 c.before.requires.1 in
+    let g = c.args.grid in
+    let p : layers g * rows g ≤ 64 * 361 = mul-le-mul c.requires.0 c.requires.1 in
     omega (arith, c.passed.ensures)
 
 passed-requires : tie.Need-passed-requires
@@ -27,18 +27,17 @@ passed-requires c κs = search rules
 nodes-requires : tie.Need-nodes-requires
 nodes-requires c κs = search rules
 
-rem-i : tie.Need-nonzero-rem-i
+rem-i : tie.Need-nonzero_rem-i
 rem-i c = search rules
 
-is-node-requires : tie.Need-is-node-requires
-is-node-requires c κs = omega (arith, few c.before, mod-le c.before.passed.result c.nodes.result)
+is-node-requires : tie.Need-is_node-requires
+is-node-requires c κs = omega (arith, few c.before.before.before, mod-le c.passed.result c.nodes.result)
 
 returns : tie.Need-returns
 returns c =
     let s = c.before.before.before in
-    c.is-node.ensures
-    ∙ (λ j. truth (int? (to_z-of_z s.ranges.x j) (node s.args.grid.latitudes (c.before.before.passed.ensures j % rows_in c.before j))))
+    c.is_node.ensures
+    ∙ (λ j. truth (int? (to_z-of_z s.ranges.x j) (node s.args.grid.latitudes (c.passed.ensures j % rows_in c.before.before j))))
 
-pub row-agrees-spec : {M : Type 1} → statement M
-row-agrees-spec =
-    tie.close (tie.spec passed-requires nodes-requires rem-i is-node-requires returns)
+pub row_agrees_spec : {M : Type 1} → statement M
+row_agrees_spec = tie.close (tie.spec passed-requires nodes-requires rem-i is-node-requires returns)

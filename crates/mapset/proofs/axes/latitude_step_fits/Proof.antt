@@ -6,17 +6,17 @@ use Rattle.mapset.proofs.JudgedLaws.{still, stepped}
 use Rattle.mapset.proofs.axes.latitude_step_fits.Statement.{statement}
 use Rattle.mapset.proofs.axes.latitude_step_fits.Tie as tie
 
-sized : (c : tie.After-size) → c.size.result ≡ nat_abs c.before.args.d
-sized c = c.size.ensures ∙ ap nat_abs (to_z-of_z c.before.ranges.d)
+sized : (c : tie.After-size-e) → c.size-e.result ≡ nat_abs c.args.d
+sized c = c.size-e.ensures ∙ ap nat_abs (to_z-of_z c.ranges.d)
 
-size-requires : tie.Need-size-requires
+size-requires : tie.Need-size-e-requires
 size-requires c κs = search rules
 
-returns : tie.Need-returns
-returns c = still c.before.before.args.d (sym (sized c.before) ∙ c.if1.true)
+returns : tie.Need-returns-then-e-eq0
+returns c = still c.args.d (sym (sized c.before) ∙ c.if-e-eq0.true)
 
-returns-2 : tie.Need-returns-2
-returns-2 c = rw (sized c.before) (stepped c.before.before.args.d (rw (sized c.before) at c.if1.false))
+returns-2 : tie.Need-returns
+returns-2 c = rw (sized c.before) (stepped c.args.d (rw (sized c.before) at c.if-e-eq0.false))
 
-pub latitude-step-fits-spec : {M : Type 1} → statement M
-latitude-step-fits-spec = tie.close (tie.spec size-requires returns returns-2)
+pub latitude_step_fits_spec : {M : Type 1} → statement M
+latitude_step_fits_spec = tie.close (tie.spec size-requires returns returns-2)

@@ -19,17 +19,17 @@ module _ (s : tie.Start) where
   step_fits = search rules
 
   first_is : to_z w64 (of_z w64 (to_z w32 (of_z w32 s.args.a.first))) ≡ s.args.a.first
-  first_is = rw (to_z-of_z first_fits) (to_z-of_z (sfits_widen tt first_fits))
+  first_is = rw (to_z-of_z first_fits) (to_z-of_z {w = w64} (sfits_widen (tt {0}) first_fits))
 
   step_is : to_z w64 (of_z w64 (to_z w32 (of_z w32 s.args.a.step))) ≡ s.args.a.step
-  step_is = rw (to_z-of_z step_fits) (to_z-of_z (sfits_widen tt step_fits))
+  step_is = rw (to_z-of_z step_fits) (to_z-of_z {w = w64} (sfits_widen (tt {0}) step_fits))
 
   i_is : to_z w64 s.args.i ≡ pos s.args.i
   i_is = to_z_pos w64 (omega arith)
 
   small : s.args.i * nat_abs s.args.a.step ≤ 2 ^ 62
   small =
-      let m : s.args.i * nat_abs s.args.a.step ≤ 2 ^ 31 * 2 ^ 31 = mul-le-mul (le_of_lt s.pre) (size_of_fits w32 _ step_fits) in
+      let m : s.args.i * nat_abs s.args.a.step ≤ 2 ^ 31 * 2 ^ 31 = mul-le-mul (le_of_lt s.requires) (size_of_fits w32 _ step_fits) in
       omega arith
 
   product : SFits w64 (pos s.args.i *ℤ s.args.a.step)
@@ -38,24 +38,23 @@ module _ (s : tie.Start) where
   sum : SFits w64 (s.args.a.first +ℤ pos s.args.i *ℤ s.args.a.step)
   sum = size_fits w64 _ (omega (arith, abs_add_scaled s.args.a.first s.args.i s.args.a.step, small, size_of_fits w32 _ first_fits))
 
-cast-result : tie.Need-overflow-cast-result
+cast-result : tie.Need-overflow_cast-result
 cast-result c = let s = c.before.before in rw (to_z-of_z (first_fits s)) (sfits_widen tt (first_fits s))
 
-cast-result-2 : tie.Need-overflow-cast-result-2
+cast-result-2 : tie.Need-overflow_cast-result-2
 cast-result-2 c = search rules
 
-cast-result-3 : tie.Need-overflow-cast-result-3
+cast-result-3 : tie.Need-overflow_cast-result-3
 cast-result-3 c = let s = c.before.before.before.before in rw (to_z-of_z (step_fits s)) (sfits_widen tt (step_fits s))
 
-mul-result : tie.Need-overflow-mul-result
+mul-result : tie.Need-overflow_mul-result
 mul-result c = let s = c.before.before.before.before in rw (i_is s, step_is s) (product s)
 
-add-result : tie.Need-overflow-add-result
+add-result : tie.Need-overflow_add-result
 add-result c = let s = c.before.before.before.before in rw (i_is s, step_is s, first_is s, to_z-of_z (product s)) (sum s)
 
 returns : tie.Need-returns
 returns c = let s = c.before.before.before.before in rw (i_is s, step_is s, first_is s, to_z-of_z (product s)) (to_z-of_z (sum s))
 
-pub node-spec : {M : Type 1} → statement M
-node-spec =
-    tie.close (tie.spec cast-result cast-result-2 cast-result-3 mul-result add-result returns)
+pub node_spec : {M : Type 1} → statement M
+node_spec = tie.close (tie.spec cast-result cast-result-2 cast-result-3 mul-result add-result returns)

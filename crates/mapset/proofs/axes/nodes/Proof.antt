@@ -12,43 +12,42 @@ use Rattle.mapset.proofs.JudgedLaws.{one_node}
 use Rattle.mapset.proofs.axes.nodes.Statement.{statement}
 use Rattle.mapset.proofs.axes.nodes.Tie as tie
 
-step_size : (c : tie.After-size) → c.size.result ≡ nat_abs c.before.before.args.a.step
+step_size : (c : tie.After-size-d) → c.size-d.result ≡ nat_abs c.args.a.step
 step_size c =
-    let e : to_z w32 (of_z w32 c.before.before.args.a.step) ≡ c.before.before.args.a.step = search rules in
-    c.size.ensures ∙ ap nat_abs e
+    let e : to_z w32 (of_z w32 c.args.a.step) ≡ c.args.a.step = search rules in
+    c.size-d.ensures ∙ ap nat_abs e
 
-spanned : (c : tie.After-distance) → c.distance.result ≡ nat_abs (c.before.before.before.before.before.before.args.a.last -ℤ c.before.before.before.before.before.before.args.a.first)
+spanned : (c : tie.After-distance) → c.distance.result ≡ nat_abs (c.args.a.last -ℤ c.args.a.first)
 spanned c =
-    let a = c.before.before.before.before.before.before.args.a in
+    let a = c.args.a in
     let e : to_z w32 (of_z w32 a.last) ≡ a.last = search rules in
     let f : to_z w32 (of_z w32 a.first) ≡ a.first = search rules in
     c.distance.ensures ∙ ap₂ (λ (x y : ℤ). nat_abs (x -ℤ y)) e f
 
 small : (c : tie.After-distance) → c.distance.result ≤ 4294967296
 small c =
-    let a = c.before.before.before.before.before.before.args.a in
+    let a = c.args.a in
     let e : SFits w32 a.last = search rules in
     let f : SFits w32 a.first = search rules in
     omega (arith, spanned c, less_size a.last a.first, size_of_fits w32 a.last e, size_of_fits w32 a.first f)
 
-size-requires : tie.Need-size-requires
+size-requires : tie.Need-size-d-requires
 size-requires c κs = search rules
 
-returns : tie.Need-returns
-returns c = one_node c.before.before.before.args.a (sym (step_size c.before) ∙ c.if1.true)
+returns : tie.Need-returns-then-d-eq0
+returns c = one_node c.args.a (sym (step_size c.before) ∙ c.if-d-eq0.true)
 
 distance-requires : tie.Need-distance-requires
 distance-requires c κs = search rules
 
-div-result : tie.Need-nonzero-div-result
+div-result : tie.Need-nonzero_div-result
 div-result c = search rules
 
-add-result : tie.Need-overflow-add-result
-add-result c = omega (arith, small c, div-le_self c.distance.result c.before.before.before.before.size.result)
+add-result : tie.Need-overflow_add-result
+add-result c = omega (arith, small c, div-le_self c.distance.result c.size-d.result)
 
-returns-2 : tie.Need-returns-2
+returns-2 : tie.Need-returns
 returns-2 c = rw (spanned c, step_size c.before.before.before.before) refl
 
-pub nodes-spec : {M : Type 1} → statement M
-nodes-spec =
-    tie.close (tie.spec size-requires returns distance-requires div-result add-result returns-2)
+pub nodes_spec : {M : Type 1} → statement M
+nodes_spec = tie.close (tie.spec size-requires returns distance-requires div-result add-result returns-2)

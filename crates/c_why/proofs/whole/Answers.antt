@@ -1,0 +1,8 @@
+-- `c_why::whole` meets its contract.
+use native.Mathlib.Omega.{arith}
+use mir.Syntax.{w64}
+use mir.Facts.{to_z_pos}
+use Rattle.c_why.proofs.whole.Goals as goal
+
+pub returns : goal.returns
+returns c = to_z_pos w64 (omega arith)

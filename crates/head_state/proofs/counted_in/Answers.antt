@@ -1,0 +1,7 @@
+-- `head_state::counted_in` meets its contract.
+use native.Mathlib.Omega.{arith}
+use Rattle.head_state.proofs.GotLaws.{counted_got}
+use Rattle.head_state.proofs.counted_in.Goals as goal
+
+pub returns : goal.returns
+returns c = let s = c.before.before in rw c.value_in-v.ensures (counted_got s.args.s s.args.i (omega arith) s.requires.1)

@@ -1,0 +1,36 @@
+use Prim.Native.Nat.{◌-◌}
+use native.Mathlib.Omega.{arith}
+use lib.IntN.{pos}
+use lib.ListN.{replicate, length-replicate}
+use Rattle.join_lists.proofs.Copy.{copy_none, copy_more, copy_done, same_at}
+use Rattle.join_lists.proofs.put_absent.Goals as goal
+
+pub loop-j-init : goal.loop-j-init
+loop-j-init c = copy_none _ _ _ _
+
+pub overflow_add-out : goal.overflow_add-out
+overflow_add-out c = let v = c.loop-j.invariant.same in omega arith
+
+pub offset_bounds-out-at : goal.offset_bounds-out-at
+offset_bounds-out-at c = let v = c.loop-j.invariant.same in omega arith
+
+pub slice_set_of-out : goal.slice_set_of-out
+slice_set_of-out c = let v = c.loop-j.invariant.same in omega arith
+
+pub overflow_add-j : goal.overflow_add-j
+overflow_add-j c = let v = c.loop-j.invariant.same in omega arith
+
+pub loop-j-smaller : goal.loop-j-smaller
+loop-j-smaller c = let v = c.loop-j.invariant.same in omega arith
+
+pub loop-j-preserved : goal.loop-j-preserved
+loop-j-preserved c =
+    let l = c.before in
+    let s = l.before in
+    rw (same_at s.args.n l.loop-j.j (pos 9999) (pos 0) (omega arith)) at (copy_more s.args.out.now s.args.at (replicate s.args.n (pos 9999)) s.args.n (omega (arith, length-replicate s.args.n (pos 9999))) s.requires l.loop-j.j l.loop-j.out l.loop-j.invariant (pos 0) (omega arith))
+
+pub shape_of-out : goal.shape_of-out
+shape_of-out c = c.loop-j.invariant.same
+
+pub returns : goal.returns
+returns c = let l = c.before in let s = l.before in copy_done s.args.out.now s.args.at (replicate s.args.n (pos 9999)) s.args.n (omega (arith, length-replicate s.args.n (pos 9999))) s.requires l.loop-j.j l.loop-j.out l.loop-j.invariant (omega arith)

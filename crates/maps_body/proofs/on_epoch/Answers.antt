@@ -1,0 +1,30 @@
+use mathlib.Core.Path.{sym, ap, ◌∙◌}
+use Rattle.layout.specs.Text.{pad}
+use Rattle.reading.specs.Maps.{on_epoch}
+use Rattle.reading.specs.declared.Place.{Place}
+use Rattle.maps_bounds.specs.Steps.{force_of, moved}
+use Rattle.maps_body.proofs.on_epoch.Goals as goal
+
+pub returns-in-Ended : goal.returns-in-Ended
+unfolding on_epoch moved
+returns-in-Ended c =
+    let a = c.args in
+    sym (ap (λ (q : Place). moved a.epochs.now (on_epoch a.header q (force_of a.past a.epochs.now) (pad a.line.now))) c.in-Ended.is)
+
+pub returns-in-Between : goal.returns-in-Between
+unfolding on_epoch moved
+returns-in-Between c =
+    let a = c.args in
+    sym (ap (λ (q : Place). moved a.epochs.now (on_epoch a.header q (force_of a.past a.epochs.now) (pad a.line.now))) c.in-Between.is)
+
+pub returns-in-Early : goal.returns-in-Early
+unfolding on_epoch moved
+returns-in-Early c =
+    let a = c.args in
+    c.epoch_tec.ensures ∙ sym (ap (λ (q : Place). moved a.epochs.now (on_epoch a.header q (force_of a.past a.epochs.now) (pad a.line.now))) c.in-Early.is)
+
+pub returns-in-Inside : goal.returns-in-Inside
+unfolding on_epoch moved
+returns-in-Inside c =
+    let a = c.args in
+    c.epoch_other.ensures ∙ sym (ap (λ (q : Place). moved a.epochs.now (on_epoch a.header q (force_of a.past a.epochs.now) (pad a.line.now))) c.in-Inside.is)
