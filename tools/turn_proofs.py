@@ -143,6 +143,14 @@ class Places:
         i = self.index.get(norm(label))
         return i if i is not None else self.index.get(norm(re.sub(r"(\d+)$", r"-\1", label)))
 
+    def typed(self, label):
+        """The place that a lemma's parameter is of: of an arm's places the last, which has what the arm gives."""
+        i = self.find(label)
+        arm = self.arms[i] if i is not None else None
+        if not arm:
+            return i
+        return max((j for j, a in enumerate(self.arms) if a and a[0] == arm[0]), key=lambda j: self.arms[j][1])
+
     def steps(self, i, j):
         """How many records lie between place i and place j above it; None where j is not above it."""
         chain = self.above(i)
@@ -336,15 +344,15 @@ def leading(sig, pl):
             return out
         ns, _, ty = m.group(1).partition(" : ")
         k = re.match(r"tie\.(\S+)", ty.strip())
-        out += [pl.find(k.group(1)) if k else None] * len(ns.split())
+        out += [pl.typed(k.group(1)) if k else None] * len(ns.split())
         t = t[m.end() :]
 
 
 def places_in(sig, pl):
     env = {}
     for m in SIGPLACE.finditer(sig):
-        if pl.find(m.group(2)) is not None:
-            env.update((v, pl.find(m.group(2))) for v in m.group(1).split())
+        if pl.typed(m.group(2)) is not None:
+            env.update((v, pl.typed(m.group(2))) for v in m.group(1).split())
     return env
 
 
@@ -375,7 +383,7 @@ class Turned:
 
     def named(self, m):
         x = m.group(1)
-        i = self.pl.find(x)
+        i = self.pl.typed(x)
         if i is not None:
             return "tie." + self.pl.by_name[i]
         for word in ("invariant-", "decreases-"):
@@ -413,7 +421,7 @@ class Turned:
         for m in re.finditer(r"\(([^(){}]*(?:\([^()]*\))?[^(){}]*)\)", top):
             ns, _, ty = m.group(1).partition(" : ")
             k = re.match(r"tie\.(\S+)", ty.strip())
-            p = self.pl.find(k.group(1)) if k else None
+            p = self.pl.typed(k.group(1)) if k else None
             lead += [p] * len(ns.split())
             env.update((v, p) for v in ns.split() if p is not None)
         res, own = [], []
@@ -421,8 +429,8 @@ class Turned:
             res.append(self.turn(chunk, env | places_in(chunk, self.pl)))
             m = re.match(r"  (?:(?:pub|abbrev|unfoldable) )*([^\s:]+) :", chunk)
             k = re.match(r"  (?:(?:pub|abbrev|unfoldable) )*([^\s:]+) : tie\." + PLACE + r"([^\s(){}]+)[^→\n]*\n", chunk)
-            if k and self.pl.find(k.group(2)) is not None:
-                env[k.group(1)] = self.pl.find(k.group(2))
+            if k and self.pl.typed(k.group(2)) is not None:
+                env[k.group(1)] = self.pl.typed(k.group(2))
             if m:
                 own.append((m.group(1), leading(re.split(r"\n  " + re.escape(m.group(1)) + r"(?!\S)", chunk)[0], self.pl)))
         for name, more in own:

@@ -26,9 +26,9 @@ right_of (At i j part) = j
 right_of Outside = 0
 
 -- the left one comes first in a cell
-in_order : (c : tie.In-At-column_of-2) → let m = c.before.before in let s = m.before.before.before in
-    InColumn s.args.unit s.args.g.longitudes s.args.lon (left_of m.column_of.result) (right_of m.column_of.result) c.column-1.given.0.1.1.0
-in_order c = rw c.column-1.given.1 (rw c.column-1.given.1 at (column_is c.before.before))
+in_order : (c : tie.In-At-column_of) → let m = c in let s = m.before.before.before in
+    InColumn s.args.unit s.args.g.longitudes s.args.lon (left_of m.column_of.result) (right_of m.column_of.result) c.in-At-column_of.across
+in_order c = rw c.in-At-column_of.is (rw c.in-At-column_of.is at (column_is c.before))
 
 row-of-requires : tie.Need-row_of-requires
 row-of-requires c κs = search rules
