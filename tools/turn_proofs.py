@@ -127,6 +127,7 @@ class Places:
             if m:
                 self.args_of[norm(m.group(1))] = new.split(".")[-1]
         self.memo = {}
+        self.stands = {}
 
     def up(self, i):
         u = self.rows[i][1]
@@ -200,19 +201,24 @@ class Places:
             self.memo[None] = out
         return self.memo[None]
 
+    def part_of_arm(self, parts, i, at):
+        """Whether a path goes only a part of the way to what an arm gives."""
+        rows = self.fields(at).get(norm(parts[0]), [])
+        return bool(rows) and not any(r[0] == parts[1 : 1 + len(r[0])] for r in rows if r[0]) and any(r[0][: len(parts) - 1] == parts[1:] for r in rows if len(r[0]) > len(parts) - 1)
+
     def turned(self, parts, i, at):
         """The projections of a path from place i, which begins with no .before; the variable itself stands for place `at`."""
         f = self.fields(at)
         p, rest = parts[0], parts[1:]
         if p.endswith(("_lem", "-lem")) and norm(p) not in f and norm(p[:-4]) in self.anywhere():
             p = p[:-4]
-        if norm(p) not in f and p not in ("args", "requires", "pre", "ranges", "fits", "well_formed", "lifetimes"):
+        if norm(p) not in f and norm(p).lower() not in f and p not in ("args", "requires", "pre", "ranges", "fits", "well_formed", "lifetimes"):
             f = self.anywhere()
         if norm(p) not in f and p.endswith(("_lem", "-lem")) and norm(p[:-4]) in f:
             p = p[:-4]
         key = norm(p)
-        if key not in f and norm(p[:1].lower() + p[1:]) in f:
-            key = norm(p[:1].lower() + p[1:])
+        if key not in f and key.lower() in f:
+            key = key.lower()
         above = self.above(i)
         rows = f.get(key, [])
         for path, to, called, _ in [r for r in rows if r[3] in above] or rows:
@@ -237,6 +243,8 @@ class Places:
                 return to + more
         if p == "args" and rest and norm(rest[0]) in self.args_of:
             return ["args", self.args_of[norm(rest[0])]] + rest[1:]
+        if p == "good":
+            return ["well_formed"] + rest
         if p == "pre":
             return ["requires"] + rest
         if p == "fits" and rest:
@@ -250,7 +258,38 @@ class Places:
 def turn(text, pl, env, helpers, left):
     """Rewrites what text cites of places. env: variable -> place; helpers: a lemma -> the places of its leading arguments."""
     env, out, recent, pending = dict(env), [], [], None
+    opened, closed, fresh, dotted, lam, alias, skip = [], None, False, False, None, {}, False
     for t in TOK.findall(text):
+        # a lemma that stands for a place, applied: (f c).STEP
+        if t == "." and closed is not None and not dotted:
+            out.append(t)
+            dotted = True
+            continue
+        if dotted and PLAIN.match(t):
+            dotted = False
+            parts = [x for x in t.split(".") if x]
+            k = 0
+            while k < len(parts) and parts[k] == "before" and pl.up(closed) is not None:
+                closed = pl.up(closed)
+                k += 1
+            if k < len(parts):
+                res = pl.turned(parts[k:], closed, closed)
+                out.append(".".join(x for x in res if x != "\1") + ("." if t.endswith(".") else ""))
+            else:
+                out.append(t)
+            recent.append(t)
+            closed = None
+            continue
+        closed, dotted = None, False
+        if t == "(":
+            opened.append(None)
+            fresh = True
+        elif t == ")" and opened:
+            closed = opened.pop()
+        elif not t.isspace():
+            if fresh and opened:
+                opened[-1] = pl.stands.get(t)
+            fresh = False
         if t.isspace() or t.startswith("--"):
             out.append(t)
             continue
@@ -264,7 +303,12 @@ def turn(text, pl, env, helpers, left):
         if t.endswith(".") and len(t) > 1:
             t, trail = t[:-1], "."
         parts = t.split(".")
-        parts = parts[:1] + ["type_inv" if x == "type-inv" else x for x in parts[1:]]
+        if skip and t == "in":
+            skip = False
+            continue
+        if parts[0] in alias and len(parts) > 1:
+            parts = alias[parts[0]] + parts[1:]
+        parts = parts[:1] + [{"type-inv": "type_inv", "pre": "requires"}.get(x, x) for x in parts[1:]]
         t = ".".join(parts)
         first = parts[0]
         recent.append(t)
@@ -272,9 +316,25 @@ def turn(text, pl, env, helpers, left):
             out.append("\0" + parts[1] + "\0" + trail)
             pending = None
             continue
+        # LEMMA (λ c. ..): c is of the place that the lemma's argument takes
+        if pending and isinstance(pending[0], tuple):
+            if first == "λ":
+                continue_with = pending[0][1]
+                pending = None
+                out.append(t + trail)
+                lam = continue_with
+                continue
+        if lam is not None:
+            env[first] = lam
+            lam = None
         want = None
         if pending:
             want, pending = pending[0], pending[1:]
+            if isinstance(want, tuple):
+                want = None
+        # let x = LEMMA .. in, where the lemma stands for a place
+        if first in pl.stands and len(parts) == 1 and len(recent) >= 4 and recent[-2] == "=" and recent[-4] == "let":
+            env[recent[-3]] = pl.stands[first]
         if first not in env:
             if "before" in parts[1:]:
                 left.append(f"not followed: {t}")
@@ -291,6 +351,17 @@ def turn(text, pl, env, helpers, left):
             k += 1
         rest = parts[k:]
         if rest:
+            if norm(rest[0]) not in pl.fields(at) and norm(rest[0]).lower() not in pl.fields(at):
+                # the step lies below what the variable stands for: from another one
+                other = [v for v in env if norm(rest[0]) in pl.fields(env[v])]
+                if other:
+                    first, at, here = other[0], env[other[0]], env[other[0]]
+            if len(recent) >= 4 and recent[-2] == "=" and recent[-4] == "let" and pl.part_of_arm(rest, here, at):
+                alias[recent[-3]] = [first] + ["before"] * 0 + rest
+                while out.pop() != "let":
+                    pass
+                skip = True
+                continue
             res = [first] + pl.turned(rest, here, at)
         else:
             goal = want if want is not None else here
@@ -339,6 +410,14 @@ def leading(sig, pl):
     m = re.match(r"(?s)[^:]*: (.*)", sig)
     t, out = m.group(1) if m else "", []
     while True:
+        m = re.match(r"\s*tie\." + PLACE + r"([^\s(){}]+)[^→(){}]*→\s*", t)
+        if m:
+            out.append(pl.typed(m.group(1)))
+            t = t[m.end() :]
+            continue
+        m = re.match(r"\s*\(\(\w+ : tie\." + PLACE + r"([^\s(){}]+)[^(){}]*\) →", t)
+        if m and pl.typed(m.group(1)) is not None:
+            return out + [("λ", pl.typed(m.group(1)))]
         m = re.match(r"\s*\(([^(){}]*(?:\([^()]*\))?[^(){}]*)\)\s*(?:→\s*)?", t)
         if not m:
             return out
@@ -395,7 +474,7 @@ class Turned:
         return "tie." + x
 
     def add(self, *lines):
-        self.items.append(re.sub("\0([^\0]*)\0", self.named, "\n".join(lines)))
+        self.items.append(re.sub(r"\n[ \t]+(?=\n)", "", re.sub("\0([^\0]*)\0", self.named, "\n".join(lines))))
 
     def turn(self, text, env):
         return turn(text, self.pl, env, self.helpers, self.left)
@@ -430,7 +509,12 @@ class Turned:
             m = re.match(r"  (?:(?:pub|abbrev|unfoldable) )*([^\s:]+) :", chunk)
             k = re.match(r"  (?:(?:pub|abbrev|unfoldable) )*([^\s:]+) : tie\." + PLACE + r"([^\s(){}]+)[^→\n]*\n", chunk)
             if k and self.pl.typed(k.group(2)) is not None:
-                env[k.group(1)] = self.pl.typed(k.group(2))
+                to = env[k.group(1)] = self.pl.stands[k.group(1)] = self.pl.typed(k.group(2))
+                # what it stands for: the place of its type, from the block's own
+                below = [(self.pl.steps(env[v], to), v) for v in env if v != k.group(1) and self.pl.steps(env[v], to) is not None]
+                if below:
+                    n, v = min(below)
+                    res[-1] = re.sub(r"(?m)^(  " + re.escape(k.group(1)) + r" =) \S+$", lambda q: f"{q.group(1)} {v}" + ".before" * n, res[-1])
             if m:
                 own.append((m.group(1), leading(re.split(r"\n  " + re.escape(m.group(1)) + r"(?!\S)", chunk)[0], self.pl)))
         for name, more in own:
@@ -458,7 +542,7 @@ class Turned:
         sub.pop("_", None)
         if hidden(body, sub):
             self.left.append(f"{which}: a binder hides {hidden(body, sub)}")
-        self.inv.append("\n".join(n["comment"] + [f"abbrev pub {word} : goal.{word}"] + n["unf"]) + f"\n{word} l ={sub_words(body, sub)}")
+        self.inv.append("\n".join(n["comment"] + [f"abbrev pub {word} : goal.{word}"] + n["unf"]) + f"\n{word} l =" + re.sub(r"\(to_z w\d+ (l\.[\w.]+)\)", r"\1", sub_words(body, sub)))
 
     def need(self, n, label):
         key = norm(old_label(label))
@@ -494,8 +578,11 @@ class Turned:
         for e in n["eqs"]:
             e = "\n".join(e)
             words = re.sub(r"\([^()]*\)", "_", re.sub(r"\{[^{}]*\}", "", e.split("=", 1)[0])).split()
-            out.append(self.turn(e, env | {w: p for w, p in zip(words[1:], lead) if p is not None}))
+            out.append(self.turn(e, env | {w: p for w, p in zip(words[1:], lead) if isinstance(p, int)}))
         self.helpers[n["name"]] = lead
+        k = re.search(r"(?:→|:) tie\." + PLACE + r"([^\s(){}]+)[^→:()]*$", sig)
+        if k and self.pl.typed(k.group(1)) is not None:
+            self.pl.stands[n["name"]] = self.pl.typed(k.group(1))
         self.add(*n["comment"], out[0], *n["unf"], *out[1:])
 
     def close(self):

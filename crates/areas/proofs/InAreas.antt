@@ -35,6 +35,8 @@ at_most (w_again d c t hw) l = at_most hw tt
 at_most (w_block v c o z y hw) l = at_most hw tt
 at_most (w_close c hw) l = at_most hw tt
 at_most (w_file c u hw) l = omega arith
+at_most {h = h} (w_end {p = p}) l = elim l [ ]
+at_most {h = h} (w_other {p = p} Tec {ms = ms} {r = r} {rs = rs} o c u v z hw) l = elim o [ ]
 
 module _ (h : Header) (N : Kind → ℕ) where
   -- a kind that has a map has room for its values
@@ -72,3 +74,4 @@ module _ (h : Header) (N : Kind → ℕ) where
       ((b.0, z, b.1), inside hw t (r.0, (omega (arith, r.1.0), r.1.1), r.2))
   inside (w_close c hw) t r = inside hw t r.2
   inside (w_file c u hw) t r = inside hw t tt
+  inside (w_other {p = p} Tec {ms = ms} {rs = rs} o c u v z hw) t r = elim o [ ]

@@ -65,6 +65,7 @@ others Height m = m.height
 pub bit_found : (k : Kind) (m : Maps) (i : ℕ) → Other k → of_kind k (there (found m.rms i)) (there (found m.height i)) ≡ there (found (others k m) i)
 bit_found Rms m i o = refl
 bit_found Height m i o = refl
+bit_found Tec m i o = elim o [ ]
 
 module _ (n B C : ℕ) (k : Kind) (o : Other k) (m : Maps) where
   -- none

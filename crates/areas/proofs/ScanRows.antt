@@ -138,6 +138,7 @@ brings_told {h} {p} (w_block {k = k} {i} {zs} {bs} v {r} {vs} {rs} c o z y hw) (
     ((λ j. brought C (now k i (b j) p.exponent n) 0 rs) ∙ brings_told hw (at_blocks tt (omega arith)))
 brings_told {h} (w_close {k = k} {i} c hw) (at_blocks f l) = rw (rec_label c (known_maps.6 k)) (brings_told hw (at_maps k i (per_map h - 0)))
 brings_told (w_file c u hw) (at_maps k i b) = rw (rec_label c known_maps.4) (brings_told hw at_end)
+brings_told {h = h} {s = s} (w_other {p = p} Tec {x = x} {ms = ms} {r = r} {rs = rs} o c u v z hw) _ = elim o [ ]
 
 pub known_version : Known version
 unfolding lookup name pick same sames ℕ_discrete

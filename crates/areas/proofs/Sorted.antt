@@ -80,6 +80,9 @@ module _ {A : Type 0} (f : Event → List A → List A) where
     on_other Rms Height q o x ms es s l = skip Rms q _ refl es (of_maps Rms B i ms) s l
     on_other Height Rms q o x ms es s l = skip Height q _ refl es (of_maps Height B i ms) s l
     on_other Height Height q o x ms es s l = s (f (marked Height x.of) l)
+    on_other Tec Tec q o x ms es s l = elim o [ ]
+    on_other Rms Tec q o x ms es s l = elim o [ ]
+    on_other Height Tec q o x ms es s l = elim o [ ]
 
     on_block : (k k' : Kind) → Quiet k → (e : Bool) (j : ℕ) (x : Block) (bs : List Block) (ms : Maps) (es : List Event)
         → Same es (of_left k B i (blocks false k' j bs ms)) → Same (block k' j (B - suc (length bs)) x ∷ es) (of_left k B i (blocks e k' j (x ∷ bs) ms))
@@ -100,6 +103,8 @@ module _ {A : Type 0} (f : Event → List A → List A) where
   nothing_told : {h : Header} {p : Force} {rs : List (List ℕ)} (hw : Writes h p nothing rs) → told hw ≡ []
   unfolding told
   nothing_told w_end = refl
+  nothing_told {h = h} {p = p} (w_comment {r = r} {rs = rs} x9 _ _) = elim x9 [ ]
+  nothing_told {h = h} {p = p} (w_exponent {e = e} {r = r} {rs = rs} x13 _ _ _) = elim x13 [ ]
 
   no_maps : (k : Kind) (B i : ℕ) (l : List A) → l ≡ scan f (of_maps k B i (record { tec = []; rms = []; height = [] })) l
   no_maps Tec B i l = refl

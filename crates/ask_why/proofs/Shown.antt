@@ -57,6 +57,7 @@ needed_listed n (m ∷ ns) (later a) z = by (ℕ_discrete m.weight 0) (needed_li
     by : (d : Dec (m.weight ≡ 0)) → Among n (needed ns) → Among n (pick d (needed ns) (m ∷ needed ns))
     by (yes e) b = b
     by (no e) b = later b
+needed_listed n [] x'' z = elim x'' [ ]
 
 among_cons : {A : Type 0} (n m : A) (l k : List A) → (Among n l → Among n k) → Among n (m ∷ l) → Among n (m ∷ k)
 among_cons n m l k f first = first
@@ -69,6 +70,7 @@ listed_needed n (m ∷ ns) a = by (ℕ_discrete m.weight 0) a (listed_needed n n
     by : (d : Dec (m.weight ≡ 0)) → Among n (pick d (needed ns) (m ∷ needed ns)) → (Among n (needed ns) → Among n ns) → Among n (m ∷ ns)
     by (yes e) b f = later (f b)
     by (no e) b f = among_cons n m (needed ns) ns f b
+listed_needed n [] a = elim a [ ]
 
 -- ---- sums over the needed nodes are sums over all
 module _ (q : Question) where
@@ -207,6 +209,7 @@ names_first_lacking q e x g = named q e e.answer x.beside g
 before_behind : (q : Question) (m n : Weighed) (ns : List Weighed) → All (Before (listed q m)) (map (listed q) ns) → Among n ns → Before (listed q m) (listed q n)
 before_behind q m n (k ∷ ns) a first = a.0
 before_behind q m n (k ∷ ns) a (later x) = before_behind q m n ns a.1 x
+before_behind q m n [] a x'' = elim x'' [ ]
 
 others_behind : (q : Question) (m n : Weighed) (b c : List Weighed) → All (λ k. IsSome (value_of q k)) b → Rising (map (listed q) (b ++ (m ∷ c))) → value_of q n ≡ none
     → Among n (b ++ (m ∷ c)) → (n ≡ m) ⊎ Before (listed q m) (listed q n)

@@ -33,6 +33,7 @@ gathers (c_row c) g (t_satellite {s = x} s w h) o =
     rw (role_of s, new_satellite_made g w o.satellites.0, gathers c (one_satellite x g) h (record { satellites = o.satellites.1; stations = o.stations }))
 gathers (c_row c) g (t_station {s = x} s w h) o =
     rw (role_of s, new_station_made g w o.stations.0, gathers c (one_station x g) h (record { satellites = o.satellites; stations = o.stations.1 }))
+gathers (c_over {n = n}) g {p = p} {b = b} x7 o = elim x7 [ ]
 
 pub biases_read : {m : MapSet} {b : Biases} {t : List ℕ} → Makes m b t → biases t ≡ ok b
 unfolding biases bind

@@ -17,7 +17,7 @@ use Rattle.mapset.specs.MapSet.{MapSet}
 use Rattle.layout.specs.Text.{pad}
 use Rattle.layout.specs.Records.{Item, I, F, D, X, A, U, Vals, Fields, f_end, f_int, f_tenths, f_thousandths, f_blank, f_text, f_unread}
 use Rattle.reading.specs.Feed.{Feed}
-use Rattle.reading.proofs.LineLaws.{Carries, c_row, carries, Sized, sized}
+use Rattle.reading.proofs.LineLaws.{Carries, c_row, carries, Sized, sized, c_over}
 use Rattle.reading.proofs.RecordLaws.{fields_written}
 use Rattle.reading.proofs.ScanLaws.{scanned, read_is}
 use Rattle.biases.specs.Biases.{Biases}
@@ -98,6 +98,7 @@ told_fine (c_row c) z (t_last s) = (tt, tt)
 told_fine (c_row c) z (t_skipped q s h) = told_fine c z.1 h
 told_fine (c_row c) z (t_satellite s w h) = let i = told_fine c z.1 h in ((fine_satellite w, i.0), i.1)
 told_fine (c_row c) z (t_station s w h) = let i = told_fine c z.1 h in (i.0, (fine_station w z.0.1, i.1))
+told_fine (c_over {n = n}) z {p = p} {b = b} x7 = elim x7 [ ]
 
 pub made_fine : {m : MapSet} {b : Biases} {t : List ℕ} → Makes m b t → FineBiases b
 made_fine (makes {ls = ls} r h o l e) = told_fine (carries l 1) (sized 1 ls) h

@@ -171,6 +171,8 @@ stand_at (k ∷ ks) (some s ∷ ss) (stand_some a x) zero = fit a
 stand_at (k ∷ ks) (some s ∷ ss) (stand_some a x) (suc i) = stand_at ks ss x i
 stand_at (k ∷ ks) (none ∷ ss) (stand_none x) zero = fit_no
 stand_at (k ∷ ks) (none ∷ ss) (stand_none x) (suc i) = stand_at ks ss x i
+stand_at [] (_ ∷ ss) x3 i = elim x3 [ ]
+stand_at (k ∷ ks) [] x3 i = elim x3 [ ]
 
 pub says_fit : (m : MapSet) → Stand contents (says m.header m.texts) → FitAll (says m.header m.texts)
 says_fit m s i = stand_at contents (says m.header m.texts) s i

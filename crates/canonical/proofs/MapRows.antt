@@ -71,6 +71,7 @@ epochs_kept Height i p = refl
 last_set : (k : Kind) → Other k → (i : ℕ) (p : Force) → last_of k (with_last k i p) ≡ i
 last_set Rms o i p = refl
 last_set Height o i p = refl
+last_set Tec o i p = elim o [ ]
 
 last_under : (k : Kind) (e : ℤ) (p : Force) → last_of k (under e p) ≡ last_of k p
 last_under Tec e p = refl

@@ -57,6 +57,9 @@ other_or Rms Rms o i n x ms a = ⊎_elim (λ e. inl (refl, e)) inr (first_or x m
 other_or Rms Height o i n x ms a = inr a
 other_or Height Rms o i n x ms a = inr a
 other_or Height Height o i n x ms a = ⊎_elim (λ e. inl (refl, e)) inr (first_or x ms.height i a)
+other_or Tec Tec o i n x ms a = elim o [ ]
+other_or Rms Tec o i n x ms a = elim o [ ]
+other_or Height Tec o i n x ms a = elim o [ ]
 
 none_among : (k : Kind) (i n : ℕ) {X : Type 0} → Among k i n (record { tec = []; rms = []; height = [] }) → X
 none_among Tec i n a = let l = a.0 in let u = a.1 in absurd (omega arith)

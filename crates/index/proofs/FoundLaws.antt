@@ -141,7 +141,7 @@ values_found (at.line l {e} {g} {u} {b} k n y w s) (v_full {zs} {more} z q x v) 
     let p : 1 ≤ length more = some_values v in
     ap (values_at c) (cut_line l (g ++ u) k.1 y) ∙ row_line c l e (cuts (g ++ u)) k zs n (ap (λ j. cells 1 j (pad l)) m ∙ cells_of x 1)
     ∙ pick_no (dec_le c 16) _ _ (λ h. omega arith)
-    ∙ ap (in_front zs (l ++ e)) (ap (λ j. values_at j (cuts (g ++ u))) r ∙ blanks_past (length more) u w ∙ ap (in_front [] g) (values_found s v))
+    ∙ ap (in_front zs (l ++ e)) (ap (λ j. values_at j (cuts (g ++ u))) r ∙ blanks_past (length more) u w ∙ ap (in_front [] g) (values_found {zs = more} s v))
     ∙ ap (λ j. some (zs ++ more, j)) (append_assoc l e (g ++ b))
   where
     some_values : {zs : List ℤ} {vs : List (List ℕ)} → ValueRows zs vs → 1 ≤ length zs

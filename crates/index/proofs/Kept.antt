@@ -199,3 +199,4 @@ module _ (t : List ℕ) (h : Header) (n C : ℕ) (N : Kind → ℕ) (k : Kind) (
         agree m g.1 (put_values (per_map h) C k (event.block k' i' d' x) vs) (set xs y x.exponent) (set ps y a)
         (z ∙ sym (put_length (is k k') (place (per_map h) C i' d') x.values vs)) (omega (arith, length-set xs y x.exponent)) (omega (arith, length-set ps y a))
         (step k' i' d' a x vs xs ps s o l' u' g.0 z z' z'' w)
+    agree (m_end {os = os}) g vs xs ps z z' z'' (inl x17) = elim x17 [ ]

@@ -104,3 +104,4 @@ module _ (t : List ℕ) (h : Header) where
       (m_block b (record { opening = v; row = r; rows = vs; shown = s; opened = c; opens = u; values = q; count = z }) x o.0 (omega arith) m)
   matched (w_close {k = k} c hw) o x (lies_row {a = a} {ps = ps} f y) = other (end k) a ps (told hw) c (known_maps.6 k) (λ e. let z : ◌≡◌ {A = ℕ} 0 1 = cc in omega arith) (matched hw tt x y)
   matched (w_file c u hw) o x (lies_row {a = a} {ps = ps} f y) = other file_end a ps (told hw) c known_maps.4 (λ e. let z : ◌≡◌ {A = ℕ} 0 1 = cc in omega arith) (matched hw tt x y)
+  matched (w_other {p = p} Tec {ms = ms} {r = r} {rs = rs} n c u v z hw) o x {ps = ps} _ = elim n [ ]

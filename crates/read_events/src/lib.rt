@@ -38,8 +38,8 @@ pub struct Brought {
 
 // The number of EXPONENT and START.
 pub fn whole_in(line: &[u8]) -> i32
-    requires { length (now line) ≤ 80 }
-    ensures { result ≡ exponent_in (pad (now line.entry)) }
+    requires { length line.now ≤ 80 }
+    ensures { result ≡ exponent_in (pad line.now) }
 {
     match maps_records::one_number(line) {
         One::Wrong(_) => 0,
@@ -48,16 +48,16 @@ pub fn whole_in(line: &[u8]) -> i32
 }
 
 fn number_in(line: &[u8]) -> usize
-    requires { length (now line) ≤ 80 }
-    ensures { result ≡ nat_abs (exponent_in (pad (now line.entry))) }
+    requires { length line.now ≤ 80 }
+    ensures { result ≡ nat_abs (exponent_in (pad line.now)) }
 {
     kit::size(whole_in(line)) as usize
 }
 
 // The second of EPOCH OF CURRENT MAP.
 fn epoch_in(line: &[u8]) -> u64
-    requires { length (now line) ≤ 80 }
-    ensures { result ≡ epoch_in (pad (now line.entry)) }
+    requires { length line.now ≤ 80 }
+    ensures { result ≡ epoch_in (pad line.now) }
 {
     match maps_records::epoch_in(line) {
         Dated::Refused(_, _) => 0,
@@ -92,8 +92,8 @@ fn start_tec(s: State) -> Brought
 }
 
 fn start_other(s: State, line: &[u8], kind: Kind) -> Brought
-    requires { (length (now line) ≤ 80) × Other kind }
-    ensures { Goes (on_start (told s) kind (pad (now line.entry))) result }
+    requires { (length line.now ≤ 80) × Other kind }
+    ensures { Goes (on_start (told s) kind (pad line.now)) result }
 {
     let i = number_in(line);
     Brought {
@@ -103,8 +103,8 @@ fn start_other(s: State, line: &[u8], kind: Kind) -> Brought
 }
 
 fn with_exponent(s: State, line: &[u8]) -> Brought
-    requires { length (now line) ≤ 80 }
-    ensures { Goes (goes [] (now_of s.kind s.number s.done (exponent_in (pad (now line.entry))) s.tecs)) result }
+    requires { length line.now ≤ 80 }
+    ensures { Goes (goes [] (now_of s.kind s.number s.done (exponent_in (pad line.now)) s.tecs)) result }
 {
     let kind = s.kind;
     let exponent = whole_in(line);
@@ -122,8 +122,8 @@ fn with_exponent(s: State, line: &[u8]) -> Brought
 
 // Only a TEC map's epoch is stored.
 fn with_epoch(s: State, line: &[u8]) -> Brought
-    requires { length (now line) ≤ 80 }
-    ensures { Goes (on_epoch (told s) s.kind (pad (now line.entry))) result }
+    requires { length line.now ≤ 80 }
+    ensures { Goes (on_epoch (told s) s.kind (pad line.now)) result }
 {
     let kind = s.kind;
     match kind {
@@ -167,8 +167,8 @@ fn one_block(s: State) -> Brought
 
 // A row by its label, as a place in the table of labels; every other label brings nothing.
 pub fn brought_by(s: State, line: &[u8]) -> Brought
-    requires { (length (now line) ≤ 80) × ((s.tecs < 9223372036854775808) × (s.done < 9223372036854775808)) }
-    ensures { Takes s (pad (now line.entry)) result.event result.state }
+    requires { (length line.now ≤ 80) × ((s.tecs < 9223372036854775808) × (s.done < 9223372036854775808)) }
+    ensures { Takes s (pad line.now) result.event result.state }
 {
     match labels::label_of(line) {
         19 => with_exponent(s, line),

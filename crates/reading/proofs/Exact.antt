@@ -24,7 +24,7 @@ use Rattle.reading.specs.Fields.{fields}
 use Rattle.reading.specs.Maps.{short}
 use Rattle.reading.specs.Head.{place}
 use Rattle.reading.specs.Read.{nothing_yet, versioned, version_of, begin, read}
-use Rattle.reading.proofs.LineLaws.{Carries, c_row, carries, clean, laid, ended, split_of, Sized, sized}
+use Rattle.reading.proofs.LineLaws.{Carries, c_row, carries, clean, laid, ended, split_of, Sized, sized, c_over}
 use Rattle.reading.proofs.RecordLaws.{rec_name, rec_fields, named_rec}
 use Rattle.reading.proofs.MapLaws.{on_line_yields}
 use Rattle.reading.proofs.SlotLaws.{unjoined, empty, fit_none}
@@ -48,6 +48,7 @@ version_made v w x =
 -- a version in the range, as a natural
 in_range : (z : ℤ) → Natural 10 11 z → Within 10 11 (nat_abs z) × (z ≡ pos (nat_abs z))
 in_range (pos n) h = (h, refl)
+in_range (negsuc _) h = elim h [ ]
 
 version_yields : (r : List ℕ) → length r ≡ 80 → Yields (λ v. VersionRules v × VersionRow v r) (version_of r)
 unfolding version_of versioned
@@ -64,6 +65,7 @@ begun : {m : MapSet} {rs : List (List ℕ)} {f : Feed} → Carries f rs → Rows
 unfolding begin bind on_line
 begun {m} (c_row x) (rows_of v o c h) =
     rw (version_made m.header.version v c) (heads [] o h x (unjoined (says m.header m.texts)) refl)
+begun {m = m} (c_over {n = n}) x4 = elim x4 [ ]
 
 pub read_made : {m : MapSet} {t : List ℕ} → Makes m t → read t ≡ ok m
 unfolding read

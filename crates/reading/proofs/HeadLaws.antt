@@ -6,7 +6,7 @@ use Prim.Native.Nat.{ℕ, suc, ◌+◌, ◌<◌}
 use native.Mathlib.Omega.{arith}
 use native.Mathlib.Decide.{ℕ_discrete}
 use lib.ListN.{length, get_or, set, drop, length-set, length-append}
-use lib.IntN.{ℤ, pos, nat_abs}
+use lib.IntN.{ℤ, pos, nat_abs, negsuc}
 use Rattle.kit.specs.Answer.{ok, bind, amap, get, pick, same}
 use Rattle.kit.proofs.AnswerLaws.{need_yes, pick_yes, pick_no, pick_elim, pick_yields, Yields, y_ok, y_no, yields, need_yields, get_yields, bind_yields, amap_yields, yields_map}
 use Rattle.kit.proofs.ListLaws.{below, all_append}
@@ -58,6 +58,7 @@ meant_of (axis l) v s s_axis (a_axis w) = need_yes _ _ _ w.first ∙ need_yes _ 
 meant_of program v s s_program (a_program a b c) = refl
 meant_of mapping v s s_mapping (a_mapping a) = refl
 meant_of observables v s s_observables (a_observables a) = refl
+meant_of a_system v s x'' _ = elim x'' [ ]
 
 -- the counts of a system
 system_of : (l : List ℕ) (a b : ℕ) → Accepts a_system (counts a b) → meant a_system (l, (pos a, (pos b, tt))) ≡ ok (counts a b)
@@ -66,9 +67,11 @@ system_of l a b (accepts_system u v) = need_yes _ _ _ u ∙ need_yes _ _ _ v
 
 natural_count : {low high : ℕ} (z : ℤ) → Natural low high z → Shows (count low high) (z, tt) (number (nat_abs z)) × Accepts (count low high) (number (nat_abs z))
 natural_count (pos n) u = (s_count, a_count u)
+natural_count {low = low} {high = high} (negsuc _) u = elim u [ ]
 
 natural_tenths : {low high : ℕ} (z : ℤ) → Natural low high z → Shows (tenths low high) (z, tt) (number (nat_abs z)) × Accepts (tenths low high) (number (nat_abs z))
 natural_tenths (pos n) u = (s_tenths, a_tenths u)
+natural_tenths {low = low} {high = high} (negsuc _) u = elim u [ ]
 
 -- what a record may mean that is no system
 meant_yields : (k : Content) (v : Vals (items k)) → ¬ (k ≡ a_system) → AllWritten (items k) v → Yields (λ s. Shows k v s × Accepts k s) (meant k v)
@@ -90,6 +93,8 @@ system_yields v = need_yields _ _ (λ p. need_yields _ _ (λ q. y_ok (by v.0 v.1
     by : (l : List ℕ) (a b : ℤ) → Natural 0 999999 a → Natural 0 999999 b
         → (m : ℕ) × (n : ℕ) × (counts (nat_abs a) (nat_abs b) ≡ counts m n) × (◌≡◌ {A = Vals (items a_system)} (l, (a, (b, tt))) (l, (pos m, (pos n, tt)))) × Accepts a_system (counts m n)
     by l (pos m) (pos n) p q = (m, n, refl, refl, accepts_system p q)
+    by l (pos m) (negsuc _) p q = elim q [ ]
+    by l (negsuc _) b p q = elim p [ ]
 
 -- ---- the letter of a system stands in column 6
 

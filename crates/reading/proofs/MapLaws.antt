@@ -7,7 +7,7 @@ use native.Mathlib.Omega.{arith}
 use mathlib.Core.Option.{some}
 use mathlib.Core.List.{List, [], ◌∷◌, ◌++◌, append-nil}
 use lib.ListN.{length, get_or, length-append}
-use lib.IntN.{ℤ, pos, nat_abs}
+use lib.IntN.{ℤ, pos, nat_abs, negsuc}
 use Rattle.kit.specs.Answer.{Answer, ok, bind, amap, get}
 use Rattle.kit.proofs.AnswerLaws.{need_yes, Yields, y_ok, y_no, yields, need_yields, get_yields, bind_yields, amap_yields, yields_map}
 use Rattle.kit.specs.Range.{Natural}
@@ -54,12 +54,14 @@ module _ (h : Header) (p : Force) (r : List ℕ) where
   step_comment (maps ms) l c = rw (rec_label c known_maps.0, rec_fields c)
   step_comment (early m ms) l c = rw (rec_label c known_maps.0, rec_fields c)
   step_comment (blocks e k i bs ms) l c = rw (rec_label c known_maps.0, rec_fields c)
+  step_comment nothing l c = elim l [ ]
 
   step_exponent : (e : ℤ) (w : Left) → Loose w → Rec exponent (e, tt) r → Exponent e → step h (place w) p r ≡ stays (place w) (under e p)
   unfolding step taken on_exponent loose get bind
   step_exponent e (maps ms) l c u = rw (rec_label c known_maps.1, rec_fields c) (need_yes _ _ _ u)
   step_exponent e (early m ms) l c u = rw (rec_label c known_maps.1, rec_fields c) (need_yes _ _ _ u)
   step_exponent e (blocks b k i bs ms) l c u = rw (rec_label c known_maps.1, rec_fields c) (need_yes _ _ _ u)
+  step_exponent e nothing l c u = elim l [ ]
 
   step_tec : Rec (start Tec) (pos (suc (length p.epochs)), tt) r → length p.epochs < h.times.maps
       → step h Between p r ≡ goes Early p (λ w. one_tec w.0 w.1)
@@ -78,6 +80,7 @@ module _ (h : Header) (p : Force) (r : List ℕ) where
   unfolding step taken on_start start_map start_other get bind
   step_other Rms i o c u v = rw (rec_label c (known_maps.5 Rms), rec_fields c) (need_yes _ _ _ (omega arith, v))
   step_other Height i o c u v = rw (rec_label c (known_maps.5 Height), rec_fields c) (need_yes _ _ _ (omega arith, v))
+  step_other Tec i o c u v = elim o [ ]
 
   step_again : (k : Kind) (i j : ℕ) (d : Date) → Rec epoch d r → DateOf d (get_or p.epochs (i - 1) 0)
       → step h (Inside (record { fresh = true; kind = k; number = i; left = j })) p r ≡ goes (Inside (record { fresh = false; kind = k; number = i; left = j })) p (λ w. w)
@@ -147,6 +150,26 @@ runs {h} {p} (w_block {e = e} {k} {i} {zs} {bs} v {rs = rs} c o z y hw) (row n r
     rw (step_block h p r e k i (length bs) v c o, rw z at q)
 runs {h} {p} (w_close {e = e} {k} {i} c hw) (row n r f) (c_row x) = rw (step_close h p r e k i c, runs hw f x)
 runs {h} {p} (w_file c u hw) (row n r f) (c_row x) = rw (step_file h p r c u, runs hw f x)
+runs {h = h} (w_end {p = p}) (bad _) x7 = elim x7 [ ]
+runs {h = h} (w_end {p = p}) (row n r f) x7 = elim x7 [ ]
+runs {h = h} (w_comment {p = p} {w = w} {r = r} {rs = rs} l c hw) (over n) x7 = elim x7 [ ]
+runs {h = h} (w_comment {p = p} {w = w} {r = r} {rs = rs} l c hw) (bad _) x9 = elim x9 [ ]
+runs {h = h} (w_exponent {e = e} {p = p} {w = w} {r = r} {rs = rs} l c u hw) (over n) x8 = elim x8 [ ]
+runs {h = h} (w_exponent {e = e} {p = p} {w = w} {r = r} {rs = rs} l c u hw) (bad _) x10 = elim x10 [ ]
+runs {h = h} (w_tec {p = p} {m = m} {ms = ms} {r = r} {rs = rs} c u hw) (over n) x9 = elim x9 [ ]
+runs {h = h} (w_tec {p = p} {m = m} {ms = ms} {r = r} {rs = rs} c u hw) (bad _) x11 = elim x11 [ ]
+runs {h = h} (w_epoch {p = p} {m = m} {ms = ms} d {r = r} {rs = rs} c t u z hw) (over n) x10 = elim x10 [ ]
+runs {h = h} (w_epoch {p = p} {m = m} {ms = ms} d {r = r} {rs = rs} c t u z hw) (bad _) x12 = elim x12 [ ]
+runs {h = h} (w_other {p = p} k {x = y} {ms = ms} {r = r} {rs = rs} o c u v z hw) (over n) x11 = elim x11 [ ]
+runs {h = h} (w_other {p = p} k {x = y} {ms = ms} {r = r} {rs = rs} o c u v z hw) (bad _) x13 = elim x13 [ ]
+runs {h = h} (w_again {p = p} {k = k} {i = i} {bs = bs} {ms = ms} d {r = r} {rs = rs} c u hw) (over n) x12 = elim x12 [ ]
+runs {h = h} (w_again {p = p} {k = k} {i = i} {bs = bs} {ms = ms} d {r = r} {rs = rs} c u hw) (bad _) x14 = elim x14 [ ]
+runs {h = h} (w_block {p = p} {e = e} {k = k} {i = i} {zs = zs} {bs = bs} {ms = ms} v {r = r} {vs = vs} {rs = rs} c o z y hw) (over n) x13 = elim x13 [ ]
+runs {h = h} (w_block {p = p} {e = e} {k = k} {i = i} {zs = zs} {bs = bs} {ms = ms} v {r = r} {vs = vs} {rs = rs} c o z y hw) (bad _) x15 = elim x15 [ ]
+runs {h = h} (w_close {p = p} {e = e} {k = k} {i = i} {ms = ms} {r = r} {rs = rs} c hw) (over n) x14 = elim x14 [ ]
+runs {h = h} (w_close {p = p} {e = e} {k = k} {i = i} {ms = ms} {r = r} {rs = rs} c hw) (bad _) x16 = elim x16 [ ]
+runs {h = h} (w_file {p = p} {r = r} {rs = rs} c u hw) (over n) x15 = elim x15 [ ]
+runs {h = h} (w_file {p = p} {r = r} {rs = rs} c u hw) (bad _) x17 = elim x17 [ ]
 
 -- ---- what is read the rules write
 
@@ -221,6 +244,7 @@ module _ (h : Header) (p : Force) (r : List ℕ) (z : length r ≡ 80) where
   -- a number that lies in a range is not negative
   not_negative : {low high : ℕ} (i : ℤ) → Natural low high i → (i ≡ pos (nat_abs i)) × ((low ≤ nat_abs i) × (nat_abs i ≤ high))
   not_negative (pos n) u = (refl, u)
+  not_negative {low = low} {high = high} (negsuc _) u = elim u [ ]
 
   good_other : (k : Kind) → Other k → label r ≡ some (start k) → Yields (Good h Between p r) (start_other k h p r)
   unfolding start_other

@@ -60,7 +60,7 @@ returns-2 : tie.Need-returns-in-Open
 returns-2 c =
     let t = c.before.before.before in
     let s = start t.before in
-    let v = rw (to_z-of_z s.fits.lat, to_z-of_z s.fits.lon, c.shape_of.ensures) at c.value_at.ensures in
+    let v = rw (to_z-of_z s.ranges.lat, to_z-of_z s.ranges.lon, c.shape_of.ensures) at c.value_at.ensures in
     let o = opened t s.args.layer s.args.lat s.args.lon s.args.second in
     open_answers (q s) o _ (v (full s.args.texts s.args.descriptions.now) o)
 

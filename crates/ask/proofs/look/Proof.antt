@@ -27,10 +27,10 @@ tells_23 : ((c : tie.Then-not-is_known) → ¬ Known (q c.before.before.before.b
 tells_23 fails c = λ layer lat lon second. unknown (fails c)
 
 returns : tie.Need-returns-then-not-is_known
-returns = tells_23 (λ c. truth_false _ (sym c.before.is_Known.ensures ∙ not-true _ c.if1.true))
+returns = tells_23 (λ c. truth_false _ (sym c.is_known.ensures ∙ not-true _ (ap not c.if-not-is_known.true)))
 
 known : (c : tie.Else-not-is_known) → Known (q c.before.before.before.before.before)
-known c = truth_true _ (sym c.is_Known.ensures ∙ not-false _ (ap not c.if-not-is_known.false))
+known c = truth_true _ (sym c.is_known.ensures ∙ not-false _ (ap not c.if-not-is_known.false))
 
 sound-requires : tie.Need-sound-requires
 sound-requires c κs = search rules
@@ -39,7 +39,7 @@ tells_31 : ((c : tie.Then-not-sound) → ¬ (let s = c.before.before.before.befo
 tells_31 fails c = λ layer lat lon second. unsound (known c.before.before) (fails c)
 
 returns-2 : tie.Need-returns-then-not-sound
-returns-2 = tells_31 (λ c. truth_false _ (sym c.before.sound.ensures ∙ not-true _ c.if2.true))
+returns-2 = tells_31 (λ c. truth_false _ (sym c.sound.ensures ∙ not-true _ (ap not c.if-not-sound.true)))
 
 sound : (c : tie.Else-not-sound) → let s = c.before.before.before.before.before.before.before in Sound s.args.header (full s.args.texts s.args.descriptions.now) (q s).areas
 sound c = truth_true _ (sym c.sound.ensures ∙ not-false _ (ap not c.if-not-sound.false))
@@ -57,7 +57,7 @@ tells_24 : ((c : tie.Then-not-serves) → ¬ Served (q c.before.before.before.be
 tells_24 fails c = let t = c.before.before.before.before in λ layer lat lon second. unserved (known t.before.before) (sound t) (fails c)
 
 returns-3 : tie.Need-returns-then-not-serves
-returns-3 = tells_24 (λ c. rw (not-true c.before.serves.result c.if3.true) at c.before.serves.ensures)
+returns-3 = tells_24 (λ c. rw (not-true c.serves.result (ap not c.if-not-serves.true)) at c.serves.ensures)
 
 served : (c : tie.Else-not-serves) → Served (q c.before.before.before.before.before.before.before.before.before.before.before)
 served c = rw (not-false c.serves.result (ap not c.if-not-serves.false)) at c.serves.ensures

@@ -37,13 +37,13 @@ opened s = s.requires.1.1
 in-time-requires : tie.Need-in_time-requires
 in-time-requires c κs = search rules
 
-tells_20 : ((c : tie.Then-not-in_time) → ¬ InTime (one c.before.before.before.before)) → tie.Need-returns-then-not-in_time
+tells_20 : ((c : tie.Then-not-in_time) → ¬ InTime (one c.before.before.before.before.before)) → tie.Need-returns-then-not-in_time
 tells_20 fails c x o = due 20 refl (fails c)
 
 returns : tie.Need-returns-then-not-in_time
-returns = tells_20 (λ c. truth_false _ (sym c.before.in-time.ensures ∙ not-true _ c.if1.true))
+returns = tells_20 (λ c. truth_false _ (sym c.in_time.ensures ∙ not-true _ (ap not c.if-not-in_time.true)))
 
-time : (c : tie.Else-not-in_time) → InTime (one c.before.before.before.before)
+time : (c : tie.Else-not-in_time) → InTime (one c.before.before.before.before.before)
 time c = truth_true _ (sym c.in_time.ensures ∙ not-false _ (ap not c.if-not-in_time.false))
 
 has-layer-requires : tie.Need-has_layer-requires
@@ -56,7 +56,7 @@ tells_21 : ((c : tie.Then-not-has_layer) → ¬ (let s = c.before.before.before.
 tells_21 fails c x o = go (time c.before.before) (due 21 refl (λ i. fails c (omega (arith, i.layer, layers_is c.before.before.before.before.before.before.before))))
 
 returns-2 : tie.Need-returns-then-not-has_layer
-returns-2 = tells_21 (λ c. truth_false _ (sym c.before.has-layer.ensures ∙ not-true _ c.if2.true))
+returns-2 = tells_21 (λ c. truth_false _ (sym c.has_layer.ensures ∙ not-true _ (ap not c.if-not-has_layer.true)))
 
 layer : (c : tie.Else-not-has_layer) → let s = c.before.before.before.before.before.before in s.args.s.layer < layers s.args.header.grid
 layer c =
@@ -108,10 +108,10 @@ returns-3 c x o =
 -- where the layer and the place are inside
 module _ (c : tie.In-Of) where
   abbrev layer_at : tie.Else-not-has_layer
-  layer_at = c.before.before.before.before.before.before.before
+  layer_at = c.before.before.before.before.before.before
 
   abbrev start : tie.Start
-  start = layer_at.before.before.before.before.before.before
+  start = layer_at.before.before.before.before.before.before.before
 
   abbrev shares_at : tie.After-shares_of-shares
   shares_at = c.before.before.before
@@ -129,8 +129,8 @@ kind-value-requires : tie.Need-kind_value-requires
 kind-value-requires c κs =
     let s = start c in
     let o = opened s in
-    let h = (shares_at c).shares_of.result in
-    rw s.pre.0 (
+    let h = (shares_at c).shares_of-shares.result in
+    rw s.requires.0 (
       can_sum (one s) o.sound o.served h (uses (shares_at c)) (first c) (other c) (both c) o.known (layer (layer_at c)),
       has_weight (one s) o.sound o.served h (uses (shares_at c)) (first c) (other c) (both c),
     )
@@ -139,8 +139,8 @@ returns-4 : tie.Need-returns-in-Of
 returns-4 c x o =
     let d = c.before in
     let s = start d in
-    let y = inside_of (q s x) o.sound o.served (layer (layer_at d)) (epoch (epochs (one s)) (shares_at d).shares_of.result.map) (first d) (both d).first_in in
-    placed_answer (q s x) o.sound o.served (shares_at d).shares_of.result (uses (shares_at d)) (first d) (other d) (both d) (time (layer_at d).before.before) y _ (rw s.pre.0 at c.kind_value.ensures)
+    let y = inside_of (q s x) o.sound o.served (layer (layer_at d)) (epoch (epochs (one s)) (shares_at d).shares_of-shares.result.map) (first d) (both d).first_in in
+    placed_answer (q s x) o.sound o.served (shares_at d).shares_of-shares.result (uses (shares_at d)) (first d) (other d) (both d) (time (layer_at d).before.before) y _ (rw s.requires.0 at c.kind_value.ensures)
 
 pub value_at_spec : {M : Type 1} → statement M
 value_at_spec = tie.close (tie.spec in-time-requires returns has-layer-requires returns-2 cast-maps slice-aggregate-shares-of maps-by-requires shares-of-requires slice-aggregate-cells-at cells-at-requires enum_told enum-known-first kind-value-requires returns-3 returns-4)

@@ -109,7 +109,7 @@ module _ (c : tie.In-Of) where
   start = c.before.before.before.before.before.before.before.before.before.before.before.before.before.before
 
   abbrev else_at : tie.Else-not-looked
-  else_at = c.before.before.before.before.before.before.before.before.before
+  else_at = c.before.before.before.before.before.before.before.before
 
   abbrev shares_at : tie.After-shares_of-shares
   shares_at = c.before.before.before
@@ -126,14 +126,14 @@ module _ (c : tie.In-Of) where
 explain-kind-requires : tie.Need-explain_kind-requires
 explain-kind-requires c κs =
     let o = open_at (else_at c) in
-    rw c.shape_of-s.ensures (can_list (q (start c)) o.sound (shares_at c).shares_of.result (uses (shares_at c)) (first c) (other c) (both c) o.known o.served o.inside.layer)
+    rw c.shape_of-s.ensures (can_list (q (start c)) o.sound (shares_at c).shares_of-shares.result (uses (shares_at c)) (first c) (other c) (both c) o.known o.served o.inside.layer)
 
 returns-3 : tie.Need-returns-in-Of
 returns-3 c =
     let d = c.before in
     let a = (else_at d).before.before in
     let e = rw d.shape_of-s.ensures at c.explain_kind.ensures in
-    rw e (explains (q (start d)) (open_at (else_at d)).sound (shares_at d).shares_of.result (uses (shares_at d)) (first d) (other d) (both d) a.ask.result (answers a) (has (else_at d)))
+    rw e (explains (q (start d)) (open_at (else_at d)).sound (shares_at d).shares_of-shares.result (uses (shares_at d)) (first d) (other d) (both d) a.ask-asked.result (answers a) (has (else_at d)))
 
 pub explain_spec : {M : Type 1} → statement M
 explain_spec = tie.close (tie.spec ask-requires looked-requires answer-of-requires blank-requires returns cast-maps shape-of-requires mean-gap-requires slice-aggregate-shares-of maps-by-requires shares-of-requires slice-aggregate-cells-at cells-at-requires enum_told blank-requires-2 enum-known-first explain-kind-requires returns-2 returns-3)

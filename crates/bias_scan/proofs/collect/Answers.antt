@@ -50,20 +50,20 @@ loop-rows-preserved-in-Other c =
     let l = c.before.before.before.before.before in
     let s = l.before.before in
     let a = s.args in
-    let i = l.loop-rows.invariant in
-    let o = (subst (Passed a.text.now l.loop-rows.at l.loop-rows.lines l.loop-rows.place (take l.loop-rows.count l.loop-rows.starts)) c.in-Other.is c.pass.ensures) in
-    let w = plain_new a.text.now l.loop-rows.rows l.loop-rows.at l.loop-rows.lines l.loop-rows.place i.0 _ _ _ o in
-    (stood_plain a.text.now l.loop-rows.rows l.loop-rows.at l.loop-rows.lines l.loop-rows.place i.0 _ _ _ o, good_on a.text.now l.loop-rows.rows i.1 w, fence_plain a.text.now l.loop-rows.rows l.loop-rows.at l.loop-rows.lines l.loop-rows.place i.0 _ _ _ o a.from.limit _ i.2, omega arith, omega arith, i.5, i.6, i.7)
+    let i = c.loop-rows.invariant in
+    let o = (subst (Passed a.text.now c.loop-rows.at c.loop-rows.lines c.loop-rows.place (take c.loop-rows.count c.loop-rows.starts)) c.in-Other.is c.pass.ensures) in
+    let w = plain_new a.text.now c.loop-rows.rows c.loop-rows.at c.loop-rows.lines c.loop-rows.place i.0 _ _ _ o in
+    (stood_plain a.text.now c.loop-rows.rows c.loop-rows.at c.loop-rows.lines c.loop-rows.place i.0 _ _ _ o, good_on a.text.now c.loop-rows.rows i.1 w, fence_plain a.text.now c.loop-rows.rows c.loop-rows.at c.loop-rows.lines c.loop-rows.place i.0 _ _ _ o a.from.limit _ i.2, omega arith, omega arith, i.5, i.6, i.7)
 
 pub insert-requires : goal.insert-requires
 insert-requires c =
     let l = c.before.before.before.before.before.before in
     let s = l.before.before in
     let a = s.args in
-    let i = l.loop-rows.invariant in
-    let o = (subst (Passed a.text.now l.loop-rows.at l.loop-rows.lines l.loop-rows.place (take l.loop-rows.count l.loop-rows.starts)) c.in-Station.is c.pass.ensures) in
-    let n : length (take l.loop-rows.count l.loop-rows.starts) ≡ l.loop-rows.count = length-take-le _ _ (omega (arith, i.5, i.6)) in
-    let u : l.loop-rows.count < length l.loop-rows.starts = omega (arith, i.5) in
+    let i = c.loop-rows.invariant in
+    let o = (subst (Passed a.text.now c.loop-rows.at c.loop-rows.lines c.loop-rows.place (take c.loop-rows.count c.loop-rows.starts)) c.in-Station.is c.pass.ensures) in
+    let n : length (take c.loop-rows.count c.loop-rows.starts) ≡ c.loop-rows.count = length-take-le _ _ (omega (arith, i.5, i.6)) in
+    let u : c.loop-rows.count < length c.loop-rows.starts = omega (arith, i.5) in
     (omega (arith, o.1.inside), u)
 
 pub overflow_add-count : goal.overflow_add-count
@@ -80,15 +80,15 @@ loop-rows-preserved c =
     let l = c.before.before.before.before.before.before.before.before.before in
     let s = l.before.before in
     let a = s.args in
-    let i = l.loop-rows.invariant in
-    let o = (subst (Passed a.text.now l.loop-rows.at l.loop-rows.lines l.loop-rows.place (take l.loop-rows.count l.loop-rows.starts)) c.in-Station.is c.pass.ensures) in
+    let i = c.loop-rows.invariant in
+    let o = (subst (Passed a.text.now c.loop-rows.at c.loop-rows.lines c.loop-rows.place (take c.loop-rows.count c.loop-rows.starts)) c.in-Station.is c.pass.ensures) in
     let z = c.insert.ensures in
     let k = c.insert.new.starts in
     let f = c.if-count-ge2048.false in
     let h = c.loop-rows-test.true in
-    let u : l.loop-rows.count < length l.loop-rows.starts = omega (arith, f, i.5) in
-    let w : New a.text.now l.loop-rows.rows = record { new = named_new a.text.now l.loop-rows.rows l.loop-rows.at l.loop-rows.lines l.loop-rows.place i.0 _ _ _ o.0 l.loop-rows.rows a.from.limit _ _ i.2 (omega arith) (omega (arith, h)) o.1 l.loop-rows.rows (omega arith) (omega arith) } in
-    (stood_named a.text.now l.loop-rows.rows l.loop-rows.at l.loop-rows.lines l.loop-rows.place i.0 _ _ _ o.0, good_on a.text.now l.loop-rows.rows i.1 w, fence_named a.text.now l.loop-rows.rows l.loop-rows.at l.loop-rows.lines l.loop-rows.place i.0 _ _ _ o.0 a.from.limit l.loop-rows.starts k _ l.loop-rows.count u i.7 o.1 z i.2, omega (arith, i.3), omega (arith, h), z.long ∙ i.5, omega (arith, f), table_more a.text.now l.loop-rows.starts k _ l.loop-rows.count _ u i.7 o.1 z o.0.whole)
+    let u : c.loop-rows.count < length c.loop-rows.starts = omega (arith, f, i.5) in
+    let w : New a.text.now c.loop-rows.rows = record { new = named_new a.text.now c.loop-rows.rows c.loop-rows.at c.loop-rows.lines c.loop-rows.place i.0 _ _ _ o.0 c.loop-rows.rows a.from.limit _ _ i.2 (omega arith) (omega (arith, h)) o.1 c.loop-rows.rows (omega arith) (omega arith) } in
+    (stood_named a.text.now c.loop-rows.rows c.loop-rows.at c.loop-rows.lines c.loop-rows.place i.0 _ _ _ o.0, good_on a.text.now c.loop-rows.rows i.1 w, fence_named a.text.now c.loop-rows.rows c.loop-rows.at c.loop-rows.lines c.loop-rows.place i.0 _ _ _ o.0 a.from.limit c.loop-rows.starts k _ c.loop-rows.count u i.7 o.1 z i.2, omega (arith, i.3), omega (arith, h), z.long ∙ i.5, omega (arith, f), table_more a.text.now c.loop-rows.starts k _ c.loop-rows.count _ u i.7 o.1 z o.0.whole)
 
 pub shape_of-starts : goal.shape_of-starts
 shape_of-starts c = c.loop-rows.invariant.5 ∙ sym c.requires.3

@@ -17,7 +17,7 @@ use Rattle.c_week.proofs.put_week.Tie as tie
 -- the area after each row
 module _ (c : tie.After-put_row) where
   abbrev start : tie.Start
-  start = c.before.before.before.before.before.before
+  start = c.before.before.before.before.before.before.before
 
   told : to_z w64 (of_z w64 c.count.result) ≡ pos start.args.w.sets
   told = back (record { sfits = c.count.type_inv }) c.count.ensures
@@ -30,7 +30,7 @@ module _ (c : tie.After-put_row) where
 
 module _ (c : tie.After-put_row-2) where
   abbrev one : tie.After-put_row
-  one = c.before.before.before
+  one = c.before.before.before.before
 
   second_put : c.put_row-2.new.out ≡ sets (start one).args.out.now 0 (pos (start one).args.w.sets ∷ (row (start one).args.w.tec.0 ++ row (start one).args.w.rms.0))
   second_put = c.put_row-2.ensures ∙ ap (λ (l : List ℤ). sets l 6 (row (start one).args.w.rms.0)) (first_put one)
@@ -40,7 +40,7 @@ module _ (c : tie.After-put_row-2) where
 
 module _ (c : tie.After-put_row-3) where
   abbrev two : tie.After-put_row-2
-  two = c.before.before.before
+  two = c.before.before.before.before
 
   third_put : c.put_row-3.new.out ≡ sets (start (one two)).args.out.now 0 (week_numbers (start (one two)).args.w)
   third_put = c.put_row-3.ensures ∙ ap (λ (l : List ℤ). sets l 11 (row (start (one two)).args.w.height.0)) (second_put two)
@@ -61,7 +61,7 @@ put-row-requires-2 : tie.Need-put_row-requires-2
 put-row-requires-2 c κs = let d = c.before.before in (omega (arith, first_length d.before, (start d.before).requires.0), (start d.before).requires.1.1.1.0)
 
 put-row-requires-3 : tie.Need-put_row-requires-3
-put-row-requires-3 c κs = let d = c.before.before in (omega (arith, second_length d.before, (start (one d.before)).pre.0), (start (one d.before)).pre.1.1.1.1)
+put-row-requires-3 c κs = let d = c.before.before in (omega (arith, second_length d.before, (start (one d.before)).requires.0), (start (one d.before)).requires.1.1.1.1)
 
 same_length : tie.Need-shape_of-out
 same_length c = third_length c.before
@@ -70,7 +70,7 @@ returns : tie.Need-returns
 returns c =
     let k = c.before in
     let s = start (one (two k)) in
-    third_put k ∙ sets_front (week_numbers s.args.w) s.args.out.now s.pre.0
+    third_put k ∙ sets_front (week_numbers s.args.w) s.args.out.now s.requires.0
 
 pub put_week_spec : {M : Type 1} → statement M
 put_week_spec = tie.close (tie.spec count-requires slice-set-from-out put-row-requires put-row-requires-2 put-row-requires-3 same_length returns)

@@ -59,8 +59,8 @@ returns : tie.Need-returns
 returns c =
     let k = c.before in
     let s = start k in
-    let n : length s.args.e.nodes ≡ 8 = s.pre.1.1.1.0 in
-    let m : length (numbers s.args.e s.args.value) ≤ length s.args.out.now = omega (arith, numbers_length s.args.e.nodes, n, s.pre.0) in
+    let n : length s.args.e.nodes ≡ 8 = s.requires.1.1.1.0 in
+    let m : length (numbers s.args.e s.args.value) ≤ length s.args.out.now = omega (arith, numbers_length s.args.e.nodes, n, s.requires.0) in
     all_put k ∙ sets_front (numbers s.args.e s.args.value) s.args.out.now m
 
 pub put_numbers_spec : {M : Type 1} → statement M

@@ -22,5 +22,5 @@ returns c =
     let i = l.before.before.before in
     let s = i.before in
     let f = s.args.f.now in
-    decimal_judged s.args.after s.requires f i.if-f-after.false l.leads.result c.is_int.result l.leads.ensures
+    decimal_judged s.args.after s.requires f c.if-f-after.false l.leads.result c.is_int.result l.leads.ensures
     (c.is_int.ensures ∙ ap (λ (l : List ℕ). is_number (read_field I l)) (rest_of f (point_at f s.args.after + 1)))

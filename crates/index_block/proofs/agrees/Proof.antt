@@ -21,7 +21,7 @@ use Rattle.index_block.proofs.agrees.Tie as tie
 
 -- whether a latitude is the row's
 abbrev is_row : tie.After-row_agrees → ℤ → Bool
-is_row c x = let a = c.before.before.args in truth (int? x (node a.header.grid.latitudes ((per_map a.header - (c.before.per-map.result - a.d)) % rows a.header.grid)))
+is_row c x = let a = c.args in truth (int? x (node a.header.grid.latitudes ((per_map a.header - (c.per_map.result - a.d)) % rows a.header.grid)))
 
 row_is : (c : tie.After-row_agrees) → c.row_agrees.result ≡ is_row c c.args.latitude
 row_is c =

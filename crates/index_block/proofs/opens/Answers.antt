@@ -21,11 +21,10 @@ returns-in-Wrong c =
 pub returns-in-Numbers : goal.returns-in-Numbers
 returns-in-Numbers c =
     let b = c.before.before.before.before.before.before in
-    let g = c.latitude.given.0 in
-    let z0 : to_z w32 (of_z w32 g.0) ≡ g.0 = search rules in
-    let z1 : to_z w32 (of_z w32 g.1.0) ≡ g.1.0 = search rules in
-    let z2 : to_z w32 (of_z w32 g.1.1.0) ≡ g.1.1.0 = search rules in
-    let z3 : to_z w32 (of_z w32 g.1.1.1.0) ≡ g.1.1.1.0 = search rules in
-    let z4 : to_z w32 (of_z w32 g.1.1.1.1.0) ≡ g.1.1.1.1.0 = search rules in
-    judged b.args.header b.args.d b.args.line.now (g.0, (g.1.0, (g.1.1.0, (g.1.1.1.0, (g.1.1.1.1.0, tt)))))
+    let z0 : to_z w32 (of_z w32 c.in-Numbers.latitude) ≡ c.in-Numbers.latitude = search rules in
+    let z1 : to_z w32 (of_z w32 c.in-Numbers.first) ≡ c.in-Numbers.first = search rules in
+    let z2 : to_z w32 (of_z w32 c.in-Numbers.last) ≡ c.in-Numbers.last = search rules in
+    let z3 : to_z w32 (of_z w32 c.in-Numbers.step) ≡ c.in-Numbers.step = search rules in
+    let z4 : to_z w32 (of_z w32 c.in-Numbers.height) ≡ c.in-Numbers.height = search rules in
+    judged b.args.header b.args.d b.args.line.now (c.in-Numbers.latitude, (c.in-Numbers.first, (c.in-Numbers.last, (c.in-Numbers.step, (c.in-Numbers.height, tt)))))
     (sym c.is_opening.ensures ∙ not-false _ (ap not c.if-not-is_opening.false)) (ap told_opening (sym c.in-Numbers.is) ∙ c.opening_in.ensures) _ (rw (z0, z1, z2, z3, z4) at c.agrees.ensures)

@@ -57,7 +57,7 @@ all-within-requires : tie.Need-all_within-requires
 all-within-requires c κs = search rules
 
 returns-5 : tie.Need-returns
-returns-5 c = let e4 = c.before.before in let p = e4.before.before.before in let a = p.args in marks_decide a.header (full a.texts a.descriptions.now) a.positions.now a.exponents.now a.marks.now (says p.before.before) (omega (arith, all_is e4.before.before, e4.if-positions-all.false)) (omega (arith, all_is e4.before.before, e4.if-exponents-all.false)) (omega (arith, e4.if-marks-maps.false)) c.all_within.result c.all_within.ensures
+returns-5 c = let e4 = c.before.before in let p = e4.before.before.before in let a = p.args in marks_decide a.header (full a.texts a.descriptions.now) a.positions.now a.exponents.now a.marks.now (says p.before.before) (omega (arith, all_is e4.before.before, e4.if-positions-all.false)) (omega (arith, all_is e4.before.before, e4.if-exponents-all.false)) (omega (arith, c.if-marks-maps.false)) c.all_within.result c.all_within.ensures
 
 pub fits_spec : {M : Type 1} → statement M
 fits_spec = tie.close (tie.spec header-fits-requires returns cast-maps per-map-requires mul-all mul-all-2 returns-2 returns-3 returns-4 slice-aggregate-all-within all-within-requires returns-5)

@@ -33,7 +33,7 @@ enum_told : tie.Need-enum_told-1
 enum_told c = search rules
 
 store-requires : tie.Need-store-requires
-store-requires c κs = let s = c.before.before.before.before.before.before.before.before.before.before.before.before.before.before.before.before in ready (x s) (y s) (said _ _ _ _ c.judged.ensures c.in-Fine.is)
+store-requires c κs = let s = c.before.before.before.before.before.before.before.before.before.before.before.before.before.before.before.before in ready (x s.before) (y s.before) (said _ _ _ _ c.judged.ensures c.in-Fine.is)
 
 returns : tie.Need-returns-in-Wrong
 returns c = let s = c.before.before.before.before.before.before.before.before.before.before in refused_is (x s) (y s) (l s) c.in-Wrong.why (said (x s) (y s) _ _ c.judged.ensures c.in-Wrong.is)
@@ -59,7 +59,7 @@ same-length-6 c = search rules
 returns-2 : tie.Need-returns-in-Fine
 returns-2 c =
     let s = c.before.before.before.before.before.before.before.before.before.before.before.before.before.before.before.before.before.before.before.before.before.before.before.before.before in
-    stored_is (x s) (y s) (said _ _ _ _ c.judged.ensures c.in-Fine.is) (l s) _ _ c.store.ensures
+    stored_is (x s.before) (y s.before) (said _ _ _ _ c.judged.ensures c.in-Fine.is) (l s.before) _ _ c.store.ensures
 
 pub join_sets_spec : {M : Type 1} → statement M
 join_sets_spec = tie.close (tie.spec judged-requires enum-known-why enum_told store-requires returns same_length same-length-2 same-length-3 same-length-4 same-length-5 same-length-6 returns-2)

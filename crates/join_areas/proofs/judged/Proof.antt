@@ -58,7 +58,7 @@ tells_41 fails c =
     lent_once (x s) (y s) (not_met (first c.before.before.before.before.before.before) (second c.before.before.before.before) (same c.before.before) (fails c))
 
 returns-4 : tie.Need-returns-then-not-meet
-returns-4 = tells_41 (λ c. truth_false _ (sym c.before.meet.ensures ∙ not-true _ c.if4.true))
+returns-4 = tells_41 (λ c. truth_false _ (sym c.meet.ensures ∙ not-true _ (ap not c.if-not-meet.true)))
 
 meets : (c : tie.Else-not-meet) → Meet c.args.early c.args.late
 meets c = truth_true _ (sym c.meet.ensures ∙ not-false _ (ap not c.if-not-meet.false))
@@ -68,14 +68,14 @@ in-limits-requires c κs =
     let s = c.before.before.before.before.before.before.before.before.before.before.before.before.before.before in
     let v = first c.before.before.before.before.before.before.before in
     let w = second c.before.before.before.before.before in
-    let p = maps_of (x s) v in
-    (p.0, p.1, (maps_of (y s) w).1, w.sound.header.limits)
+    let p = maps_of (x s.before) v in
+    (p.0, p.1, (maps_of (y s.before) w).1, w.sound.header.limits)
 
 returns-5 : tie.Need-returns-then-not-in_limits
-returns-5 c = let s = c.before.before.before.before.before.before.before.before.before.before.before.before.before.before.before.before in lent_once (x s) (y s) (too_many (first c.before.before.before.before.before.before.before.before.before) (second c.before.before.before.before.before.before.before) (same c.before.before.before.before.before) (meets c.before.before.before) (truth_false _ (sym c.in_limits.ensures ∙ not-true _ (ap not c.if-not-in_limits.true))))
+returns-5 c = let s = c.before.before.before.before.before.before.before.before.before.before.before.before.before.before.before.before in lent_once (x s.before) (y s.before) (too_many (first c.before.before.before.before.before.before.before.before.before) (second c.before.before.before.before.before.before.before) (same c.before.before.before.before.before) (meets c.before.before.before) (truth_false _ (sym c.in_limits.ensures ∙ not-true _ (ap not c.if-not-in_limits.true))))
 
 returns-6 : tie.Need-returns
-returns-6 c = let s = c.before.before.before.before.before.before.before.before.before.before.before.before.before.before.before.before in may_lent (x s) (y s) (first c.before.before.before.before.before.before.before.before.before) (second c.before.before.before.before.before.before.before) (same c.before.before.before.before.before) (meets c.before.before.before) (truth_true _ (sym c.in_limits.ensures ∙ not-false _ (ap not c.if-not-in_limits.false)))
+returns-6 c = let s = c.before.before.before.before.before.before.before.before.before.before.before.before.before.before.before.before in may_lent (x s.before) (y s.before) (first c.before.before.before.before.before.before.before.before.before) (second c.before.before.before.before.before.before.before) (same c.before.before.before.before.before) (meets c.before.before.before) (truth_true _ (sym c.in_limits.ensures ∙ not-false _ (ap not c.if-not-in_limits.false)))
 
 pub judged_spec : {M : Type 1} → statement M
 judged_spec = tie.close (tie.spec valid-requires returns valid-requires-2 returns-2 alike-requires returns-3 meet-requires returns-4 in-limits-requires returns-5 returns-6)

@@ -38,7 +38,7 @@ loop-j-preserved c =
     let l = c.before.before in
     let s = l.before in
     let x = get_or s.args.src.now l.loop-j.j (pos 0) in
-    let e : to_z w32 (of_z w32 x) ≡ x = to_z-of_z (record { sfits = c.out-1.given }) in
+    let e : to_z w32 (of_z w32 x) ≡ x = to_z-of_z {w = w32} (record { sfits = c.out-1.given }) in
     rw e (copy_more s.args.out.now s.args.at s.args.src.now (length s.args.src.now) (omega arith) s.requires l.loop-j.j l.loop-j.out l.loop-j.invariant (pos 0) (omega arith))
 
 pub shape_of-out : goal.shape_of-out

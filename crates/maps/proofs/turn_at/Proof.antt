@@ -41,8 +41,7 @@ step-requires c κs =
     let k = c.before in
     let f = (led k).ranges in
     let t = k.args.text.now in
-    let g = k.start.given.0 in
-    let e : length (take (g.1.0 - g.0) (drop g.0 t)) ≤ 80 = simp (length-take, length-drop) (omega arith) in
+    let e : length (take (k.in-Row.end - k.in-Row.start) (drop k.in-Row.start t)) ≤ 80 = simp (length-take, length-drop) (omega arith) in
     (e, k.requires.1)
 
 enum-known-number-2 : tie.Need-enum_known-number-in-Stop-1
@@ -70,8 +69,7 @@ returns-2 : tie.Need-returns-in-Bad
 returns-2 c =
     let r = c.before in
     let a = r.args in
-    let e = c.number.given in
-    turn_bad a.header a.place a.past a.epochs.now a.text.now a.at a.lines e.0.0 e.0.1.0 e.0.1.1.0 (subst (Leads a.text.now a.at a.lines) e.1 r.row_from.ensures)
+    turn_bad a.header a.place a.past a.epochs.now a.text.now a.at a.lines c.in-Bad.number c.in-Bad.line c.in-Bad.column (subst (Leads a.text.now a.at a.lines) c.in-Bad.is r.row_from.ensures)
 
 returns-3 : tie.Need-returns-in-Stop
 returns-3 c =

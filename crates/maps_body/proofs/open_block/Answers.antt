@@ -21,10 +21,9 @@ returns-in-Wrong c =
 pub returns-in-Numbers : goal.returns-in-Numbers
 returns-in-Numbers c =
     λ h es. let a = c.args in
-    let g = c.latitude.given.0 in
-    let z0 : to_z w32 (of_z w32 g.0) ≡ g.0 = search rules in
-    let z1 : to_z w32 (of_z w32 g.1.0) ≡ g.1.0 = search rules in
-    let z2 : to_z w32 (of_z w32 g.1.1.0) ≡ g.1.1.0 = search rules in
-    let z3 : to_z w32 (of_z w32 g.1.1.1.0) ≡ g.1.1.1.0 = search rules in
-    let z4 : to_z w32 (of_z w32 g.1.1.1.1.0) ≡ g.1.1.1.1.0 = search rules in
+    let z0 : to_z w32 (of_z w32 c.in-Numbers.latitude) ≡ c.in-Numbers.latitude = search rules in
+    let z1 : to_z w32 (of_z w32 c.in-Numbers.first) ≡ c.in-Numbers.first = search rules in
+    let z2 : to_z w32 (of_z w32 c.in-Numbers.last) ≡ c.in-Numbers.last = search rules in
+    let z3 : to_z w32 (of_z w32 c.in-Numbers.step) ≡ c.in-Numbers.step = search rules in
+    let z4 : to_z w32 (of_z w32 c.in-Numbers.height) ≡ c.in-Numbers.height = search rules in
     same_move es (rw (z0, z1, z2, z3, z4) at (c.block_of.ensures h es)) (block_on a.header a.this (force_of a.past es) (pad a.line.now) c.if-this-eq0.false _ (sym c.opening_in.ensures ∙ ap told_opening c.in-Numbers.is))

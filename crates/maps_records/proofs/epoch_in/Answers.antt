@@ -16,12 +16,11 @@ returns-in-At c = date_odd _ c.requires (sym c.six_numbers.ensures ∙ c.in-Six.
 pub returns-in-Nowhere : goal.returns-in-Nowhere
 unfolding blank_to
 returns-in-Nowhere c =
-    let g = c.year.given.0 in
-    let a : to_z w32 (of_z w32 g.0) ≡ g.0 = search rules in
-    let b : to_z w32 (of_z w32 g.1.0) ≡ g.1.0 = search rules in
-    let d : to_z w32 (of_z w32 g.1.1.0) ≡ g.1.1.0 = search rules in
-    let e : to_z w32 (of_z w32 g.1.1.1.0) ≡ g.1.1.1.0 = search rules in
-    let f : to_z w32 (of_z w32 g.1.1.1.1.0) ≡ g.1.1.1.1.0 = search rules in
-    let h : to_z w32 (of_z w32 g.1.1.1.1.1.0) ≡ g.1.1.1.1.1.0 = search rules in
+    let a : to_z w32 (of_z w32 c.in-Six.year) ≡ c.in-Six.year = search rules in
+    let b : to_z w32 (of_z w32 c.in-Six.month) ≡ c.in-Six.month = search rules in
+    let d : to_z w32 (of_z w32 c.in-Six.day) ≡ c.in-Six.day = search rules in
+    let e : to_z w32 (of_z w32 c.in-Six.hour) ≡ c.in-Six.hour = search rules in
+    let f : to_z w32 (of_z w32 c.in-Six.minute) ≡ c.in-Six.minute = search rules in
+    let h : to_z w32 (of_z w32 c.in-Six.second) ≡ c.in-Six.second = search rules in
     rw (a, b, d, e, f, h) at c.second_of.ensures
     ∙ date_fine _ c.requires (sym c.six_numbers.ensures ∙ c.in-Six.is) (sym c.first_not_blank.ensures ∙ c.in-Nowhere.is)

@@ -24,10 +24,9 @@ returns-in-At c = rw (sym c.three_numbers.ensures ∙ c.in-Three.is, sym c.tenth
 pub returns-in-Nowhere : goal.returns-in-Nowhere
 unfolding blank_to number
 returns-in-Nowhere c =
-    let g = c.latitude.given.0 in
-    let a : to_z w32 (of_z w32 g.0) ≡ g.0 = search rules in
-    let b : to_z w32 (of_z w32 g.1.0) ≡ g.1.0 = search rules in
-    let d : to_z w32 (of_z w32 g.1.1.0) ≡ g.1.1.0 = search rules in
+    let a : to_z w32 (of_z w32 c.in-Three.latitude) ≡ c.in-Three.latitude = search rules in
+    let b : to_z w32 (of_z w32 c.in-Three.first) ≡ c.in-Three.first = search rules in
+    let d : to_z w32 (of_z w32 c.in-Three.last) ≡ c.in-Three.last = search rules in
     let e : to_z w32 (of_z w32 c.in-Number.step) ≡ c.in-Number.step = search rules in
     let f : to_z w32 (of_z w32 c.in-Number-tenths_at.height) ≡ c.in-Number-tenths_at.height = search rules in
     rw (a, b, d, e, f, sym c.three_numbers.ensures ∙ c.in-Three.is, sym c.tenths_at.ensures ∙ c.in-Number.is, sym c.tenths_at-in-Number.ensures ∙ c.in-Number-tenths_at.is, sym c.first_not_blank.ensures ∙ c.in-Nowhere.is)

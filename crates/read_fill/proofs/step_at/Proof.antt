@@ -42,8 +42,7 @@ brought-by-requires c κs =
     let k = c.before in
     let f = (led k).ranges in
     let t = k.args.text.now in
-    let g = k.start.given.0 in
-    let e : length (take (g.1.0 - g.0) (drop g.0 t)) ≤ 80 = simp (length-take, length-drop) (omega arith) in
+    let e : length (take (k.in-Row.end - k.in-Row.start) (drop k.in-Row.start t)) ≤ 80 = simp (length-take, length-drop) (omega arith) in
     (e, k.requires.1)
 
 returns : tie.Need-returns-in-Over

@@ -36,19 +36,17 @@ returns-5 : tie.Need-returns-in-Rms
 returns-5 c =
     let b = c.before.before.before.before.before.before.before.before.before.before.before.before.before in
     let a = b.args in
-    let v = c.event3.given in
     let e = exponent_of c.before.before.before.before.before.before.before.before.before in
     let u = c.put_block-in-Rms.ensures in
-    (stores_rms a.size.maps a.size.blocks a.size.columns _ a.tec.now a.rms.now a.height.now a.exponents.now a.epochs.now a.marks.now v.1 e c.put_exponent.ensures c.block_place.ensures c.in-Rms.is u.1, goes_past _ _ _ v.1 u.0)
+    (stores_rms a.size.maps a.size.blocks a.size.columns _ a.tec.now a.rms.now a.height.now a.exponents.now a.epochs.now a.marks.now c.in-Block.is e c.put_exponent.ensures c.block_place.ensures c.in-Rms.is u.1, goes_past _ _ _ c.in-Block.is u.0)
 
 returns-6 : tie.Need-returns-in-Height
 returns-6 c =
     let b = c.before.before.before.before.before.before.before.before.before.before.before.before.before in
     let a = b.args in
-    let v = c.event3.given in
     let e = exponent_of c.before.before.before.before.before.before.before.before.before in
     let u = c.put_block-in-Height.ensures in
-    (stores_height a.size.maps a.size.blocks a.size.columns _ a.tec.now a.rms.now a.height.now a.exponents.now a.epochs.now a.marks.now v.1 e c.put_exponent.ensures c.block_place.ensures c.in-Height.is u.1, goes_past _ _ _ v.1 u.0)
+    (stores_height a.size.maps a.size.blocks a.size.columns _ a.tec.now a.rms.now a.height.now a.exponents.now a.epochs.now a.marks.now c.in-Block.is e c.put_exponent.ensures c.block_place.ensures c.in-Height.is u.1, goes_past _ _ _ c.in-Block.is u.0)
 
 enum_told : tie.Need-enum_told-1
 enum_told c = search rules
@@ -78,9 +76,8 @@ mul-from : tie.Need-overflow_mul-from
 mul-from c =
     let b = c.before.before.before.before.before.before.before.before.before in
     let a = b.args in
-    let v = c.event3.given in
-    let h = (at_event _ _ _ _ _ v.1 b.requires.0).0 in
-    rw c.block_place.ensures (omega (arith, h.2, below_all (six a.tec.now a.rms.now a.height.now a.exponents.now a.epochs.now a.marks.now) 9223372036854775808 v.0.0 (search rules) (search rules) (search rules)))
+    let h = (at_event _ _ _ _ _ c.in-Block.is b.requires.0).0 in
+    rw c.block_place.ensures (omega (arith, h.2, below_all (six a.tec.now a.rms.now a.height.now a.exponents.now a.epochs.now a.marks.now) 9223372036854775808 c.in-Block.kind (search rules) (search rules) (search rules)))
 
 enum-told-2 : tie.Need-enum_told-in-Tec
 enum-told-2 c = search rules
@@ -112,8 +109,7 @@ returns-2 : tie.Need-returns-in-Epoch
 returns-2 c =
     let b = c.before.before.before.before.before.before.before.before in
     let a = b.args in
-    let v = c.event.given in
-    (stores_epoch a.size.maps a.size.blocks a.size.columns _ a.tec.now a.rms.now a.height.now a.exponents.now a.epochs.now a.marks.now v.1 c.put_epoch.ensures, goes_on _ _ _ v.1 refl b.requires.1.0)
+    (stores_epoch a.size.maps a.size.blocks a.size.columns _ a.tec.now a.rms.now a.height.now a.exponents.now a.epochs.now a.marks.now c.in-Epoch.is c.put_epoch.ensures, goes_on _ _ _ c.in-Epoch.is refl b.requires.1.0)
 
 same-length-2 : tie.Need-shape_of-marks
 same-length-2 c = search rules
@@ -122,8 +118,7 @@ returns-3 : tie.Need-returns-in-Marked
 returns-3 c =
     let b = c.before.before.before.before.before.before.before.before in
     let a = b.args in
-    let v = c.event2.given in
-    (stores_mark a.size.maps a.size.blocks a.size.columns _ a.tec.now a.rms.now a.height.now a.exponents.now a.epochs.now a.marks.now v.1 c.put_mark.ensures, goes_on _ _ _ v.1 refl b.requires.1.0)
+    (stores_mark a.size.maps a.size.blocks a.size.columns _ a.tec.now a.rms.now a.height.now a.exponents.now a.epochs.now a.marks.now c.in-Marked.is c.put_mark.ensures, goes_on _ _ _ c.in-Marked.is refl b.requires.1.0)
 
 same-length-3 : tie.Need-shape_of-tec
 same-length-3 c = search rules
@@ -135,10 +130,9 @@ returns-4 : tie.Need-returns-in-Tec
 returns-4 c =
     let b = c.before.before.before.before.before.before.before.before.before.before.before.before.before in
     let a = b.args in
-    let v = c.event3.given in
     let e = exponent_of c.before.before.before.before.before.before.before.before.before in
     let u = c.put_block.ensures in
-    (stores_tec a.size.maps a.size.blocks a.size.columns _ a.tec.now a.rms.now a.height.now a.exponents.now a.epochs.now a.marks.now v.1 e c.put_exponent.ensures c.block_place.ensures c.in-Tec.is u.1, goes_past _ _ _ v.1 u.0)
+    (stores_tec a.size.maps a.size.blocks a.size.columns _ a.tec.now a.rms.now a.height.now a.exponents.now a.epochs.now a.marks.now c.in-Block.is e c.put_exponent.ensures c.block_place.ensures c.in-Tec.is u.1, goes_past _ _ _ c.in-Block.is u.0)
 
 same-length-5 : tie.Need-shape_of-rms
 same-length-5 c = search rules

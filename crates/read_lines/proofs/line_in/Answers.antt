@@ -17,7 +17,7 @@ overflow_add-result c =
     let q = c.before.before.before.before in
     let r = q.before.before.before in
     let n = r.before.before in
-    let e = ending_in n.args.text.now r.run_in-w.result q.end_at-z.result (omega (arith, n.near-m.ensures.within)) q.end_at-z.ensures in
+    let e = ending_in n.args.text.now c.run_in-w.result c.end_at-z.result (omega (arith, c.near-m.ensures.within)) c.end_at-z.ensures in
     omega (arith, e.0, e.1)
 
 pub returns-then-b-w : goal.returns-then-b-w
@@ -25,15 +25,15 @@ returns-then-b-w c =
     let q = c.before.before.before.before in
     let r = q.before.before.before in
     let n = r.before.before in
-    let is = front_stops printable? n.args.text.now _ n.near-m.ensures.within _ r.run_in-w.ensures (omega arith) in
-    quick_row _ _ is (omega (arith, n.near-m.ensures.within)) _ q.end_at-z.ensures (omega arith) (omega arith) _ c.blanks_in-b.ensures (omega arith)
+    let is = front_stops printable? n.args.text.now _ c.near-m.ensures.within _ c.run_in-w.ensures (omega arith) in
+    quick_row _ _ is (omega (arith, c.near-m.ensures.within)) _ c.end_at-z.ensures (omega arith) (omega arith) _ c.blanks_in-b.ensures (omega arith)
 
 pub overflow_add-result-2 : goal.overflow_add-result-2
 overflow_add-result-2 c =
     let q = c.before.before.before.before in
     let r = q.before.before.before in
     let n = r.before.before in
-    let e = ending_in n.args.text.now r.run_in-w.result q.end_at-z.result (omega (arith, n.near-m.ensures.within)) q.end_at-z.ensures in
+    let e = ending_in n.args.text.now c.run_in-w.result c.end_at-z.result (omega (arith, c.near-m.ensures.within)) c.end_at-z.ensures in
     omega (arith, e.0, e.1)
 
 pub returns : goal.returns
@@ -41,5 +41,5 @@ returns c =
     let q = c.before.before.before.before in
     let r = q.before.before.before in
     let n = r.before.before in
-    let is = front_stops printable? n.args.text.now _ n.near-m.ensures.within _ r.run_in-w.ensures (omega arith) in
-    quick_skip _ _ is (omega (arith, n.near-m.ensures.within)) _ q.end_at-z.ensures (omega arith) (omega arith) _ c.blanks_in-b.ensures (omega arith)
+    let is = front_stops printable? n.args.text.now _ c.near-m.ensures.within _ c.run_in-w.ensures (omega arith) in
+    quick_skip _ _ is (omega (arith, c.near-m.ensures.within)) _ c.end_at-z.ensures (omega arith) (omega arith) _ c.blanks_in-b.ensures (omega arith)

@@ -58,9 +58,8 @@ returns-2 c =
     let i = c.before in
     let l = i.before.before.before in
     let t = l.args.text.now in
-    let e = c.number.given in
-    l.loop-at.invariant.same ∙ stands t l.loop-at.at i.line_in.result (Bad e.0.0 e.0.1.0) i.line_in.ensures e.1 (suc l.loop-at.n)
-    ∙ ap (λ (x : ℕ). bad (why e.0.0 x e.0.1.0)) (sym (add-one l.loop-at.n))
+    l.loop-at.invariant.same ∙ stands t l.loop-at.at i.line_in.result (Bad c.in-Bad.number c.in-Bad.column) i.line_in.ensures c.in-Bad.is (suc l.loop-at.n)
+    ∙ ap (λ (x : ℕ). bad (why c.in-Bad.number x c.in-Bad.column)) (sym (add-one l.loop-at.n))
 
 enum-known-width : tie.Need-enum_known-width invariant-loop decreases-loop
 enum-known-width c = search rules
@@ -89,7 +88,7 @@ add-t19 : tie.Need-overflow_add-result-in-Row-2 invariant-loop decreases-loop
 add-t19 c = omega (arith, row_next c)
 
 returns-3 : tie.Need-returns-in-Row invariant-loop decreases-loop
-returns-3 c = leads (text_3 c) _ _ (loop_3 c).loop.at (loop_3 c).loop.n (loop_3 c).loop.invariant _ _ (row_last c) (row_next c) (found_row c)
+returns-3 c = leads (text_3 c) _ _ (loop_3 c).loop-at.at (loop_3 c).loop-at.n (loop_3 c).loop-at.invariant _ _ (row_last c) (row_next c) (found_row c)
 
 enum-known-next : tie.Need-enum_known-next invariant-loop decreases-loop
 enum-known-next c = search rules
@@ -112,13 +111,13 @@ add_at : tie.Need-overflow_add-at invariant-loop decreases-loop
 add_at c = omega (arith, skip_next c)
 
 add-n : tie.Need-overflow_add-n invariant-loop decreases-loop
-add-n c = omega (arith, (loop_4 c).loop.invariant.few)
+add-n c = omega (arith, (loop_4 c).loop-at.invariant.few)
 
 loop-less : tie.Need-loop-at-smaller invariant-loop decreases-loop
 loop-less c = omega (arith, (found_skip c).ahead, skip_next c)
 
 loop-again : tie.Need-loop-at-preserved invariant-loop decreases-loop
-loop-again c = skipped (text_4 c) _ _ (loop_4 c).loop.at (loop_4 c).loop.n (loop_4 c).loop.invariant _ (skip_next c) (found_skip c)
+loop-again c = skipped (text_4 c) _ _ (loop_4 c).loop-at.at (loop_4 c).loop-at.n (loop_4 c).loop-at.invariant _ (skip_next c) (found_skip c)
 
 at_end : (t : List ℕ) (at n : ℕ) → length t ≤ at → feed n (split (drop at t)) ≡ over n
 at_end t at n h = ap (λ (x : List ℕ). feed n (split x)) (drop_of_length-le t h) ∙ (unfold split feed in refl)

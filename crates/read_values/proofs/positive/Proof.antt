@@ -16,7 +16,7 @@ with-sign-requires c κs = search rules
 
 module _ (c : tie.After-with_sign) where
   back : to_z w64 (of_z w64 c.with_sign.result) ≡ c.with_sign.result
-  back = to_z-of_z (record { sfits = c.with_sign.type_inv })
+  back = to_z-of_z {w = w64} (record { sfits = c.with_sign.type_inv })
 
   fits : SFits w32 (signed false c.args.n)
   fits = size_fits w32 _ (rw signed_size (omega (arith, c.requires)))

@@ -15,7 +15,7 @@ use Rattle.sound.proofs.lengths_fit.Tie as tie
 
 module _ (c : tie.After-per_map) where
   abbrev s : tie.Start
-  s = c.before.before.before
+  s = c.before.before.before.before
 
   blocks_is : s.args.header.times.maps * c.per_map.result ≡ blocks s.args.header
   blocks_is = ap (λ (n : ℕ). s.args.header.times.maps * n) c.per_map.ensures

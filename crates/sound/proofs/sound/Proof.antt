@@ -80,7 +80,7 @@ returns-4 c =
     let i = c.before.before.before.before.before.before in
     both e (×_dec m l) c.epochs_fit.ensures (both m l c.all_within.ensures c.lengths_fit.ensures)
     ∙ truth_same (×_dec e (×_dec m l)) (sound? h (full s.args.texts s.args.descriptions.now) (a s))
-    (λ g. groups_sound h (full s.args.texts s.args.descriptions.now) (a s) (header i.before, (omega (arith, i.if-epochs-maps.false), (omega (arith, i.if-marks-maps.false), g))))
+    (λ g. groups_sound h (full s.args.texts s.args.descriptions.now) (a s) (header i.before, (omega (arith, c.if-epochs-maps.false), (omega (arith, c.if-marks-maps.false), g))))
     (λ g. (sound_groups h (full s.args.texts s.args.descriptions.now) (a s) g).1.1.1)
 
 pub sound_spec : {M : Type 1} → statement M

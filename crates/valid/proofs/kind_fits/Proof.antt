@@ -102,10 +102,10 @@ returns c =
     let es : List ℤ = kind_exponents a.kind a.blocks ms a.exponents.now in
     let b1 = blank? a.kind (a.blocks * a.columns) (pos 9999) ms vs in
     let b2 = blank? a.kind a.blocks (negsuc 0) ms es in
-    let e : f.blocks_before-first.result + length ms * a.blocks - f.blocks_before-first.result ≡ length ms * a.blocks = omega arith in
-    let r2 : c.blank-2.result ≡ truth b2 = rw (e, f.blocks_before-first.ensures) at c.blank-2.ensures in
-    let r1 : c.blank.result ≡ truth b1 = rw n.need-needed.ensures at c.blank.ensures in
-    let r0 : c.all_between.result ≡ truth (all_dec value? vs) = rw n.need-needed.ensures at c.all_between.ensures in
+    let e : c.blocks_before-first.result + length ms * a.blocks - c.blocks_before-first.result ≡ length ms * a.blocks = omega arith in
+    let r2 : c.blank-2.result ≡ truth b2 = rw (e, c.blocks_before-first.ensures) at c.blank-2.ensures in
+    let r1 : c.blank.result ≡ truth b1 = rw c.need-needed.ensures at c.blank.ensures in
+    let r0 : c.all_between.result ≡ truth (all_dec value? vs) = rw c.need-needed.ensures at c.all_between.ensures in
     both (all_dec value? vs) (×_dec b1 b2) r0 (both b1 b2 r1 r2)
 
 pub kind_fits_spec : {M : Type 1} → statement M

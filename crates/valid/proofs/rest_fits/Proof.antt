@@ -27,7 +27,7 @@ lent s = six s.args.tec.now s.args.rms.now s.args.height.now s.args.exponents.no
 -- blocks and columns are the grid's
 module _ (c : tie.After-nodes-columns) where
   abbrev s : tie.Start
-  s = c.before.before.before.before
+  s = c.before.before.before.before.before.before
 
   all_is : s.args.header.times.maps * c.per_map-blocks.result ≡ blocks s.args.header
   all_is = ap (λ (b : ℕ). s.args.header.times.maps * b) c.per_map-blocks.ensures
@@ -81,7 +81,7 @@ mul-needed-2 : tie.Need-overflow_mul-needed-2
 mul-needed-2 c = omega (arith, all_is c, few c)
 
 slice-aggregate-all-between : tie.Need-slice_bounds-all_between-end
-slice-aggregate-all-between c = sym (length-take-le _ _ (omega (arith, all_is c, (s c).pre.lengths.1.1.1)))
+slice-aggregate-all-between c = sym (length-take-le _ _ (omega (arith, all_is c, (s c).requires.lengths.1.1.1)))
 
 all-between-requires : tie.Need-all_between-requires
 all-between-requires c κs = search rules

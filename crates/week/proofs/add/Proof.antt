@@ -102,7 +102,7 @@ grow-requires c κs =
     let d = e.before.before in
     let a = (start d).args in
     let l = sound_long a.header (full a.texts a.descriptions.now) (lent (start d)).areas (is_valid e).sound in
-    (omega (arith, d.before.before.if1.left), is_sane d, record { maps = l.maps; limits = l.limits; marks = l.marks; lengths = l.lengths }, has_room f)
+    (omega (arith, d.if-w-ge100.false), is_sane d, record { maps = l.maps; limits = l.limits; marks = l.marks; lengths = l.lengths }, has_room f)
 
 same_length : tie.Need-shape_of-rows
 same_length c = search rules
@@ -115,7 +115,7 @@ returns-5 c =
     let d = e.before.before in
     let s = start d in
     (λ i. comes (A.Into (grows s g.grow.ensures.0 i)) (fills s g.grow.ensures.1 i))
-    ∙ sym (answer_into s.args.w (lent s) (omega (arith, d.before.before.if1.left)) (is_sane d) (is_valid e) (has_room f))
+    ∙ sym (answer_into s.args.w (lent s) (omega (arith, d.if-w-ge100.false)) (is_sane d) (is_valid e) (has_room f))
 
 pub add_spec : {M : Type 1} → statement M
 add_spec = tie.close (tie.spec returns sane-requires returns-2 valid-requires returns-3 rows-need-requires returns-4 grow-requires same_length returns-5)

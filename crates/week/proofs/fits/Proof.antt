@@ -25,8 +25,7 @@ returns c = rw c.in-Nothing.is (fit_nothing c.args.given)
 
 returns-2 : tie.Need-returns-in-From
 returns-2 c =
-    let g = c.r.given in
-    rw (g.1, a_is c, b_is c) (fit_from c.args.given g.0.0 g.0.1.0)
+    rw (c.in-From.is, a_is c, b_is c) (fit_from c.args.given c.in-From.a c.in-From.b)
 
 pub fits_spec : {M : Type 1} → statement M
 fits_spec = tie.close (tie.spec enum_told enum-known-r returns returns-2)

@@ -74,7 +74,7 @@ module _ (s : tie.Start) where
 -- after each kind: its figures, and the area
 module _ (c : tie.After-kind_into-a) where
   abbrev first_start : tie.Start
-  first_start = c.before.before.before.before.before.before
+  first_start = c.before.before.before.before.before.before.before
 
   abbrev first_rows : List ℤ
   first_rows = c.kind_into-a.new.rows
@@ -84,7 +84,7 @@ module _ (c : tie.After-kind_into-a) where
 
 module _ (c : tie.After-kind_into-b) where
   abbrev one : tie.After-kind_into-a
-  one = c.before.before.before
+  one = c.before.before.before.before
 
   abbrev second_start : tie.Start
   second_start = first_start one
@@ -110,16 +110,16 @@ kind-into-requires-2 : tie.Need-kind_into-b-requires
 kind-into-requires-2 c κs =
     let d = c.before.before in
     let s = first_start d.before in
-    takes s s.args.w.rms.0 1 (first_rows d.before) (omega arith) s.pre.1.1.0 (omega (arith, ap length (first_put d.before), put_length s 0 s.args.rows.now, s.pre.3))
+    takes s s.args.w.rms.0 1 (first_rows d.before) (omega arith) s.requires.1.1.0 (omega (arith, ap length (first_put d.before), put_length s 0 s.args.rows.now, s.requires.3))
 
 kind-into-requires-3 : tie.Need-kind_into-c-requires
 kind-into-requires-3 c κs =
     let d = c.before.before in
     let s = second_start d.before in
-    takes s s.args.w.height.0 2 (second_rows d.before) (omega arith) s.pre.1.1.1 (omega (arith, second_length d.before, s.pre.3))
+    takes s s.args.w.height.0 2 (second_rows d.before) (omega arith) s.requires.1.1.1 (omega (arith, second_length d.before, s.requires.3))
 
 add-t21 : tie.Need-overflow_add-result
-add-t21 c = let s = second_start c.before.before.before.before.before.before in omega (arith, s.pre.0)
+add-t21 c = let s = second_start c.before.before.before.before.before.before in omega (arith, s.requires.0)
 
 same_length : tie.Need-shape_of-rows
 same_length c = search rules
@@ -130,7 +130,7 @@ returns c =
     let k = c.before.before in
     let d = k.before.before.before in
     let s = second_start d.before in
-    let x = (one d.before).kind-into.ensures.0 ∙ told s s.args.w.tec.0 0 in
+    let x = (one d.before).kind_into-a.ensures.0 ∙ told s s.args.w.tec.0 0 in
     let y = d.kind_into-b.ensures.0 ∙ told s s.args.w.rms.0 1 in
     let z = k.kind_into-c.ensures.0 ∙ told s s.args.w.height.0 2 in
     (same refl x y z, k.kind_into-c.ensures.1 ∙ told_rows s 2 (second_rows d.before) ∙ ap (put s 2) (second_put d.before) ∙ put_all s)

@@ -37,7 +37,7 @@ module _ (k B C F : ℕ) (ms : List ℕ) (vs es : List ℤ) where
 
 module _ (c : tie.After-nodes-columns) where
   abbrev s : tie.Start
-  s = c.before.before.before.before
+  s = c.before.before.before.before.before.before
 
   abbrev es : List ℤ
   es = s.args.exponents.now
@@ -73,7 +73,7 @@ module _ (f : tie.After-blocks_before-first) where
   low = omega (arith, first_is, first_within (kind_of (s n).args.kind) (all n))
 
   inside : f.blocks_before-first.result ≤ length (es n)
-  inside = omega (arith, low, (s n).pre.exponents)
+  inside = omega (arith, low, (s n).requires.exponents)
 
 told : (c : tie.After-kind_rows-u) → let m = n c.before.before.before in
     c.kind_rows-u.result ≡ figures (parts_nodes (s m).args.kind (per_map (s m).args.header) (columns (s m).args.header.grid) (take (s m).args.header.times.maps (s m).args.marks.now) (s m).args.values.now (drop (first_of (kind_of (s m).args.kind) (all m)) (es m)))
@@ -81,7 +81,7 @@ told c =
     let f = c.before.before.before.before in
     let m = n c.before.before.before in
     figure (s m).args.kind (per_map (s m).args.header) (columns (s m).args.header.grid) _ (take (s m).args.header.times.maps (s m).args.marks.now) (s m).args.values.now (es m)
-    m.before.per-map.ensures m.nodes.ensures (first_is c.before.before.before) c.kind_rows-u.ensures.0
+    m.per_map-blocks.ensures m.nodes-columns.ensures (first_is c.before.before.before) c.kind_rows-u.ensures.0
 
 cast-maps : tie.Need-overflow_cast-maps
 cast-maps c = search rules
@@ -108,7 +108,7 @@ mul_at : tie.Need-overflow_mul-at
 mul_at c = search rules
 
 mul-at-2 : tie.Need-overflow_mul-at-2
-mul-at-2 c = let m = n c in let g = (s m).good in omega (arith, room m)
+mul-at-2 c = let m = n c in let g = (s m).well_formed in omega (arith, room m)
 
 slice-aggregate-kind-rows : tie.Need-slice_bounds-kind_rows-end
 slice-aggregate-kind-rows c = sym (marks_length (n c))
@@ -130,14 +130,14 @@ kind-rows-requires c κs =
     let f = c.before.before.before in
     let m = n c.before.before in (
       hold (s m).args.kind (per_map (s m).args.header) (columns (s m).args.header.grid) _ (take (s m).args.header.times.maps (s m).args.marks.now) (s m).args.values.now (es m)
-          m.before.per-map.ensures m.nodes.ensures (first_is c.before.before) (s m).pre.holds,
+          m.per_map-blocks.ensures m.nodes-columns.ensures (first_is c.before.before) (s m).requires.holds,
       omega (arith, room m, marks_length m),
     )
 
 join-requires : tie.Need-join-requires
 join-requires c κs =
     let m = n c.before.before.before.before in
-    ((s m).pre.ready, rw (told c.before) (parts_ready _ _ _ _ _ _ (s m).pre.holds))
+    ((s m).requires.ready, rw (told c.before) (parts_ready _ _ _ _ _ _ (s m).requires.holds))
 
 same_length : tie.Need-shape_of-rows
 same_length c = search rules
@@ -150,7 +150,7 @@ returns c =
     let m = n k.before.before.before in (
       c.join.ensures ∙ ap (joined (s m).args.t) (told k),
       row (s m).args.kind (per_map (s m).args.header) (columns (s m).args.header.grid) _ (take (s m).args.header.times.maps (s m).args.marks.now) (s m).args.values.now (es m)
-          ((s m).args.kind * each m) (s m).args.rows.now m.before.per-map.ensures m.nodes.ensures (first_is k.before.before.before) k.kind_rows-u.ensures.1,
+          ((s m).args.kind * each m) (s m).args.rows.now m.per_map-blocks.ensures m.nodes-columns.ensures (first_is k.before.before.before) k.kind_rows-u.ensures.1,
     )
 
 pub kind_into_spec : {M : Type 1} → statement M

@@ -104,7 +104,7 @@ tally-of-requires c κs =
 join-requires : tie.Need-join-t-requires invariant-loop decreases-loop
 join-requires c κs =
     let d = c.before.before.before in
-    (((l d).loop.invariant.2, omega (arith, (l d).loop.invariant.3, room d, (s d).requires.nodes)), rw (told c) (here_ready d))
+    (((l d).loop-j.invariant.2, omega (arith, (l d).loop-j.invariant.3, room d, (s d).requires.nodes)), rw (told c) (here_ready d))
 
 add-j : tie.Need-overflow_add-j invariant-loop decreases-loop
 add-j c = omega arith
@@ -115,13 +115,13 @@ loop-less c = omega arith
 loop-again : tie.Need-loop-j-preserved invariant-loop decreases-loop
 loop-again c =
     let d = c.before.before.before.before in
-    let t = (l d).loop.t in
+    let t = (l d).loop-j.t in
     let e : c.join-t.result ≡ joined t (here d) = c.join-t.ensures ∙ ap (joined t) (told c.before) in (
       omega arith,
-      omega (arith, (l d).loop.invariant.1),
-      rw e (bounded_joined t (here d) (l d).loop.invariant.2 (here_ready d).0),
-      rw e (omega (arith, nodes_joined t (here d), nodes_numbers (get_or (es d) (l d).loop.j (pos 0)) (numbers d), numbers_length d, (l d).loop.invariant.3)),
-      rw e (blocks_next (C d) (vs d) (es d) t (l d).loop.at (l d).loop.j (omega arith) ∙ (l d).loop.invariant.4),
+      omega (arith, (l d).loop-j.invariant.1),
+      rw e (bounded_joined t (here d) (l d).loop-j.invariant.2 (here_ready d).0),
+      rw e (omega (arith, nodes_joined t (here d), nodes_numbers (get_or (es d) (l d).loop-j.j (pos 0)) (numbers d), numbers_length d, (l d).loop-j.invariant.3)),
+      rw e (blocks_next (C d) (vs d) (es d) t (l d).loop-j.at (l d).loop-j.j (omega arith) ∙ (l d).loop-j.invariant.4),
     )
 
 returns : tie.Need-returns invariant-loop decreases-loop

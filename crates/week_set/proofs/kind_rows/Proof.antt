@@ -55,7 +55,7 @@ module _ (c : tie.In-loop-i invariant-loop decreases-loop) where
   l = c.before
 
   holds : MapHolds (s l).args.kind l.loop-i.i (s l).args.blocks (s l).args.columns (get_or (s l).args.marks.now l.loop-i.i 0) (s l).args.values.now (s l).args.exponents.now
-  holds = kind_map _ _ _ (s l).args.marks.now _ _ l.loop-i.i (s l).pre.0 (omega arith)
+  holds = kind_map _ _ _ (s l).args.marks.now _ _ l.loop-i.i (s l).requires.0 (omega arith)
 
   count : nodes_in (here l) ≡ (s l).args.blocks * (s l).args.columns
   count = part_count _ _ _ _ _ _ _ holds
@@ -64,7 +64,7 @@ module _ (c : tie.In-loop-i invariant-loop decreases-loop) where
   room = let h : suc l.loop-i.i ≤ length (s l).args.marks.now = omega arith in mul-le-mul h (le_refl ((s l).args.blocks * (s l).args.columns))
 
   here_ready : Ready (here l)
-  here_ready = (part_bounded _ _ _ _ _ _ _, omega (arith, count, room, (s l).pre.0.nodes))
+  here_ready = (part_bounded _ _ _ _ _ _ _, omega (arith, count, room, (s l).requires.0.nodes))
 
 -- behind the last map
 module _ (c : tie.After-loop-i invariant-loop decreases-loop) where
@@ -103,22 +103,22 @@ map-tally-requires : tie.Need-map_tally-m-requires invariant-loop decreases-loop
 map-tally-requires c κs = holds c.before
 
 mul-put-row : tie.Need-overflow_mul-i invariant-loop decreases-loop
-mul-put-row c = let d = c.before.before.before in omega (arith, (s (l d)).pre.0.maps)
+mul-put-row c = let d = c.before.before.before in omega (arith, (s (l d)).requires.0.maps)
 
 add-put-row : tie.Need-overflow_add-at invariant-loop decreases-loop
-add-put-row c = let d = c.before.before.before in let g = (s (l d)).good in omega (arith, (s (l d)).pre.1)
+add-put-row c = let d = c.before.before.before in let g = (s (l d)).well_formed in omega (arith, (s (l d)).requires.1)
 
 put-row-requires : tie.Need-put_row-requires invariant-loop decreases-loop
 put-row-requires c κs =
     let d = c.before.before.before in
-    (omega (arith, (s (l d)).pre.1, (l d).loop.invariant.4), rw (told c.before) (here_ready d))
+    (omega (arith, (s (l d)).requires.1, (l d).loop-i.invariant.4), rw (told c.before) (here_ready d))
 
 join-requires : tie.Need-join-t-requires invariant-loop decreases-loop
 join-requires c κs =
     let m = c.before.before.before in
     let d = m.before.before in
-    let p = (l d).loop.invariant in
-    ((p.1, omega (arith, p.2, room d, (s (l d)).pre.0.nodes)), rw (told m) (here_ready d))
+    let p = (l d).loop-i.invariant in
+    ((p.1, omega (arith, p.2, room d, (s (l d)).requires.0.nodes)), rw (told m) (here_ready d))
 
 add-i : tie.Need-overflow_add-i invariant-loop decreases-loop
 add-i c = omega arith
@@ -131,27 +131,27 @@ loop-again c =
     let m = c.before.before.before.before in
     let d = m.before.before in
     let k = l d in
-    let t = k.loop.t in
+    let t = k.loop-i.t in
     let e : c.join-t.result ≡ joined t (here k) = c.join-t.ensures ∙ ap (joined t) (told m) in
     let f = own_row m c.put_row.ensures in (
       omega arith,
-      rw e (bounded_joined t (here k) k.loop.inv.1 (here_ready d).0),
-      rw e (omega (arith, nodes_joined t (here k), count d, k.loop.inv.2)),
-      rw e (maps_next (many k) k.loop.i (nodes k) t (omega arith) ∙ k.loop.inv.3),
-      ap length f ∙ length-sets k.loop.rows ((s k).args.at + 5 * k.loop.i) (row (here k)) ∙ k.loop.inv.4,
-      rw f (rows_next (s k).args.at (many k) k.loop.i (λ j. figures (nodes k j)) k.loop.rows (omega arith) ∙ k.loop.inv.5),
+      rw e (bounded_joined t (here k) k.loop-i.invariant.1 (here_ready d).0),
+      rw e (omega (arith, nodes_joined t (here k), count d, k.loop-i.invariant.2)),
+      rw e (maps_next (many k) k.loop-i.i (nodes k) t (omega arith) ∙ k.loop-i.invariant.3),
+      ap length f ∙ length-sets k.loop-i.rows ((s k).args.at + 5 * k.loop-i.i) (row (here k)) ∙ k.loop-i.invariant.4,
+      rw f (rows_next (s k).args.at (many k) k.loop-i.i (λ j. figures (nodes k j)) k.loop-i.rows (omega arith) ∙ k.loop-i.invariant.5),
     )
 
 mul-put-row-2 : tie.Need-overflow_mul-i-2 invariant-loop decreases-loop
-mul-put-row-2 c = let d = c.before in omega (arith, (s (end d)).pre.0.maps)
+mul-put-row-2 c = let d = c.before in omega (arith, (s (end d)).requires.0.maps)
 
 add-put-row-2 : tie.Need-overflow_add-at-2 invariant-loop decreases-loop
-add-put-row-2 c = let d = c.before in omega (arith, (s (end d)).pre.1)
+add-put-row-2 c = let d = c.before in omega (arith, (s (end d)).requires.1)
 
 put-row-requires-2 : tie.Need-put_row-requires-2 invariant-loop decreases-loop
 put-row-requires-2 c κs =
     let d = c.before in
-    (omega (arith, (s (end d)).pre.1, (end d).loop.invariant.4), rw (told_all d) (parts_ready _ _ _ _ _ _ (s (end d)).pre.0))
+    (omega (arith, (s (end d)).requires.1, (end d).loop-i.invariant.4), rw (told_all d) (parts_ready _ _ _ _ _ _ (s (end d)).requires.0))
 
 same_length : tie.Need-shape_of-rows invariant-loop decreases-loop
 same_length c = search rules
@@ -161,12 +161,12 @@ unfolding parts_rows
 returns c =
     let d = c.before.before.before in
     let k = end d in
-    let i : k.loop.i ≡ many k = omega (arith, k.loop.inv.0) in
+    let i : k.loop-i.i ≡ many k = omega (arith, k.loop-i.invariant.0) in
     let g : ℕ → Tally = λ j. figures (nodes k j) in (
       told_all d,
       c.put_row-2.ensures
-          ∙ (λ x. sets (stored d x) ((s k).args.at + 5 * k.loop.i) (row (told_all d x)))
-          ∙ sets_append (flat (tab 0 (many k) (λ j. row (g j)))) (row (whole k)) (s k).args.rows.now (s k).args.at ((s k).args.at + 5 * k.loop.i) (omega (arith, rows_length (many k) g, i)),
+          ∙ (λ x. sets (stored d x) ((s k).args.at + 5 * k.loop-i.i) (row (told_all d x)))
+          ∙ sets_append (flat (tab 0 (many k) (λ j. row (g j)))) (row (whole k)) (s k).args.rows.now (s k).args.at ((s k).args.at + 5 * k.loop-i.i) (omega (arith, rows_length (many k) g, i)),
     )
 
 pub kind_rows_spec : {M : Type 1} → statement M

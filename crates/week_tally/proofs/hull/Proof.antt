@@ -62,8 +62,8 @@ returns-2 c = rw (c.in-From.is, c.in-Nothing-s.is) refl
 returns-3 : tie.Need-returns-in-From-s
 returns-3 c =
     let k = c.before.before in
-    let l : to_z w32 (of_z w32 c.smaller.result) ≡ smaller (a k) (c2 k) = to_z-of_z (record { sfits = c.smaller.type_inv }) ∙ (rw (a_is k, c_is k) at c.smaller.ensures) in
-    let h : to_z w32 (of_z w32 c.larger.result) ≡ larger (b k) (d k) = to_z-of_z (record { sfits = c.larger.type_inv }) ∙ (rw (b_is k, d_is k) at c.larger.ensures) in
+    let l : to_z w32 (of_z w32 c.smaller.result) ≡ smaller (a k) (c2 k) = to_z-of_z {w = w32} (record { sfits = c.smaller.type_inv }) ∙ (rw (a_is k, c_is k) at c.smaller.ensures) in
+    let h : to_z w32 (of_z w32 c.larger.result) ≡ larger (b k) (d k) = to_z-of_z {w = w32} (record { sfits = c.larger.type_inv }) ∙ (rw (b_is k, d_is k) at c.larger.ensures) in
     rw (k.in-From.is, k.in-From-s.is, l, h) refl
 
 pub hull_spec : {M : Type 1} → statement M

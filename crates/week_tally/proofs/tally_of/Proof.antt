@@ -77,7 +77,7 @@ single-requires : tie.Need-single-requires invariant-loop decreases-loop
 single-requires c κs = search rules
 
 join-requires : tie.Need-join-t-requires invariant-loop decreases-loop
-join-requires c κs = (((l c).loop.invariant.1, omega (arith, (l c).loop.invariant.2, (l c).loop.invariant.0, (s c).requires)), ready c)
+join-requires c κs = (((l c).loop-i.invariant.1, omega (arith, (l c).loop-i.invariant.2, (l c).loop-i.invariant.0, (s c).requires)), ready c)
 
 add-i : tie.Need-overflow_add-i invariant-loop decreases-loop
 add-i c = omega arith
@@ -88,14 +88,14 @@ loop-less c = omega arith
 loop-again : tie.Need-loop-i-preserved invariant-loop decreases-loop
 loop-again c =
     let d = c.before in
-    let i = (l d).loop.i in
+    let i = (l d).loop-i.i in
     let vs = (s d).args.values.now in
-    let e : c.join-t.result ≡ joined (l d).loop.t (single (node (s d) (v d))) = c.join-t.ensures ∙ ap (joined (l d).loop.t) (single_is d) in
+    let e : c.join-t.result ≡ joined (l d).loop-i.t (single (node (s d) (v d))) = c.join-t.ensures ∙ ap (joined (l d).loop-i.t) (single_is d) in
     let q : to_z w32 (of_z w32 (s d).args.exponent) ≡ (s d).args.exponent = exponent_is (s d) in (
       omega arith,
-      rw e (bounded_joined (l d).loop.t (single (node (s d) (v d))) (l d).loop.invariant.1 (rw (single_is d) at (ready d).0)),
-      rw e (omega (arith, nodes_joined (l d).loop.t (single (node (s d) (v d))), nodes_single (node (s d) (v d)), (l d).loop.invariant.2)),
-      rw (e, q) (figures_next (node (s d)) vs (pos 0) i (l d).loop.t (omega arith) ∙ (rw q at (l d).loop.invariant.3)),
+      rw e (bounded_joined (l d).loop-i.t (single (node (s d) (v d))) (l d).loop-i.invariant.1 (rw (single_is d) at (ready d).0)),
+      rw e (omega (arith, nodes_joined (l d).loop-i.t (single (node (s d) (v d))), nodes_single (node (s d) (v d)), (l d).loop-i.invariant.2)),
+      rw (e, q) (figures_next (node (s d)) vs (pos 0) i (l d).loop-i.t (omega arith) ∙ (rw q at (l d).loop-i.invariant.3)),
     )
 
 returns : tie.Need-returns invariant-loop decreases-loop

@@ -29,7 +29,7 @@ decreases-loop out₀ at header in_force es vs columns next₀ held₀ d₀ from
 
 module _ (l : tie.At-loop-d invariant-loop decreases-loop) where
   abbrev s : tie.Start invariant-loop decreases-loop
-  s = l.before.before.before
+  s = l.before.before.before.before
 
   abbrev C : ℕ
   C = G.columns s.args.header.grid

@@ -28,7 +28,7 @@ decreases-loop out₀ at header kind in_force epochs marks exponents values maps
 -- blocks and columns are the grid's
 module _ (n : tie.After-nodes invariant-loop decreases-loop) where
   abbrev start : tie.Start invariant-loop decreases-loop
-  start = n.before.before.before.before.before.before
+  start = n.before.before.before.before.before.before.before.before
 
   fine : Fine start.args.header
   fine = start.requires.ready.fine
@@ -83,7 +83,7 @@ add-last : tie.Need-overflow_add-last invariant-loop decreases-loop
 add-last c = let l = c.before in omega (arith, inside l (omega arith), (s l).well-formed.1.1.1.1.1.1.1.0)
 
 add-end : tie.Need-overflow_add-end invariant-loop decreases-loop
-add-end c = let l = c.before in omega (arith, going_few (s l).requires (going l) (n l).before.per-map.ensures (width_is (n l)) (omega arith))
+add-end c = let l = c.before in omega (arith, going_few (s l).requires (going l) (n l).per_map-blocks.ensures (width_is (n l)) (omega arith))
 
 add-put-slot : tie.Need-overflow_add-i invariant-loop decreases-loop
 add-put-slot c = omega arith
@@ -112,7 +112,7 @@ part-put-slot-end c = let l = c.before.before.before.before in inside l (omega a
 put-slot-requires : tie.Need-put_slot-reached-requires invariant-loop decreases-loop
 put-slot-requires c κs =
     let l = c.before.before.before.before.before in
-    going_ready (s l).requires (going l) (n l).before.per-map.ensures (width_is (n l)) (omega arith)
+    going_ready (s l).requires (going l) (n l).per_map-blocks.ensures (width_is (n l)) (omega arith)
 
 add-i : tie.Need-overflow_add-i-in-loop-i invariant-loop decreases-loop
 add-i c = let t = c.before.before.before.before.before.before.before.before in omega (arith, t.loop-i-test.true, (fine (n t.before)).maps)
@@ -125,7 +125,7 @@ loop-again c =
     let a = c.before.before.before in
     let l = a.before.before.before.before.before.before in
     let e = to_z-of_z (record { sfits = c.struct_told-1.given.1.0.1 }) in
-    rw (force_is l) (going_next (s l).requires (going l) (n l).before.per-map.ensures (width_is (n l)) (omega arith) a.put_slot-reached.result e a.put_slot-reached.ensures)
+    rw (force_is l) (going_next (s l).requires (going l) (n l).per_map-blocks.ensures (width_is (n l)) (omega arith) a.put_slot-reached.result e a.put_slot-reached.ensures)
 
 same_length : tie.Need-shape_of-out invariant-loop decreases-loop
 same_length c = c.loop-i.invariant.leads.size

@@ -61,7 +61,7 @@ put-kind-requires-2 : tie.Need-put_kind-b-requires
 put-kind-requires-2 c κs =
     let d = c.before.before.before.before in
     let s = s1 d in
-    area_ready s.args.header (a s) s.pre.long K.Rms (k1 s) _ (force1 c) s.pre.ready.fine s.pre.epochs (room_front (area_rows s.args.header (a s) K.Rms (k1 s)) (heights s) ((lead1 d).room s.pre.ready.room))
+    area_ready s.args.header (a s) s.requires.long K.Rms (k1 s) _ (force1 c) s.requires.ready.fine s.requires.epochs (room_front (area_rows s.args.header (a s) K.Rms (k1 s)) (heights s) ((lead1 d).room s.requires.ready.room))
 
 -- ---- after the RMS maps
 module _ (c : tie.After-put_kind-b) where
@@ -84,7 +84,7 @@ put-kind-requires-3 : tie.Need-put_kind-c-requires
 put-kind-requires-3 c κs =
     let d = c.before.before.before.before in
     let s = s2 d in
-    area_ready s.args.header (a s) s.pre.long K.Height (k2 s) _ (force2 c) s.pre.ready.fine s.pre.epochs (room_front (area_rows s.args.header (a s) K.Height (k2 s)) (last_row s) ((lead2 d).room s.pre.ready.room))
+    area_ready s.args.header (a s) s.requires.long K.Height (k2 s) _ (force2 c) s.requires.ready.fine s.requires.epochs (room_front (area_rows s.args.header (a s) K.Height (k2 s)) (last_row s) ((lead2 d).room s.requires.ready.room))
 
 -- ---- after the height maps
 module _ (c : tie.After-put_kind-c) where

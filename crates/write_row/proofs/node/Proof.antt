@@ -10,7 +10,7 @@ use Rattle.write_row.proofs.node.Statement.{statement}
 use Rattle.write_row.proofs.node.Tie as tie
 
 node_is : (c : tie.After-node) → to_z w64 (of_z w64 c.node.result) ≡ c.args.a.first +ℤ pos c.args.i *ℤ c.args.a.step
-node_is c = to_z-of_z (record { sfits = c.node.type_inv }) ∙ c.node.ensures
+node_is c = to_z-of_z {w = w64} (record { sfits = c.node.type_inv }) ∙ c.node.ensures
 
 node-requires : tie.Need-node-requires
 node-requires c κs = search rules

@@ -59,11 +59,11 @@ returns c =
     let g = s.args.grid in
     opening_filled g s.args.d c.nodes-rows.result c.nodes-rows.ensures _ _ _ _ _ _
     (block_filled _ _ _ _ _ _ _ _ c.three_row-row.ensures c.put_tenths.ensures c.put_tenths-2.ensures)
-    (to_z-of_z (record { sfits = c.node-latitude.type_inv }) ∙ c.node-latitude.ensures)
+    (to_z-of_z {w = w32} (record { sfits = c.node-latitude.type_inv }) ∙ c.node-latitude.ensures)
     (to_z-of_z (first_fits s.before.before.before))
     (to_z-of_z (last_fits s.before.before.before))
     (to_z-of_z (step_fits s.before.before.before))
-    (to_z-of_z (record { sfits = c.node-height.type_inv }) ∙ c.node-height.ensures)
+    (to_z-of_z {w = w32} (record { sfits = c.node-height.type_inv }) ∙ c.node-height.ensures)
 
 pub opening_row_spec : {M : Type 1} → statement M
 opening_row_spec = tie.close (tie.spec nodes-requires rem-node node-requires div-node node-requires-2 three-row-requires slice-aggregate-put-tenths put-tenths-requires slice-aggregate-put-tenths-2 put-tenths-requires-2 returns)

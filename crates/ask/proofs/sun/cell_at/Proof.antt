@@ -14,7 +14,7 @@ use Rattle.ask.proofs.sun.cell_at.Tie as tie
 lon_is : (c : tie.After-lon_of) → let a = c.args in to_z w64 (of_z w64 c.lon_of.result) ≡ lon_at a.method a.lon a.second a.epoch
 lon_is c =
     let s = c.before in
-    to_z-of_z (record { sfits = c.lon_of.type_inv }) ∙ c.lon_of.ensures ∙ ap (λ (z : ℤ). lon_at s.args.method z s.args.second s.args.epoch) (to_z-of_z s.ranges.lon)
+    to_z-of_z {w = w64} (record { sfits = c.lon_of.type_inv }) ∙ c.lon_of.ensures ∙ ap (λ (z : ℤ). lon_at s.args.method z s.args.second s.args.epoch) (to_z-of_z s.ranges.lon)
 
 lon-of-requires : tie.Need-lon_of-requires
 lon-of-requires c κs = search rules

@@ -14,11 +14,11 @@ overflow_cast-result c = rw (to_z-of_z c.ranges.lon) (sfits_widen tt c.ranges.lo
 pub returns-then-method-lt2 : goal.returns-then-method-lt2
 returns-then-method-lt2 c =
     let s = c.before in
-    let e : to_z w64 (of_z w64 (to_z w32 (of_z w32 s.args.lon))) ≡ s.args.lon = rw (to_z-of_z s.ranges.lon) (to_z-of_z (sfits_widen tt s.ranges.lon)) in
+    let e : to_z w64 (of_z w64 (to_z w32 (of_z w32 s.args.lon))) ≡ s.args.lon = rw (to_z-of_z s.ranges.lon) (to_z-of_z {w = w64} (sfits_widen (tt {0}) s.ranges.lon)) in
     e ∙ sym (plain_lon s.args.method c.if-method-lt2.true s.args.lon s.args.second s.args.epoch)
 
 pub returns : goal.returns
 returns c =
     let s = c.before.before in
-    to_z-of_z (record { sfits = c.moved_to.type_inv }) ∙ c.moved_to.ensures ∙ ap (λ (z : ℤ). moved z s.args.second s.args.epoch) (to_z-of_z s.ranges.lon)
+    to_z-of_z {w = w64} (record { sfits = c.moved_to.type_inv }) ∙ c.moved_to.ensures ∙ ap (λ (z : ℤ). moved z s.args.second s.args.epoch) (to_z-of_z s.ranges.lon)
     ∙ sym (sun_lon s.args.method c.if-method-lt2.false s.args.lon s.args.second s.args.epoch)

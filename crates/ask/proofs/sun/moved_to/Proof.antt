@@ -25,7 +25,7 @@ module _ (s : tie.Start) where
   e = s.args.epoch
 
   lon_is : to_z w64 (of_z w64 (to_z w32 (of_z w32 lon))) ≡ lon
-  lon_is = rw (to_z-of_z s.ranges.lon) (to_z-of_z (sfits_widen tt s.ranges.lon))
+  lon_is = rw (to_z-of_z s.ranges.lon) (to_z-of_z {w = w64} (sfits_widen (tt {0}) s.ranges.lon))
 
   t_is : to_z w64 t ≡ pos t
   t_is = to_z_pos w64 (omega (arith, s.requires.0))

@@ -53,10 +53,9 @@ returns c =
     let p = c.before.before.before.before.before in
     let l = p.before.before in
     let a = l.args in
-    let o = c.onward.given in
-    let q : Stops a.text.now a.version l.loop-answer.s l.loop-answer.lines l.loop-answer.at l.loop-answer.n p.pass-r.result.state p.pass-r.new.lines o.0.0 =
-    subst (λ (x : Onward). Passes a.text.now a.version l.loop-answer.s l.loop-answer.lines l.loop-answer.at l.loop-answer.n x p.pass-r.result.state p.pass-r.new.lines) o.1 p.pass-r.ensures in
-    hands _ a.text.now o.0.0 (texts_of p.pass-r.result.state) p.pass-r.new.lines c.handed.result c.handed.ensures.0 c.handed.ensures.1 (l.loop-answer.invariant.3 ∙ q.same) q.sound
+    let q : Stops a.text.now a.version l.loop-answer.s l.loop-answer.lines l.loop-answer.at l.loop-answer.n p.pass-r.result.state p.pass-r.new.lines c.in-Stop.answer =
+    subst (λ (x : Onward). Passes a.text.now a.version l.loop-answer.s l.loop-answer.lines l.loop-answer.at l.loop-answer.n x p.pass-r.result.state p.pass-r.new.lines) c.in-Stop.is p.pass-r.ensures in
+    hands _ a.text.now c.in-Stop.answer (texts_of p.pass-r.result.state) p.pass-r.new.lines c.handed.result c.handed.ensures.0 c.handed.ensures.1 (l.loop-answer.invariant.3 ∙ q.same) q.sound
 
 enum-known-onward-2 : tie.Need-enum_known-onward-in-On-1 invariant-loop decreases-loop
 enum-known-onward-2 c = search rules

@@ -13,8 +13,7 @@ use Rattle.head.proofs.opening.pass.Tie as tie
 led : (c : tie.In-Row) →
     let r = c.before in
     let o = r.next_record.ensures in
-    let e = c.start.given.0 in
-    LeadsRow r.args.text.now o.at o.n e.0 e.1.0 e.1.1.0 e.1.1.1.0
+    LeadsRow r.args.text.now o.at o.n c.in-Row.start c.in-Row.end c.in-Row.next c.in-Row.n
 led c =
     let r = c.before in
     let o = r.next_record.ensures in
@@ -66,8 +65,7 @@ returns-2 c =
     let r = c.before in
     let a = r.args in
     let o = r.next_record.ensures in
-    let e = c.number.given in
-    past_bad a.text.now a.version a.s a.lines.now a.from a.passed o.at o.n o.past e.0.0 e.0.1.0 e.0.1.1.0 (subst (Leads a.text.now o.at o.n) e.1 o.leads)
+    past_bad a.text.now a.version a.s a.lines.now a.from a.passed o.at o.n o.past c.in-Bad.number c.in-Bad.line c.in-Bad.column (subst (Leads a.text.now o.at o.n) c.in-Bad.is o.leads)
 
 same_length : tie.Need-shape_of-lines
 same_length c = search rules

@@ -85,9 +85,8 @@ returns-2 c =
     let r = n in
     let o = r.args in
     let t = o.text.now in
-    let e = n.number.given in
-    hands _ t (Refused e.0.0 e.0.1.0 e.0.1.1.0) blank_texts o.lines.now c.refusal-in-Bad.result c.refusal-in-Bad.ensures.0 c.refusal-in-Bad.ensures.1
-    (first_bad t e.0.0 e.0.1.0 e.0.1.1.0 (subst (Leads t 0 0) e.1 r.row_from.ensures) (full blank_texts o.lines.now)) tt
+    hands _ t (Refused n.in-Bad.number n.in-Bad.line n.in-Bad.column) blank_texts o.lines.now c.refusal-in-Bad.result c.refusal-in-Bad.ensures.0 c.refusal-in-Bad.ensures.1
+    (first_bad t n.in-Bad.number n.in-Bad.line n.in-Bad.column (subst (Leads t 0 0) n.in-Bad.is r.row_from.ensures) (full blank_texts o.lines.now)) tt
 
 returns-3 : tie.Need-returns-in-Refused
 returns-3 c =

@@ -27,8 +27,7 @@ row-from-requires c κs = let i = c.loop-r.invariant in (i.within, i.few)
 -- the row that was found
 led : (c : tie.In-Row invariant-loop decreases-loop) →
     let l = c.before.before in
-    let e = c.r.given.0 in
-    LeadsRow l.args.text.now l.loop-r.at l.loop-r.n e.0 e.1.0 e.1.1.0 e.1.1.1.0
+    LeadsRow l.args.text.now l.loop-r.at l.loop-r.n c.in-Row.start c.in-Row.end c.in-Row.next c.in-Row.m
 led c =
     let f = c.before in
     let l = f.before in

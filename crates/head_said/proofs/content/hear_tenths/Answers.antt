@@ -7,4 +7,4 @@ use Rattle.head_said.specs.Records.{ranged_in}
 use Rattle.head_said.proofs.content.hear_tenths.Goals as goal
 
 pub returns : goal.returns
-returns c = told_alike _ _ c.ranged.result ∙ c.ranged.ensures ∙ ap (λ (x : Answer Fault (ℤ × Unit {0})). ranged_in c.args.low c.args.high x) c.tenths_record.ensures ∙ tenths_says _ _ _
+returns c = told_alike c.args.low c.args.high c.ranged.result ∙ c.ranged.ensures ∙ ap (λ (x : Answer Fault (ℤ × Unit {0})). ranged_in c.args.low c.args.high x) c.tenths_record.ensures ∙ tenths_says c.args.low c.args.high _

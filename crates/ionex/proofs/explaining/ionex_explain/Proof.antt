@@ -37,7 +37,7 @@ module _ (a : tie.After-explain-answer) where
   from = a.before.before.before.before
 
   explained : Explains (q (s from)) a.explain-answer.result
-  explained = rw (a.header_in-h.ensures, a.texts_in-x.ensures, to_z-of_z (s from).fits.lat, to_z-of_z (s from).fits.lon) at a.explain-answer.ensures
+  explained = rw (a.header_in-h.ensures, a.texts_in-x.ensures, to_z-of_z (s from).ranges.lat, to_z-of_z (s from).ranges.lon) at a.explain-answer.ensures
 
 too-short-requires : tie.Need-too_short-short-requires
 too-short-requires c κs = search rules
@@ -83,7 +83,7 @@ returns-2 c =
     let d = from a in
     let p = k.put_explained.ensures in
     let t = (s d).args in
-    rw (p.0, p.1.0, p.1.1) (answered (none (length t.header.now) (length t.texts.now) (length t.nodes.now) (length t.lacking.now) d.before.too_short.ensures (left d)) a.explain-answer.result (explained a))
+    rw (p.0, p.1.0, p.1.1) (answered (none (length t.header.now) (length t.texts.now) (length t.nodes.now) (length t.lacking.now) d.too_short-short.ensures (left d)) a.explain-answer.result (explained a))
 
 pub ionex_explain_spec : {M : Type 1} → statement M
 ionex_explain_spec = tie.close (tie.spec too-short-requires returns header-in-requires texts-in-requires sub-explain part-explain-start part-explain-end explain-requires put-explained-requires same_length same-length-2 returns-2)

@@ -29,7 +29,7 @@ module _ (d : tie.Else-short-gt0) where
 -- what was added, of the caller's numbers
 module _ (a : tie.After-add-answer) where
   abbrev from : tie.Else-short-gt0
-  from = a.before.before.before.before.before.before.before
+  from = a.before.before.before.before.before.before
 
   added : comes a.add-answer.result a.add-answer.last.1.1.1.1.1.1.1.1.1.1.0 ≡ outcome (week_at (s from).args.week.now) (set_of (s from).args.header.now (s from).args.texts.now (lent (s from)) (s from).args.rows.now)
   added =
@@ -86,7 +86,7 @@ returns-2 c =
     let d = from a in
     let p = k.put_added.ensures in
     cross_answer (s d).args.week.now (s d).args.header.now (s d).args.texts.now (lent (s d)) (s d).args.rows.now (s d).args.place.now
-    d.before.too_short.ensures (none d) a.add-answer.result (added a) p.0 p.1.0 p.1.1
+    d.too_short-short.ensures (none d) a.add-answer.result (added a) p.0 p.1.0 p.1.1
 
 pub ionex_week_add_spec : {M : Type 1} → statement M
 ionex_week_add_spec = tie.close (tie.spec too-short-requires returns week-in-requires header-in-requires texts-in-requires sub-add part-add-start part-add-end add-requires put-added-requires same_length same-length-2 same-length-3 returns-2)
