@@ -74,6 +74,7 @@ valued (w_close {k = k} {r = r} {rs} c hw) = valued_behind _ r rs (rec_label c (
 valued (w_file {r = r} {rs} c u hw) = valued_behind _ r rs (rec_label c known_maps.4) (valued hw)
 valued {h} (w_block {zs = zs} v {r} {vs} {rs} c o z y hw) =
     valued_behind _ r (vs ++ rs) (rec_label c known_maps.3) (subst (λ j. Valued (columns h.grid) j (vs ++ rs)) z (valued_block (columns h.grid) rs y (valued hw)))
+valued {h = h} (w_other {p = p} Tec {ms = ms} {r = r} {rs = rs} o c u v z hw) = elim o [ ]
 
 -- the same with other names for the sizes
 renamed : (N : Kind → ℕ) (s : Now) (n n' B B' C C' : ℕ) (rs rs' : List (List ℕ)) → n ≡ n' → B ≡ B' → C ≡ C' → rs ≡ rs' → All (Inside n B C N) (brought C s 0 rs) → All (Inside n' B' C' N) (brought C' s 0 rs')

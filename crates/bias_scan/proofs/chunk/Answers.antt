@@ -23,7 +23,7 @@ check-k-requires c =
     let a = c.args in
     let r = c.collect-c in
     let e = r.ensures in
-    (e.0, e.1, subst (λ (l : ℕ). Fence a.text.now r.result.rows l (take r.result.count r.new.1.1.0)) (sym e.7) e.2, omega (arith, e.4, e.7), e.8)
+    (e.0, e.1, subst (λ (l : ℕ). Fence a.text.now r.result.rows l (take r.result.count r.new.starts)) (sym e.7) e.2, omega (arith, e.4, e.7), e.8)
 
 pub returns : goal.returns
 returns c =

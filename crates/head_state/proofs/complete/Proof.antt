@@ -49,7 +49,7 @@ loop-again : tie.Need-loop-i-preserved invariant-loop decreases-loop
 loop-again c =
     let l = c.before.before in
     let s = l.args.s in
-    let next = ⊎_elim (λ w. got_one s l.loop-i.i (omega arith) (not-false _ w.2.left)) (λ w. may_miss s l.loop-i.i (omega arith) (not-false _ w.left)) c.if-not-i.branch in
+    let next = ⊎_elim (λ w. got_one s l.loop-i.i (omega arith) (not-false _ (ap not w.if-not-s-i.false))) (λ w. may_miss s l.loop-i.i (omega arith) (not-false _ (ap not w.if-not-i.false))) c.if-not-i.branch-raw in
     (omega arith, sym next ∙ l.loop-i.invariant.1)
 
 returns-2 : tie.Need-returns invariant-loop decreases-loop

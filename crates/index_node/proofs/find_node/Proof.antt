@@ -32,7 +32,7 @@ known : (c : tie.Else-kind-ge3) → c.args.kind < 3
 known c = omega (arith, c.if-kind-ge3.false)
 
 fit : (c : tie.Else-not-fits) → Fit (x c.before.before.before.before.before.before.before)
-fit c = says_true (Fit (x c.before.before.before.before.before.before.before)) c.fits2.result c.fits2.ensures (not-false _ (ap not c.if-not-fits.false))
+fit c = says_true (Fit (x c.before.before.before.before.before.before.before)) c.fits.result c.fits.ensures (not-false _ (ap not c.if-not-fits.false))
 
 within : (c : tie.Else-not-in_grid) → Inside c.args.header (q c.before.before.before.before.before.before.before.before.before)
 within c = let a = c.args in inside a.header a.kind a.map a.layer a.row a.column (says_true (InGrid a.header a.map a.layer a.row a.column) c.in_grid.result c.in_grid.ensures (not-false _ (ap not c.if-not-in_grid.false)))
@@ -57,7 +57,7 @@ fits-requires : tie.Need-fits-requires
 fits-requires c κs = search rules
 
 returns-2 : tie.Need-returns-then-not-fits
-returns-2 c = unfit _ _ _ (known c.before.before) (says_false (Fit (x c.before.before.before.before.before.before.before)) c.fits2.result c.fits2.ensures (not-true _ (ap not c.if-not-fits.true)))
+returns-2 c = unfit _ _ _ (known c.before.before) (says_false (Fit (x c.before.before.before.before.before.before.before)) c.fits.result c.fits.ensures (not-true _ (ap not c.if-not-fits.true)))
 
 in-grid-requires : tie.Need-in_grid-requires
 in-grid-requires c κs = search rules

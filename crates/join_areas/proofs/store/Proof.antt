@@ -44,7 +44,7 @@ left-requires c κs = search rules
 needed-requires : tie.Need-needed-need-requires
 needed-requires c κs =
     let s = c.before.before.before.before.before.before.before.before.before.before.before in
-    let z = c.type_size.ensures in
+    let z = c.size_of-size.ensures in
     let h = c.joined_header-header.ensures in
     few s.args.early s.args.late h z.0 z.1 z.2 s.requires.limits
 
@@ -60,7 +60,7 @@ enum_told c = search rules
 fill-all-requires : tie.Need-fill_all-requires
 fill-all-requires c κs =
     let s = c.before.before.before.before.before.before.before.before.before.before.before.before.before.before.before.before.before.before.before.before in
-    let z = c.type_size.ensures in
+    let z = c.size_of-size.ensures in
     let h = c.joined_header-header.ensures in
     let e = sym c.room_for.ensures ∙ ap fit c.in-Enough.is in
     fillable_by s.args.early s.args.late h z.0 z.1 z.2 (six s.args.atec.now s.args.arms.now s.args.aheight.now s.args.aexponents.now s.args.aepochs.now s.args.amarks.now) (six s.args.btec.now s.args.brms.now s.args.bheight.now s.args.bexponents.now s.args.bepochs.now s.args.bmarks.now) (six s.args.tec.now s.args.rms.now s.args.height.now s.args.exponents.now s.args.epochs.now s.args.marks.now) c.left.ensures c.needed-need.ensures e s.requires
@@ -68,7 +68,7 @@ fill-all-requires c κs =
 returns : tie.Need-returns-in-Short
 returns c =
     let s = c.before.before.before.before.before.before.before.before.before.before.before.before.before.before in
-    let z = c.type_size.ensures in
+    let z = c.size_of-size.ensures in
     let h = c.joined_header-header.ensures in
     let e = sym c.room_for.ensures ∙ ap fit c.in-Short.is in
     short_put s.args.early s.args.late h z.0 z.1 z.2 (six s.args.atec.now s.args.arms.now s.args.aheight.now s.args.aexponents.now s.args.aepochs.now s.args.amarks.now) (six s.args.btec.now s.args.brms.now s.args.bheight.now s.args.bexponents.now s.args.bepochs.now s.args.bmarks.now) (six s.args.tec.now s.args.rms.now s.args.height.now s.args.exponents.now s.args.epochs.now s.args.marks.now) c.left.ensures c.needed-need.ensures _ _ e
@@ -94,7 +94,7 @@ same-length-6 c = search rules
 returns-2 : tie.Need-returns-in-Enough
 returns-2 c =
     let s = c.before.before.before.before.before.before.before.before.before.before.before.before.before.before.before.before.before.before.before.before.before.before.before.before.before.before.before.before.before in
-    let z = c.type_size.ensures in
+    let z = c.size_of-size.ensures in
     let h = c.joined_header-header.ensures in
     let e = sym c.room_for.ensures ∙ ap fit c.in-Enough.is in
     done_put s.args.early s.args.late h z.0 z.1 z.2 (six s.args.atec.now s.args.arms.now s.args.aheight.now s.args.aexponents.now s.args.aepochs.now s.args.amarks.now) (six s.args.btec.now s.args.brms.now s.args.bheight.now s.args.bexponents.now s.args.bepochs.now s.args.bmarks.now) (six s.args.tec.now s.args.rms.now s.args.height.now s.args.exponents.now s.args.epochs.now s.args.marks.now) c.left.ensures c.needed-need.ensures e _ c.fill_all.ensures

@@ -39,7 +39,7 @@ part-step-end c = omega (arith, (led c).inside, (led c).whole)
 step-requires : tie.Need-step-requires
 step-requires c κs =
     let k = c.before in
-    let f = (led k).ranges in
+    let f = (led k).fits in
     let t = k.args.text.now in
     let e : length (take (k.in-Row.end - k.in-Row.start) (drop k.in-Row.start t)) ≤ 80 = simp (length-take, length-drop) (omega arith) in
     (e, k.requires.1)

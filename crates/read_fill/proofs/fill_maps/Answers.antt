@@ -14,19 +14,19 @@ scan-requires c =
     let b = c.before.before.before.before.before.before.before.before.before.before.before.before.before.before.before.before.before.before.before in
     let a = b.args in
     let l = six a.tec.now a.rms.now a.height.now a.exponents.now a.epochs.now a.marks.now in
-    let en = b.requires.1 in
+    let en = b.requires.enough in
     let p = c.prefill.ensures in
-    let x = ap length p.1.1.0 ∙ fill_length (negsuc 0) (3 * (a.size.maps * a.size.blocks)) a.exponents.now en.exponents in
-    let y = ap length p.1.1.1 ∙ fill_length 0 a.size.maps a.marks.now en.marks in
-    let m = b.requires.0.1 in
+    let x = ap length p.exponents_after ∙ fill_length (negsuc 0) (3 * (a.size.maps * a.size.blocks)) a.exponents.now en.exponents in
+    let y = ap length p.marks_after ∙ fill_length 0 a.size.maps a.marks.now en.marks in
+    let m = b.requires.at_in_bounds.1 in
     let e = to_z-of_z b.ranges.exponent in
-    (rw e (ready_cleared a.size.maps a.size.blocks a.size.columns a.r a.t a.exponent (drop a.at a.text.now) l en m.0 m.1 p.0 p.1.0 p.1.1.0 p.1.1.1), (b.requires.0.0, values_there a.size.maps a.size.blocks a.size.columns a.r a.t a.exponent (drop a.at a.text.now) l en m.0 m.1, omega (arith, x, en.exponents), en.epochs, omega (arith, y, en.marks)))
+    record { stores_inside = rw e (ready_cleared a.size.maps a.size.blocks a.size.columns a.r a.t a.exponent (drop a.at a.text.now) l en m.0 m.1 p.rms_after p.height_after p.exponents_after p.marks_after); storable = (b.requires.at_in_bounds.0, values_there a.size.maps a.size.blocks a.size.columns a.r a.t a.exponent (drop a.at a.text.now) l en m.0 m.1, omega (arith, x, en.exponents), en.epochs, omega (arith, y, en.marks)) }
 
 pub returns : goal.returns
 returns c =
     let b = c.before.before.before.before.before.before.before.before.before.before.before.before.before.before.before.before.before.before.before.before.before.before.before.before.before.before.before.before in
     let a = b.args in
     let l = six a.tec.now a.rms.now a.height.now a.exponents.now a.epochs.now a.marks.now in
-    let en = b.requires.1 in
+    let en = b.requires.enough in
     let p = c.prefill.ensures in
-    λ m acc. all_filled a.size.maps a.size.blocks a.size.columns a.r a.t a.exponent (drop a.at a.text.now) l en m acc p.0 p.1.0 p.1.1.0 p.1.1.1 (rw (to_z-of_z b.ranges.exponent) at c.scan.ensures)
+    λ m acc. all_filled a.size.maps a.size.blocks a.size.columns a.r a.t a.exponent (drop a.at a.text.now) l en m acc p.rms_after p.height_after p.exponents_after p.marks_after (rw (to_z-of_z b.ranges.exponent) at c.scan.ensures)

@@ -13,4 +13,4 @@ returns c =
     let b = c.before.before.before.before in
     let a = b.args in
     let f = c.fill_block in
-    block_put a.text.now a.at a.columns a.from a.area.now b.requires.1.0 _ _ f.ensures f.auto.1.1.1.0
+    block_put a.text.now a.at a.columns a.from a.area.now b.requires.1.0 _ _ f.ensures f.auto.out

@@ -12,7 +12,7 @@ use Rattle.read_fill.proofs.Going.{going_start, going_sized, going_turned, going
 use Rattle.read_fill.proofs.scan.Goals as goal
 
 pub loop-at-init : goal.loop-at-init
-loop-at-init c = let b = c.before.before.before in going_start b.args.exponent _ (to_z-of_z b.ranges.exponent) b.requires.1.0 b.requires.1.1 b.requires.0
+loop-at-init c = let b = c.before.before.before in going_start b.args.exponent _ (to_z-of_z b.ranges.exponent) b.requires.storable.0 b.requires.storable.1 b.requires.stores_inside
 
 pub step_at-step-requires : goal.step_at-step-requires
 step_at-step-requires c =
@@ -20,7 +20,7 @@ step_at-step-requires c =
     let g = c.loop-at.invariant in
     let x : length b.args.epochs.now < 9223372036854775808 = search rules in
     let y : length b.args.exponents.now < 9223372036854775808 = search rules in
-    (c.loop-at-test.true, (omega (arith, g.small.0, b.requires.1.3, x), omega (arith, g.small.1, b.requires.1.2, y)))
+    (c.loop-at-test.true, (omega (arith, g.small.0, b.requires.storable.3, x), omega (arith, g.small.1, b.requires.storable.2, y)))
 
 pub store-at-requires : goal.store-at-requires
 store-at-requires c =
@@ -28,13 +28,13 @@ store-at-requires c =
     let g = c.loop-at.invariant in
     let a = going_turned g c.step_at-step.ensures in
     let z = going_sized g in
-    (inside_now g c.step_at-step.ensures, (a.within, a.valued, omega (arith, z.exponents, b.requires.1.2), omega (arith, z.epochs, b.requires.1.3), omega (arith, z.marks, b.requires.1.4)))
+    record { stores_inside = inside_now g c.step_at-step.ensures; storable = (a.within, a.valued, omega (arith, z.exponents, b.requires.storable.2), omega (arith, z.epochs, b.requires.storable.3), omega (arith, z.marks, b.requires.storable.4)) }
 
 pub loop-at-smaller : goal.loop-at-smaller
-loop-at-smaller c = lighter c.step_at-step.ensures c.store-at.ensures.1
+loop-at-smaller c = lighter c.step_at-step.ensures c.store-at.ensures.resumed
 
 pub loop-at-preserved : goal.loop-at-preserved
-loop-at-preserved c = going_more (going_turned c.loop-at.invariant c.step_at-step.ensures) c.store-at.ensures.0 c.store-at.ensures.1
+loop-at-preserved c = going_more (going_turned c.loop-at.invariant c.step_at-step.ensures) c.store-at.ensures.marks_after c.store-at.ensures.resumed
 
 pub shape_of-tec : goal.shape_of-tec
 shape_of-tec c = (going_sized c.loop-at.invariant).tec

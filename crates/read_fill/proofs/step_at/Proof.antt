@@ -40,7 +40,7 @@ part-brought-by-end c = omega (arith, (led c).inside, (led c).whole)
 brought-by-requires : tie.Need-brought_by-b-requires
 brought-by-requires c κs =
     let k = c.before in
-    let f = (led k).ranges in
+    let f = (led k).fits in
     let t = k.args.text.now in
     let e : length (take (k.in-Row.end - k.in-Row.start) (drop k.in-Row.start t)) ≤ 80 = simp (length-take, length-drop) (omega arith) in
     (e, k.requires.1)

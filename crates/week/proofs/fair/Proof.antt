@@ -38,7 +38,7 @@ returns-3 : tie.Need-returns
 returns-3 c =
     let s = c.before.before.before.before.before.before in
     let t = s.args.t in
-    both (dec_le (nat_abs t.sum) (t.given * 99_999_000)) (fit? t.given t.range) (rw (sum_is c.before.before) at c.within.ensures) c.fits2.ensures
+    both (dec_le (nat_abs t.sum) (t.given * 99_999_000)) (fit? t.given t.range) (rw (sum_is c.before.before) at c.within.ensures) c.fits.ensures
     ∙ truth_same (×_dec (dec_le (nat_abs t.sum) (t.given * 99_999_000)) (fit? t.given t.range)) (fair? s.args.sets t) (λ h. (omega arith, h)) (λ h. h.1)
 
 pub fair_spec : {M : Type 1} → statement M

@@ -34,14 +34,14 @@ module _ (l : tie.At-loop-d invariant-loop decreases-loop) where
   abbrev C : ℕ
   C = G.columns s.args.header.grid
 
-  force_is : to_z w32 (of_z w32 s.args.in-force) ≡ s.args.in-force
-  force_is = to_z-of_z s.ranges.in-force
+  force_is : to_z w32 (of_z w32 s.args.in_force) ≡ s.args.in_force
+  force_is = to_z-of_z s.ranges.in_force
 
   module _ (h : l.loop-d.d < length s.args.es.now) where
     inside : l.loop-d.from + C ≤ length s.args.vs.now
     inside = part_inside l.loop-d.d (length s.args.es.now) C l.loop-d.from (length s.args.vs.now) l.loop-d.invariant.1 (s.requires.1.values ∙ ap (λ n. n * C) (sym s.requires.1.exponents)) h
 
-    here : PutsOn s.args.out.now s.args.at (block_rows s.args.header 0 s.args.in-force (map_blocks s.args.header s.args.es.now s.args.vs.now) []) l.loop-d.out l.loop-d.next
+    here : PutsOn s.args.out.now s.args.at (block_rows s.args.header 0 s.args.in_force (map_blocks s.args.header s.args.es.now s.args.vs.now) []) l.loop-d.out l.loop-d.next
         (one_block s.args.header l.loop-d.d (to_z w32 l.loop-d.held) (get_or s.args.es.now l.loop-d.d (pos 0)) (take C (drop l.loop-d.from s.args.vs.now))
         ++ blocks_from s.args.header C s.args.es.now s.args.vs.now (l.loop-d.d + 1) (l.loop-d.from + C) (get_or s.args.es.now l.loop-d.d (pos 0)))
     here = rw (force_is, blocks_next s.args.header C s.args.es.now s.args.vs.now l.loop-d.d l.loop-d.from (to_z w32 l.loop-d.held) h) at l.loop-d.invariant.2
@@ -65,7 +65,7 @@ nodes-requires c κs = search rules
 loop-holds : tie.Need-loop-d-init invariant-loop decreases-loop
 loop-holds c =
     let s = c.before.before in
-    (omega arith, omega arith, rw (blocks_start s.args.header s.args.es.now s.args.vs.now (to_z w32 (of_z w32 s.args.in-force)) s.requires.1.exponents) leads_self)
+    (omega arith, omega arith, rw (blocks_start s.args.header s.args.es.now s.args.vs.now (to_z w32 (of_z w32 s.args.in_force)) s.requires.1.exponents) leads_self)
 
 mul-exponent : tie.Need-offset_bounds-es-d invariant-loop decreases-loop
 mul-exponent c = search rules
@@ -109,7 +109,7 @@ loop-again c =
       omega arith,
       ap (λ n. l.loop-d.from + n) l.nodes-columns.ensures ∙ part_next _ _ _ _ _ l.loop-d.invariant.1 refl h,
       rw (force_is l.before, exponent_is c.before.before.before.before.before.before)
-          (subst (λ (n : ℕ). PutsOn (s l.before).args.out.now (s l.before).args.at (block_rows (s l.before).args.header 0 (s l.before).args.in-force (map_blocks (s l.before).args.header (s l.before).args.es.now (s l.before).args.vs.now) [])
+          (subst (λ (n : ℕ). PutsOn (s l.before).args.out.now (s l.before).args.at (block_rows (s l.before).args.header 0 (s l.before).args.in_force (map_blocks (s l.before).args.header (s l.before).args.es.now (s l.before).args.vs.now) [])
           c.put_block-next.new.out c.put_block-next.result
           (blocks_from (s l.before).args.header (C l.before) (s l.before).args.es.now (s l.before).args.vs.now (l.loop-d.d + 1) (l.loop-d.from + n) (get_or (s l.before).args.es.now l.loop-d.d (pos 0)))) (sym l.nodes-columns.ensures) p),
     )

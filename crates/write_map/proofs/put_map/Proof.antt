@@ -17,20 +17,20 @@ use Rattle.write_map.proofs.put_map.Tie as tie
 
 module _ (s : tie.Start) where
   abbrev rows_at : List (List ℕ)
-  rows_at = block_rows s.args.header 0 s.args.in-force (map_blocks s.args.header s.args.es.now s.args.vs.now) []
+  rows_at = block_rows s.args.header 0 s.args.in_force (map_blocks s.args.header s.args.es.now s.args.vs.now) []
 
   abbrev close_row : List (List ℕ)
   close_row = row_of (end s.args.kind) (pos s.args.number, tt) ∷ []
 
   abbrev all : List (List ℕ)
-  all = one_map s.args.kind s.args.header s.args.number s.args.epoch s.args.in-force (map_blocks s.args.header s.args.es.now s.args.vs.now)
+  all = one_map s.args.kind s.args.header s.args.number s.args.epoch s.args.in_force (map_blocks s.args.header s.args.es.now s.args.vs.now)
 
   begins : PutsOn s.args.out.now s.args.at all s.args.out.now s.args.at (row_of (start s.args.kind) (pos s.args.number, tt) ∷ (epoch_rows s.args.kind s.args.epoch ++ (rows_at ++ close_row)))
   unfolding one_map
   begins = leads_self
 
-  force_is : to_z w32 (of_z w32 s.args.in-force) ≡ s.args.in-force
-  force_is = to_z-of_z s.ranges.in-force
+  force_is : to_z w32 (of_z w32 s.args.in_force) ≡ s.args.in_force
+  force_is = to_z-of_z s.ranges.in_force
 
 started : (c : tie.After-put_start-first) → let s = c.before.before.before in PutsOn s.args.out.now s.args.at (all s) c.put_start-first.new.out c.put_start-first.result (epoch_rows s.args.kind s.args.epoch ++ (rows_at s ++ close_row s))
 started c = leads_next (begins c.before.before.before) c.put_start-first.ensures

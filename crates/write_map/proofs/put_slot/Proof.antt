@@ -28,8 +28,8 @@ module _ (s : tie.Start) where
   abbrev bs : List Block
   bs = slot_blocks s.args.header s.args.es.now s.args.vs.now s.args.from
 
-  force_is : to_z w32 (of_z w32 s.args.in-force) ≡ s.args.in-force
-  force_is = to_z-of_z s.ranges.in-force
+  force_is : to_z w32 (of_z w32 s.args.in_force) ≡ s.args.in_force
+  force_is = to_z-of_z s.ranges.in_force
 
   width : s.args.end - s.args.from ≡ per_map s.args.header * G.columns s.args.header.grid
   width = omega (arith, s.requires.width)
@@ -45,8 +45,8 @@ returns c =
     let s = c.before.before.before in
     let n = truth_false _ (sym c.present.ensures ∙ not-true _ (ap not c.if-not-present.true)) in
     record {
-      put = rw (map_absent s.args.kind s.args.header s.args.number s.args.epoch s.args.mark s.args.in-force (bs s) n) put_none;
-      force = force_is s ∙ sym (force_absent s.args.kind s.args.mark s.args.in-force (bs s) n);
+      put = rw (map_absent s.args.kind s.args.header s.args.number s.args.epoch s.args.mark s.args.in_force (bs s) n) put_none;
+      force = force_is s ∙ sym (force_absent s.args.kind s.args.mark s.args.in_force (bs s) n);
     }
 
 mul-put-map : tie.Need-offset_bounds-vs-from
@@ -67,7 +67,7 @@ put-map-requires c κs =
     let p = is_there c.before.before in
     let v = s.requires.values p in
     rw (force_is s, width s) (
-      record { fine = s.requires.ready.fine; room = rw (map_there s.args.kind s.args.header s.args.number s.args.epoch s.args.mark s.args.in-force (bs s) p) at s.requires.ready.room },
+      record { fine = s.requires.ready.fine; room = rw (map_there s.args.kind s.args.header s.args.number s.args.epoch s.args.mark s.args.in_force (bs s) p) at s.requires.ready.room },
       record { exponents = s.requires.exponents; values = length-take-le _ _ (omega (arith, length-drop s.args.from s.args.vs.now, s.requires.width)) },
       s.requires.number,
     )
@@ -91,10 +91,10 @@ returns-2 c =
     let s = c.before.before.before.before.before.before.before.before.before in
     let p = is_there c.before.before.before.before.before.before in
     record {
-      put = rw (map_there s.args.kind s.args.header s.args.number s.args.epoch s.args.mark s.args.in-force (bs s) p) (rw (force_is s, width s) at c.put_map-next.ensures);
+      put = rw (map_there s.args.kind s.args.header s.args.number s.args.epoch s.args.mark s.args.in_force (bs s) p) (rw (force_is s, width s) at c.put_map-next.ensures);
       force = to_z-of_z (record { sfits = c.result-1.given }) ∙ ap (λ n. get_or s.args.es.now (n - 1) (pos 0)) s.requires.exponents
-          ∙ sym (force_there s.args.kind s.args.mark s.args.in-force (bs s) p
-          ∙ last_in_force (G.columns s.args.header.grid) s.args.in-force (per_map s.args.header) s.args.es.now (take (per_map s.args.header * G.columns s.args.header.grid) (drop s.args.from s.args.vs.now)) s.requires.exponents (some_blocks s.args.header));
+          ∙ sym (force_there s.args.kind s.args.mark s.args.in_force (bs s) p
+          ∙ last_in_force (G.columns s.args.header.grid) s.args.in_force (per_map s.args.header) s.args.es.now (take (per_map s.args.header * G.columns s.args.header.grid) (drop s.args.from s.args.vs.now)) s.requires.exponents (some_blocks s.args.header));
     }
 
 pub put_slot_spec : {M : Type 1} → statement M

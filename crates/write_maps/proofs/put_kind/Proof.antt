@@ -49,10 +49,10 @@ module _ (l : tie.At-loop-i invariant-loop decreases-loop) where
   abbrev s : tie.Start invariant-loop decreases-loop
   s = start n
 
-  force_is : to_z w32 (of_z w32 s.args.in-force) ≡ s.args.in-force
-  force_is = to_z-of_z s.ranges.in-force
+  force_is : to_z w32 (of_z w32 s.args.in_force) ≡ s.args.in_force
+  force_is = to_z-of_z s.ranges.in_force
 
-  going : Going s.args.kind s.args.header s.args.epochs.now s.args.marks.now s.args.exponents.now s.args.values.now s.args.in-force s.args.out.now s.args.at l.loop-i.out l.loop-i.next (to_z w32 l.loop-i.force) l.loop-i.i l.loop-i.begin l.loop-i.from
+  going : Going s.args.kind s.args.header s.args.epochs.now s.args.marks.now s.args.exponents.now s.args.values.now s.args.in_force s.args.out.now s.args.at l.loop-i.out l.loop-i.next (to_z w32 l.loop-i.force) l.loop-i.i l.loop-i.begin l.loop-i.from
   going = rw force_is at l.loop-i.invariant
 
   inside : l.loop-i.i < s.args.header.times.maps → l.loop-i.begin + n.per_map-blocks.result ≤ length s.args.exponents.now
@@ -80,7 +80,7 @@ loop-holds : tie.Need-loop-i-init invariant-loop decreases-loop
 loop-holds c = let n = c.before in going_start (c.blocks_before-begin.ensures ∙ ap (A.first_of (start n).args.kind) (all_is n))
 
 add-last : tie.Need-overflow_add-last invariant-loop decreases-loop
-add-last c = let l = c.before in omega (arith, inside l (omega arith), (s l).well-formed.1.1.1.1.1.1.1.0)
+add-last c = let l = c.before in omega (arith, inside l (omega arith), (s l).well_formed.1.1.1.1.1.1.1.0)
 
 add-end : tie.Need-overflow_add-end invariant-loop decreases-loop
 add-end c = let l = c.before in omega (arith, going_few (s l).requires (going l) (n l).per_map-blocks.ensures (width_is (n l)) (omega arith))
@@ -98,7 +98,7 @@ shared-slice-read-put-slot-2 : tie.Need-bounds-marks-i invariant-loop decreases-
 shared-slice-read-put-slot-2 c = let l = c.before.before.before.before in omega (arith, (s l).requires.marks)
 
 mul-put-slot-2 : tie.Need-offset_bounds-exponents-begin invariant-loop decreases-loop
-mul-put-slot-2 c = let l = c.before.before.before.before in omega (arith, inside l (omega arith), (s l).well-formed.1.1.1.1.1.1.1.0)
+mul-put-slot-2 c = let l = c.before.before.before.before in omega (arith, inside l (omega arith), (s l).well_formed.1.1.1.1.1.1.1.0)
 
 sub-put-slot : tie.Need-slice_bounds-put_slot-count invariant-loop decreases-loop
 sub-put-slot c = omega arith
