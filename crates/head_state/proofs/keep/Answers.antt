@@ -17,5 +17,5 @@ unfolding kept bind
 returns-in-Said c =
     let a = c.args in
     let n : length a.s.seen ≡ 22 = search rules in
-    let m : length a.s.values ≡ 22 = sym (length-map a.s.values _) ∙ c.well_formed.0.1.1.1.1.1.0.1.0.1 in
+    let m : length a.s.values ≡ 22 = c.well_formed.0.1.1.1.1.1.0.1.0.1 in
     rw c.in-Said.is (ap (λ (z : Slots). ok (went (mode a.s.aux) a.s.exponent z a.s.descriptions)) (value_kept a.s a.i _ (omega arith) (omega arith) c.requires.1))

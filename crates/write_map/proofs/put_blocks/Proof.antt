@@ -50,7 +50,7 @@ module _ (l : tie.At-loop-d invariant-loop decreases-loop) where
   width = omega (arith, l.nodes-columns.ensures)
 
 exponent_is : (c : tie.After-exponent-1 invariant-loop decreases-loop) → let l = c.before.before in to_z w32 (of_z w32 (get_or (s l).args.es.now l.loop-d.d (pos 0))) ≡ get_or (s l).args.es.now l.loop-d.d (pos 0)
-exponent_is c = to_z-of_z (record { sfits = c.exponent-1.given })
+exponent_is c = to_z-of_z {w = w32} (record { sfits = c.exponent-1.given })
 
 put_of : (c : tie.After-put_block-next invariant-loop decreases-loop) → let l = c.before.before.before.before.before in
     Put l.loop-d.out l.loop-d.next (one_block (s l.before).args.header l.loop-d.d (to_z w32 l.loop-d.held) (get_or (s l.before).args.es.now l.loop-d.d (pos 0)) (take (C l.before) (drop l.loop-d.from (s l.before).args.vs.now)))

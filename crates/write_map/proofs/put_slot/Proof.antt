@@ -92,7 +92,7 @@ returns-2 c =
     let p = is_there c.before.before.before.before.before.before in
     record {
       put = rw (map_there s.args.kind s.args.header s.args.number s.args.epoch s.args.mark s.args.in_force (bs s) p) (rw (force_is s, width s) at c.put_map-next.ensures);
-      force = to_z-of_z (record { sfits = c.result-1.given }) ∙ ap (λ n. get_or s.args.es.now (n - 1) (pos 0)) s.requires.exponents
+      force = to_z-of_z {w = w32} (record { sfits = c.result-1.given }) ∙ ap (λ n. get_or s.args.es.now (n - 1) (pos 0)) s.requires.exponents
           ∙ sym (force_there s.args.kind s.args.mark s.args.in_force (bs s) p
           ∙ last_in_force (G.columns s.args.header.grid) s.args.in_force (per_map s.args.header) s.args.es.now (take (per_map s.args.header * G.columns s.args.header.grid) (drop s.args.from s.args.vs.now)) s.requires.exponents (some_blocks s.args.header));
     }
