@@ -8,7 +8,7 @@ ROOT = Path(__file__).resolve().parent.parent
 
 def crates():
     """The crates, bottom up."""
-    return re.findall(r"^([a-z0-9_]+):", (ROOT / "crates.txt").read_text(), re.M)
+    return re.findall(r"^([a-z0-9_]+)(?: staticlib)?:", (ROOT / "crates.txt").read_text(), re.M)
 
 
 def serve(script, papers, shown, said):
