@@ -2,17 +2,17 @@
 
 A decision is a hole under its type, and so is what told theorems say all of. A theorem leads from its statement to itself:
 the statement is read, and nothing is to be proved. A clause of a contract is a definition over the parameters as they come
-(`·entry`) and as they are left (`·exit`).
+(`·old`) and as they are left (`·new`), and over the result.
 """
 import re
 import subprocess
 
-from .sources import Antt, Item, indent, words
+from .sources import VARIANTS, Antt, Item, indent, words
 
 NUMBERS = {**dict.fromkeys(["u8", "u16", "u32", "u64", "usize"], "ℕ"), **dict.fromkeys(["i8", "i16", "i32", "i64", "isize"], "ℤ"),
            "f64": "Float", "bool": "Bool"}
 IMPLICIT = re.compile(r"\{([^{}=:]+:(?:[^{}]|\{[^{}]*\})*)\}")  # {x : A}, which may not stand within a type
-BASE = {"ℕ": "Prim.Native.Nat", "ℤ": "lib.IntN", "Float": "lib.Ieee", "Bool": "mathlib.Core.Bool", "List": "mathlib.Core.List"}
+BASE = {**dict.fromkeys(["ℕ", "ℤ", "Bool", "List"], "Rattle.std.specs.Prelude"), "Float": "Rattle.std.specs.Float.Ieee"}
 
 
 def label(file):
@@ -28,7 +28,7 @@ def logical(kind):
 
 class Crate:
     def __init__(self, text, folder, left_out):
-        self.text, self.folder, self.own = text, folder, f"Rattle·{folder.name}·specs.specs"
+        self.text, self.folder, self.own = text, folder, f"Rattle.{folder.name}.specs"
         self.items = {item for item in text.items | set(text.theorems) if item.key not in left_out}
         self.files, self.code = {}, {}
         for item in sorted(self.items, key=lambda item: item.place):
@@ -74,7 +74,7 @@ class Crate:
         find, names, heads = self.text.repo.find, set(said), {word.split(".")[0] for word in said if "." in word}
         for module, brought, _ in file.uses:
             for new, old in brought.items():
-                if new in names or ("_" in new and set(filter(None, new.split("_"))) <= names):
+                if new in names or ("◌" in new and set(filter(None, new.split("◌"))) <= names):
                     target = self.target(module, find(module, old, file))
                     if target:
                         yield f"use {target}.{{{old}{'' if new == old else f' as {new}'}}}"
@@ -91,7 +91,7 @@ class Crate:
         if isinstance(found, Item) and found not in self.items:
             return None
         if isinstance(found, Item) and found.kind == "code":
-            variants = ".the-variants" if module.endswith(".the-variants") else ""
+            variants = VARIANTS if module.endswith(VARIANTS) else ""
             return f"{self.own}.declared.{found.file.crate}.{found.name}{variants}"
         file = found.file if isinstance(found, Item) else found
         return f"{self.own}.{label(file)}" if file in self.files else None
@@ -101,7 +101,7 @@ class Crate:
         lines, here = [], [function for function in self.text.functions if function.file is file]
         for function in here:
             for number, (word, term) in enumerate(file.contract(function)):
-                lines += self.clause(function, f"{word}-{function.name}-{number}".replace("_", "-"), word, term)
+                lines += self.clause(function, f"{word}_{function.name}_{number}", word, term)
         kinds = {item for item in self.text.named(here) if isinstance(item, Item) and item.kind == "code" and item in self.items}
         uses = [*self.uses(file, words(lines)), *(f"use {self.target('', item)}.{{{item.name}}}" for item in kinds)]
         uses += [f"use {module}.{{{name}}}" for name, module in BASE.items() if name not in file.imports]
@@ -111,13 +111,15 @@ class Crate:
         parameters, returned = function.file.parameters(function)
         binders, names = "", []
         for parameter, kind in parameters:
-            now = [f"{parameter}·entry", f"{parameter}·exit"] if "[" in kind else [parameter]
+            now = [f"{parameter}·old", f"{parameter}·new"] if "[" in kind else [parameter]
             names += now
             binders += f"({' '.join(now)} : {logical(kind)}) → "
-            term = re.sub(rf"\bnow \({parameter} \.(entry|exit)\)", rf"{parameter}·\1", term)
-        term = " ".join(re.sub(r"\bnow r\b", "r", term).replace("⌜", "(").replace("⌝", ")").split())
+            term = re.sub(rf"\b{parameter}\.(old|now)\b", f"{parameter}·old" if "[" in kind else parameter, term)
+            term = re.sub(rf"\b{parameter}\.new\b", f"{parameter}·new", term)
         gives = f"{logical(returned)} → Type 0" if word == "ensures" else "Type 0"
-        return ["", f"abbrev pub {name} : {binders}{gives}", f"{name} {' '.join(names)} = {term}"]
+        term = re.sub(r"\bresult\.now\b", "result", term)
+        names += ["result"] * (word == "ensures")
+        return ["", f"abbrev pub {name} : {binders}{gives}", f"{name} {' '.join(names)} = {' '.join(term.split())}"]
 
 
 def write(text, folder, left_out=()):
@@ -133,7 +135,7 @@ def write(text, folder, left_out=()):
 def confirm(text, folder, left_out=()):
     """Have the prover check the crate: no error, and no hole but those that are there on purpose."""
     said, holes = write(text, folder, left_out)
-    run = subprocess.run(["rt", "check", folder.name, "--allow-holes"], capture_output=True, text=True, cwd=folder.parent)
+    run = subprocess.run(["rt", "check", folder.name, "--allow-holes"], capture_output=True, text=True, cwd=folder)
     lines = (run.stdout + run.stderr).split("\n")
     if f"holes={holes}" not in lines or any(": error:" in line for line in lines):
         wrong = [line for line in lines if "error" in line] or lines

@@ -1,7 +1,7 @@
 """The trusted text as one page to read, and its counts as tables."""
 import re
 
-from .sources import words
+from .sources import VARIANTS, words
 
 FENCE = "```"
 HEAD = """# The trusted text
@@ -31,7 +31,7 @@ def renamed(file, said):
     """What a file calls by another name than where it stands: `use` lines are not shown."""
     names, heads = set(said), {word.split(".")[0] for word in said if "." in word}
     for module, items, _ in file.uses:
-        where = re.sub(r"^Rattle·(\w+?)(?:·\w+)?\.(?:specs|proofs)\.(?:declared\.)?", r"\1/", module).removesuffix(".the-variants")
+        where = re.sub(r"^Rattle\.(\w+)\.(?:specs|proofs)\.(?:declared\.)?", r"\1/", module).removesuffix(VARIANTS)
         yield from (f"`{new}` is `{old}` of {where}" for new, old in items.items() if new != old and new in names)
         yield from (f"`{alias}.` is of {where}" for alias, other in file.aliases.items()
                     if other == module and alias in heads and not where.endswith(f"/{alias}"))

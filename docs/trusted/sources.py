@@ -8,11 +8,13 @@ import re
 from dataclasses import dataclass, field
 
 NAME = r'[^\s(){}.;,@"]+'
-TOKEN = re.compile(rf'"(?:\\.|[^"\\])*"|--.*|(?<![^\s(])\.{NAME}|{NAME}(?:\.{NAME})*|[(){{}}.;,@]')
+TOKEN = re.compile(rf'"(?:\\.|[^"\\])*"|--.*|(?<![^\s(){{}}])\.{NAME}|{NAME}(?:\.{NAME})*|[(){{}}.;,@]')
 MARKS = {"unfoldable", "abbrev", "pub", "axiom"}
 KEYWORDS = {"data", "record", "where", "let", "in", "λ", "→", "×", ":", "=", "_", "Type", "↦", "|", "[", "]", "unfolding", "elim", "∀"}
 USE = re.compile(r"((?:ghost |unfoldable |pub )*)use ([^{;\s]+?)(?:\.\{(.*)\})?(?: as (\S+?))?;?$")
-OURS = re.compile(r"Rattle·(\w+?)(?:·(?:specs|proofs))?\.(specs|proofs)\.(.+)$")
+OURS = re.compile(r"Rattle\.(\w+)\.(specs|proofs)\.(.+)$")
+USED = re.compile(r"^(?:pub )?use ([^;]+);", re.M)
+VARIANTS = ".TheVariants"
 
 
 def words(lines):
@@ -66,6 +68,14 @@ def signature(said):
 
 def indent(line):
     return len(line) - len(line.lstrip())
+
+
+def spread(path):
+    """The paths of a `use` of the code, as a::b and a::c of a::{b, c}."""
+    front, brace, inner = path.partition("{")
+    if not brace:
+        return [path.strip()]
+    return [whole for part in re.split(r",(?![^{]*\})", inner.strip().removesuffix("}")) if part.strip() for whole in spread(front.strip() + part.strip())]
 
 
 def behind(lines, at, end):
@@ -167,7 +177,7 @@ class Source:
         if names is None:
             self.aliases[alias or module.split(".")[-1]] = module
         for new, old in items.items():
-            for piece in [new, *new.split("_")]:  # an operator's name is _+_
+            for piece in [new, *new.split("◌")]:  # an operator's name is ◌+◌
                 self.imports[piece] = (module, old)
 
     def find(self, word):
@@ -272,6 +282,9 @@ class Rattle(Source):
 
     def cut(self):
         self.label, self.paths = f"{self.crate}/{self.module}.rt", {}
+        for path in (path for used in USED.findall("\n".join(self.lines)) for path in spread(used)):
+            said, _, new = path.partition(" as ")
+            self.paths[new or said.split("::")[-1]] = said.split("::")
         comment, owner = [], ""
         for row, line in enumerate(self.lines):
             if found := re.match(r"(?:pub )?(?:struct|enum|const|type) (\w+)", line):
@@ -280,14 +293,16 @@ class Rattle(Source):
             elif found := re.match(r'\s*pub (extern "C" )?fn (\w+)', line):
                 end = next(at for at in range(row, len(self.lines)) if self.lines[at].endswith("{"))
                 self.items.append(Item(self, found[2], "fn", comment, range(row, end), owner=owner, exported=bool(found[1])))
-            elif line.startswith("ghost use "):
+            elif line.strip().startswith("ghost use "):
                 self.use(line)
-            elif found := re.match(r"(?:pub )?use ([\w:]+);", line):
-                self.paths[found[1].split("::")[-1]] = found[1].split("::")
             elif found := re.match(r"impl (\w+)|\}", line):
                 owner = found[1] or ""
             if not line.strip().startswith("#["):
                 comment = comment + [row] if line.strip().startswith("//") else []
+
+    def find(self, word):
+        """What a word of a clause means here: a type or constant of the code needs no import there."""
+        return super().find(word) or self.type(word.partition(".")[0])
 
     def type(self, name):
         """A type or constant that a piece of code names, or None."""
@@ -318,7 +333,8 @@ class Rattle(Source):
             return self.types(self.text(item).split(item.name, 1)[1]) - {item}
         pairs, returned = self.parameters(item)
         found = self.types(" ".join([returned, *(kind for _, kind in pairs)]))
-        return found.union(*(self.follow(words(term.split("\n")), {name for name, _ in pairs}) for _, term in self.contract(item)))
+        names = {"result", *(name for name, _ in pairs)}
+        return found.union(*(self.follow(words(term.split("\n")), names) for _, term in self.contract(item)))
 
 
 class Repo:
@@ -326,7 +342,7 @@ class Repo:
 
     def __init__(self, root):
         self.root, self.files = root, {}
-        self.crates = re.findall(r"^([a-z0-9_]+):", (root / "crates.txt").read_text(), re.M)
+        self.crates = re.findall(r"^([a-z0-9_]+)(?: staticlib)?:", (root / "crates.txt").read_text(), re.M)
 
     def file(self, path):
         if path not in self.files:
@@ -346,19 +362,24 @@ class Repo:
             raise SystemExit(f"there is no type {'::'.join([crate, *path])}")
         return source.type(path[-1])
 
+    def ours(self, module):
+        """What a module's path says of a module of ours; None of the kit's."""
+        found = OURS.match(module)
+        return found if found and found[1] in self.crates else None
+
     def module(self, module):
         """The file that a module of ours is; None of the kit's, and of the code's types."""
-        ours = OURS.match(module)
+        ours = self.ours(module)
         if ours and not ours[3].startswith("declared."):
             return self.file(f"crates/{ours[1]}/{ours[2]}/{ours[3].replace('.', '/')}.antt")
 
     def find(self, module, name, user):
         """What a name of a module is: a word of the kit, a type of the code, or a declaration, perhaps handed on by `pub use`."""
-        ours, file = OURS.match(module), self.module(module)
+        ours, file = self.ours(module), self.module(module)
         if not ours:
             return module, name
         if not file:
-            return self.type(ours[1], ours[3].removesuffix(".the-variants").split(".")[1:])
+            return self.type(ours[1], ours[3].removesuffix(VARIANTS).split(".")[1:])
         if name in file.names:
             return file.names[name]
         for other, items, public in file.uses:

@@ -31,9 +31,9 @@ EXAMPLES = "Texts, map sets and questions", THEOREMS
 # these say what it accepts and what it refuses, and what to lay beside the second tier. With rules for its refusals a body is no
 # part of the text; without, it is the second tier.
 CUT = {
-    "reading/Read.read": (["reads-exactly", "refused-exactly-at"], "layout/Layout.Makes", "refusals/Faulty.Faulty",
+    "reading/Read.read": (["reads_exactly", "refused_exactly_at"], "layout/Layout.Makes", "refusals/Faulty.Faulty",
                           "01, 'What comes back', the table of refusals"),
-    "biases/Read.biases": (["biases-exactly"], "biases/Rules.Makes", "", "02, Ask 7, the refusals"),
+    "biases/Read.biases": (["biases_exactly"], "biases/Rules.Makes", "", "02, Ask 7, the refusals"),
 }
 
 TIERS = {1: "What is accepted and answered", 2: "Which refusal, and where", 3: "What the worked examples are about"}

@@ -1,6 +1,11 @@
 // Reads IONEX text from standard input and prints it as canonical text, or one line that says why not.
+#![tactic(auto)]
+
 ghost use Rattle.std.specs.Prelude.{◌≡◌, ◌≤◌, length};
 ghost use Rattle.canon.specs.Input.{Within};
+
+use std::io;
+use std::io::{Read, Stdin};
 
 // What was read: so many bytes, which are all of the input or fill the buffer; or that a read failed.
 #[derive(Clone, Copy)]
@@ -9,26 +14,22 @@ enum Input {
     Failed,
 }
 
-fn read_input(buffer: &mut [u8]) -> Input
+fn read_input(mut stdin: Stdin, buffer: &mut [u8]) -> Input
     ensures { Within result buffer.new }
 {
     let mut n: usize = 0;
     while n < buffer.len() {
-        let got = libc::read(libc::STDIN_FILENO, &mut buffer[n..]);
-        if got < 0 {
-            return Input::Failed;
+        match stdin.read(&mut buffer[n..]) {
+            Ok(0) => return Input::Bytes(n),
+            Ok(k) => n += k,
+            Err(_) => return Input::Failed,
         }
-        let k = io::count(got, &buffer[n..]);
-        if k == 0 {
-            return Input::Bytes(n);
-        }
-        n += k;
     }
     Input::Bytes(n)
 }
 
 // Prints what is answered of the text in the buffer's first n bytes.
-fn print_answer(buffer: &[u8], n: usize)
+fn print_answer(rt: &impl Print, buffer: &[u8], n: usize) -> io::Result<()>
     requires { (length buffer.now ≡ 32769) × (n ≤ 32769) }
 {
     let mut tec = [0i32; 4000];
@@ -49,17 +50,15 @@ fn print_answer(buffer: &[u8], n: usize)
         &mut marks,
         &mut out,
     );
-    io::write_all(libc::STDOUT_FILENO, &out[..k]);
+    rt.write_all(&out[..k])
 }
 
-fn main() {
+fn main(rt: HostRuntime) -> io::Result<()> {
     // one byte more than a text may have
     let mut buffer = [0u8; 32769];
-    let input = read_input(&mut buffer);
+    let input = read_input(rt.stdin(), &mut buffer);
     match input {
-        Input::Bytes(n) => print_answer(&buffer, n),
-        Input::Failed => {
-            io::write_all(libc::STDOUT_FILENO, b"input cannot be read\n");
-        }
+        Input::Bytes(n) => print_answer(&rt, &buffer, n),
+        Input::Failed => rt.write_all(b"input cannot be read\n"),
     }
 }

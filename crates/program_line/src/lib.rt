@@ -1,4 +1,6 @@
 // The one-line answers: why a text is refused, each with its LF.
+#![tactic(auto)]
+
 ghost use Rattle.std.specs.Prelude.{◌++◌, ◌+◌, ◌≤◌, length};
 ghost use Rattle.forms.specs.Show.{digits};
 ghost use Rattle.read_outcome.specs.Outcome.{told_reason};

@@ -1,0 +1,15 @@
+-- `program_line::put_area` meets its contract.
+use native.Mathlib.Omega.{arith}
+use Rattle.forms.specs.Show.{digits}
+use Rattle.layout.specs.Labels.{bytes}
+use Rattle.program_line.specs.Lines.{area_line}
+use Rattle.program_line.proofs.LineLaws.{pair_then, last, begins}
+use Rattle.program_line.proofs.put_area.Goals as goal
+
+pub returns : goal.returns
+unfolding area_line
+returns c =
+    begins
+    (pair_then (bytes "refused 11 area ") (digits 1 c.args.area) c.put_pair-a.ensures.0
+    (pair_then (bytes " needs ") (digits 1 c.args.need) c.put_pair-b.ensures.0 (last c.put.ensures)))
+    (omega (arith, c.put_pair-a.ensures.1, c.put_pair-b.ensures.1, c.put.ensures.moved))
