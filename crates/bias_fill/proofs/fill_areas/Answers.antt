@@ -1,15 +1,16 @@
 -- `bias_fill::fill_areas` meets its contract.
-use mathlib.Core.Path.{◌≡◌, refl, subst}
+use mathlib.Core.Path.{◌≡◌, refl, sym, subst}
 use mathlib.Core.Bool.{Bool, false}
 use borrow.Author.Tests.{not-true, not-false}
 use borrow.Author.Rules.{rules}
 use Rattle.bias_fill.specs.Flat.{lent}
 use Rattle.bias_fill.specs.Filled.{Stays}
+use Rattle.bias_fill.specs.declared.Fill.{Fill}
 use Rattle.bias_fill.proofs.FilledLaws.{starts, goes_on, comes_nearer}
 use Rattle.bias_fill.proofs.fill_areas.Goals as goal
 
 pub loop-f-init : goal.loop-f-init
-loop-f-init c = rw c.past-f.ensures (starts c.args.text.now (lent c.args.satellites.now c.args.stations.now c.args.names.now) c.requires, refl, refl, refl)
+loop-f-init c = (subst (λ (f : Fill). Stays c.args.text.now (lent c.args.satellites.now c.args.stations.now c.args.names.now) f (lent c.args.satellites.now c.args.stations.now c.args.names.now) f.done) (sym c.past-f.ensures) (starts c.args.text.now (lent c.args.satellites.now c.args.stations.now c.args.names.now) c.requires), refl, refl, refl)
 
 pub fill_row-f-requires : goal.fill_row-f-requires
 fill_row-f-requires c = (subst (λ (b : Bool). Stays c.args.text.now (lent c.args.satellites.now c.args.stations.now c.args.names.now) c.loop-f.f (lent c.loop-f.satellites c.loop-f.stations c.loop-f.names) b) (not-true c.loop-f.f.done c.loop-f-test.true) c.loop-f.invariant.0).0

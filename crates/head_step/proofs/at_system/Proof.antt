@@ -17,8 +17,8 @@ use Rattle.head_step.proofs.at_system.Tie as tie
 use Rattle.labels.specs.Letters.{if_below}
 use Rattle.head_step.specs.Step.{by_letter, system_at}
 
-at_letter : (c : tie.After-letter_place-j) → let a = c.args in system_at a.t1 (pad a.line.now) (if_below 7 c.letter_place-j.result) ≡ by_letter a.t1 (pad a.line.now)
-at_letter c = let a = c.args in letter_is a.t1 a.line.now c.letter_place-j.result c.byte_at.result c.byte_at.ensures c.letter_place-j.ensures
+at_letter : (c : tie.After-letter_place-j) → let a = c.args in system_at a.s (pad a.line.now) (if_below 7 c.letter_place-j.result) ≡ by_letter a.s (pad a.line.now)
+at_letter c = let a = c.args in letter_is a.s a.line.now c.letter_place-j.result c.byte_at.result c.byte_at.ensures c.letter_place-j.ensures
 
 byte-at-requires : tie.Need-byte_at-requires
 byte-at-requires c κs = search rules
@@ -64,7 +64,7 @@ returns-3 c =
     let k : told_heard (content (15 + l.letter_place-j.result)) h.hear_system.result ≡ entry system (pad a.line.now) =
     subst (λ (k : Content). told_heard k h.hear_system.result ≡ entry system (pad a.line.now)) (sym (system_content l.letter_place-j.result)) h.hear_system.ensures in
     rw (← (at_letter l), lt-ltb _ _ c.if-j-ge7.false)
-    (c.keep.ensures ∙ ap (kept a.t1 (15 + l.letter_place-j.result)) k ∙ sym (is_fresh a.t1 (15 + l.letter_place-j.result) _ (omega arith) c.if-s-i.false))
+    (c.keep.ensures ∙ ap (kept a.s (15 + l.letter_place-j.result)) k ∙ sym (is_fresh a.s (15 + l.letter_place-j.result) _ (omega arith) c.if-s-i.false))
 
 pub at_system_spec : {M : Type 1} → statement M
 at_system_spec = tie.close (tie.spec byte-at-requires letter-place-requires no-system-requires returns add-i element-copy-out-if2 refuse-requires returns-2 hear-system-requires keep-requires returns-3)

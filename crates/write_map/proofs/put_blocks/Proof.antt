@@ -42,9 +42,9 @@ module _ (l : tie.At-loop-d invariant-loop decreases-loop) where
     inside = part_inside l.loop-d.d (length s.args.es.now) C l.loop-d.from (length s.args.vs.now) l.loop-d.invariant.1 (s.requires.1.values ∙ ap (λ n. n * C) (sym s.requires.1.exponents)) h
 
     here : PutsOn s.args.out.now s.args.at (block_rows s.args.header 0 s.args.in_force (map_blocks s.args.header s.args.es.now s.args.vs.now) []) l.loop-d.out l.loop-d.next
-        (one_block s.args.header l.loop-d.d (to_z w32 l.loop-d.held) (get_or s.args.es.now l.loop-d.d (pos 0)) (take C (drop l.loop-d.from s.args.vs.now))
+        (one_block s.args.header l.loop-d.d (to_z w32 l.loop-d.held-bits) (get_or s.args.es.now l.loop-d.d (pos 0)) (take C (drop l.loop-d.from s.args.vs.now))
         ++ blocks_from s.args.header C s.args.es.now s.args.vs.now (l.loop-d.d + 1) (l.loop-d.from + C) (get_or s.args.es.now l.loop-d.d (pos 0)))
-    here = rw (force_is, blocks_next s.args.header C s.args.es.now s.args.vs.now l.loop-d.d l.loop-d.from (to_z w32 l.loop-d.held) h) at l.loop-d.invariant.2
+    here = rw (force_is, blocks_next s.args.header C s.args.es.now s.args.vs.now l.loop-d.d l.loop-d.from (to_z w32 l.loop-d.held-bits) h) at l.loop-d.invariant.2
 
   width : l.loop-d.from + l.nodes-columns.result - l.loop-d.from ≡ C
   width = omega (arith, l.nodes-columns.ensures)
@@ -53,7 +53,7 @@ exponent_is : (c : tie.After-exponent-1 invariant-loop decreases-loop) → let l
 exponent_is c = to_z-of_z {w = w32} (record { sfits = c.exponent-1.given })
 
 put_of : (c : tie.After-put_block-next invariant-loop decreases-loop) → let l = c.before.before.before.before.before in
-    Put l.loop-d.out l.loop-d.next (one_block (s l.before).args.header l.loop-d.d (to_z w32 l.loop-d.held) (get_or (s l.before).args.es.now l.loop-d.d (pos 0)) (take (C l.before) (drop l.loop-d.from (s l.before).args.vs.now)))
+    Put l.loop-d.out l.loop-d.next (one_block (s l.before).args.header l.loop-d.d (to_z w32 l.loop-d.held-bits) (get_or (s l.before).args.es.now l.loop-d.d (pos 0)) (take (C l.before) (drop l.loop-d.from (s l.before).args.vs.now)))
     c.put_block-next.new.out c.put_block-next.result
 put_of c =
     let l = c.before.before.before.before.before in
@@ -77,7 +77,7 @@ add-end : tie.Need-overflow_add-end invariant-loop decreases-loop
 add-end c = let l = c.before.before in omega (arith, inside l (omega arith), (s l).requires.1.values, few_values (s l).args.header (s l).requires.0.fine, l.nodes-columns.ensures)
 
 mul-put-block : tie.Need-offset_bounds-vs-from invariant-loop decreases-loop
-mul-put-block c = let l = c.before.before.before in omega (arith, inside l (omega arith), (s l.before).requires.1.values, few_values (s l.before).args.header (s l.before).requires.0.fine)
+mul-put-block c = let l = c.before.before.before in omega (arith, inside l.before (omega arith), (s l.before).requires.1.values, few_values (s l.before).args.header (s l.before).requires.0.fine)
 
 sub-put-block : tie.Need-slice_bounds-put_block-count invariant-loop decreases-loop
 sub-put-block c = search rules
@@ -86,14 +86,14 @@ part-put-block-start : tie.Need-slice_bounds-put_block-start invariant-loop decr
 part-put-block-start c = search rules
 
 part-put-block-end : tie.Need-slice_bounds-put_block-end invariant-loop decreases-loop
-part-put-block-end c = let l = c.before.before.before in let h = inside l (omega arith) in let e = l.nodes-columns.ensures in search rules
+part-put-block-end c = let l = c.before.before.before in let h = inside l.before (omega arith) in let e = l.nodes-columns.ensures in search rules
 
 put-block-requires : tie.Need-put_block-next-requires invariant-loop decreases-loop
 put-block-requires c κs =
     let l = c.before.before.before.before in
     let h : l.loop-d.d < length (s l.before).args.es.now = omega arith in
     rw (width l.before, exponent_is c.before.before.before)
-    (placed (s l.before).args.header.grid l.loop-d.d (s l.before).requires.0.fine.axes.heights (s l.before).requires.0.fine.axes.latitudes (s l.before).requires.0.fine.limits.2 (s l.before).requires.0.fine.limits.0 (omega (arith, (s l.before).requires.1.exponents)), room_front _ _ ((here l h).room (s l.before).requires.0.room))
+    (placed (s l.before).args.header.grid l.loop-d.d (s l.before).requires.0.fine.axes.heights (s l.before).requires.0.fine.axes.latitudes (s l.before).requires.0.fine.limits.2 (s l.before).requires.0.fine.limits.0 (omega (arith, (s l.before).requires.1.exponents)), room_front _ _ ((here l.before h).room (s l.before).requires.0.room))
 
 add-d : tie.Need-overflow_add-d invariant-loop decreases-loop
 add-d c = search rules
@@ -105,7 +105,7 @@ loop-again : tie.Need-loop-d-preserved invariant-loop decreases-loop
 loop-again c =
     let l = c.before.before.before.before.before.before.before in
     let h : l.loop-d.d < length (s l.before).args.es.now = omega arith in
-    let p = leads_on _ _ (here l h) (put_of c.before.before) in (
+    let p = leads_on _ _ (here l.before h) (put_of c.before.before) in (
       omega arith,
       ap (λ n. l.loop-d.from + n) l.nodes-columns.ensures ∙ part_next _ _ _ _ _ l.loop-d.invariant.1 refl h,
       rw (force_is l.before, exponent_is c.before.before.before.before.before.before)
@@ -120,7 +120,7 @@ same_length c = c.loop-d.invariant.2.size
 returns : tie.Need-returns invariant-loop decreases-loop
 returns c =
     let l = c.before in
-    let e = blocks_end (s l).args.header (C l) (s l).args.es.now (s l).args.vs.now l.loop-d.d l.loop-d.from (to_z w32 l.loop-d.held) (omega arith) in
+    let e = blocks_end (s l).args.header (C l) (s l).args.es.now (s l).args.vs.now l.loop-d.d l.loop-d.from (to_z w32 l.loop-d.held-bits) (omega arith) in
     (rw (force_is l, e) at l.loop-d.invariant.2).rest _ _ put_none
 
 pub put_blocks_spec : {M : Type 1} → statement M
