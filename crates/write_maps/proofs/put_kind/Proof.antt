@@ -52,7 +52,7 @@ module _ (l : tie.At-loop-i invariant-loop decreases-loop) where
   force_is : to_z w32 (of_z w32 s.args.in_force) ≡ s.args.in_force
   force_is = to_z-of_z s.ranges.in_force
 
-  going : Going s.args.kind s.args.header s.args.epochs.now s.args.marks.now s.args.exponents.now s.args.values.now s.args.in_force s.args.out.now s.args.at l.loop-i.out l.loop-i.next (to_z w32 l.loop-i.force) l.loop-i.i l.loop-i.begin l.loop-i.from
+  going : Going s.args.kind s.args.header s.args.epochs.now s.args.marks.now s.args.exponents.now s.args.values.now s.args.in_force s.args.out.now s.args.at l.loop-i.out l.loop-i.next (to_z w32 l.loop-i.force-bits) l.loop-i.i l.loop-i.begin l.loop-i.from
   going = rw force_is at l.loop-i.invariant
 
   inside : l.loop-i.i < s.args.header.times.maps → l.loop-i.begin + n.per_map-blocks.result ≤ length s.args.exponents.now
@@ -124,7 +124,7 @@ loop-again : tie.Need-loop-i-preserved invariant-loop decreases-loop
 loop-again c =
     let a = c.before.before.before in
     let l = a.before.before.before.before.before.before in
-    let e = to_z-of_z (record { sfits = c.struct_told-1.given.1.0.1 }) in
+    let e = to_z-of_z {w = w32} (record { sfits = c.struct_told-1.given.1.0.1 }) in
     rw (force_is l) (going_next (s l).requires (going l) (n l).per_map-blocks.ensures (width_is (n l)) (omega arith) a.put_slot-reached.result e a.put_slot-reached.ensures)
 
 same_length : tie.Need-shape_of-out invariant-loop decreases-loop

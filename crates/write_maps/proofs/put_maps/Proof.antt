@@ -55,7 +55,7 @@ module _ (c : tie.After-put_kind-a) where
   lead1 = leads_on (area_rows s1.args.header (a s1) K.Tec (negsuc 0)) (others s1) leads_self tec.put
 
 force1 : (c : tie.After-struct_told-1) → to_z w32 (of_z w32 c.put_kind-a.result.exponent) ≡ k1 (s1 c.before.before.before.before)
-force1 c = to_z-of_z (record { sfits = c.struct_told-1.given.1.0.1 }) ∙ (tec c.before.before.before.before).force
+force1 c = to_z-of_z {w = w32} (record { sfits = c.struct_told-1.given.1.0.1 }) ∙ (tec c.before.before.before.before).force
 
 put-kind-requires-2 : tie.Need-put_kind-b-requires
 put-kind-requires-2 c κs =
@@ -71,14 +71,14 @@ module _ (c : tie.After-put_kind-b) where
   abbrev s2 : tie.Start
   s2 = s1 c1
 
-  rms : PutTo c1.put_kind-a.last.0 c1.put_kind-a.result.at (area_rows s2.args.header (a s2) K.Rms (k1 s2)) (k2 s2) c.put_kind-b.new.out c.put_kind-b.result
+  rms : PutTo c1.put_kind-a.new.out c1.put_kind-a.result.at (area_rows s2.args.header (a s2) K.Rms (k1 s2)) (k2 s2) c.put_kind-b.new.out c.put_kind-b.result
   rms = area_put s2.args.header (a s2) s2.requires.long K.Rms (k1 s2) _ (force1 c.before) c.put_kind-b.ensures
 
   lead2 : PutsOn s2.args.out.now s2.args.at (all_rows s2.args.header (a s2)) c.put_kind-b.new.out c.put_kind-b.result.at (heights s2)
   lead2 = leads_on (area_rows s2.args.header (a s2) K.Rms (k1 s2)) (heights s2) (lead1 c1) rms.put
 
 force2 : (c : tie.After-struct_told-2-1) → to_z w32 (of_z w32 c.put_kind-b.result.exponent) ≡ k2 (s2 c.before.before.before.before)
-force2 c = to_z-of_z (record { sfits = c.struct_told-2-1.given.1.0.1 }) ∙ (rms c.before.before.before.before).force
+force2 c = to_z-of_z {w = w32} (record { sfits = c.struct_told-2-1.given.1.0.1 }) ∙ (rms c.before.before.before.before).force
 
 put-kind-requires-3 : tie.Need-put_kind-c-requires
 put-kind-requires-3 c κs =
@@ -94,7 +94,7 @@ module _ (c : tie.After-put_kind-c) where
   abbrev s3 : tie.Start
   s3 = s2 c2
 
-  height : PutTo c2.put_kind-b.last.0 c2.put_kind-b.result.at (area_rows s3.args.header (a s3) K.Height (k2 s3)) (area_force s3.args.header (a s3) K.Height (k2 s3)) c.put_kind-c.new.out c.put_kind-c.result
+  height : PutTo c2.put_kind-b.new.out c2.put_kind-b.result.at (area_rows s3.args.header (a s3) K.Height (k2 s3)) (area_force s3.args.header (a s3) K.Height (k2 s3)) c.put_kind-c.new.out c.put_kind-c.result
   height = area_put s3.args.header (a s3) s3.requires.long K.Height (k2 s3) _ (force2 c.before) c.put_kind-c.ensures
 
   lead3 : PutsOn s3.args.out.now s3.args.at (all_rows s3.args.header (a s3)) c.put_kind-c.new.out c.put_kind-c.result.at (last_row s3)

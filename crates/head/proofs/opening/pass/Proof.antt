@@ -44,7 +44,7 @@ part-step-end : tie.Need-slice_bounds-step-end
 part-step-end c = omega (arith, (led c).inside, (led c).whole)
 
 step-requires : tie.Need-step-r-requires
-step-requires c κs = let k = c.before.before in let f = (led k).ranges in (simp (length-take, length-drop) (omega arith), k.requires.2.holds)
+step-requires c κs = let k = c.before.before in let f = (led k).fits in (simp (length-take, length-drop) (omega arith), k.requires.2.holds)
 
 add-led-to : tie.Need-overflow_add-n
 add-led-to c = let k = led c.before.before.before.before.before.before in omega (arith, k.passed, k.ahead, k.within)
