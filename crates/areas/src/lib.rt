@@ -1,1 +1,2 @@
 // All of it is in specs/ and proofs/.
+#![tactic(auto)]

@@ -1,4 +1,6 @@
 // The value at a place and second.
+#![tactic(auto)]
+
 ghost use Rattle.std.specs.Prelude.{◌≡◌};
 ghost use Rattle.std.proofs.Math.Decide.{dec_lt};
 ghost use Rattle.kit.specs.Answer.{×_dec};

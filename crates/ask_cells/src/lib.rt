@@ -1,4 +1,6 @@
 // Where a place lies among the rows and columns of a grid.
+#![tactic(auto)]
+
 ghost use Rattle.std.specs.Prelude.{◌≡◌, ◌*◌, ◌≤◌, ◌<◌, ◌^◌, ℤ, pos, nat_abs, ◌+ℤ◌, ◌-ℤ◌, ◌*ℤ◌};
 ghost use Rattle.ask_cells.specs.Place.{Turned};
 ghost use Rattle.kit.specs.Integer.{int?};

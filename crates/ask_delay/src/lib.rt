@@ -1,4 +1,6 @@
 // The delay at a place and second: the question asked, and its TECU turned into metres (02, request 13).
+#![tactic(auto)]
+
 ghost use Rattle.mapset.specs.Described.{full};
 ghost use Rattle.mapset.specs.Areas.{six};
 ghost use Rattle.ask.specs.Ask.{question, told as told_asked};

@@ -1,4 +1,6 @@
 // Whole-number arithmetic with a sign: a weighted sum, and its one rounding.
+#![tactic(auto)]
+
 ghost use Rattle.std.specs.Prelude.{◌≡◌, ◌+◌, ◌*◌, ◌<◌, ◌≤◌, ◌^◌, ℤ, pos, nat_abs, ◌+ℤ◌, ◌*ℤ◌};
 ghost use Rattle.ask_round.specs.Rounded.{round_abs, rounded};
 

@@ -1,4 +1,6 @@
 // Which maps a second falls between.
+#![tactic(auto)]
+
 ghost use Rattle.std.specs.Prelude.{◌+◌, ◌≤◌, ◌<◌, length};
 ghost use Rattle.kit.specs.Truth.{Says};
 ghost use Rattle.ask_spans.specs.Time.{epoch, Uses, Close};

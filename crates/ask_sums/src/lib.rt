@@ -1,4 +1,6 @@
 // The nodes that a question looks at with their weights, and the weighted sum.
+#![tactic(auto)]
+
 ghost use Rattle.std.specs.Prelude.{◌≡◌, ◌*◌, ◌≤◌, ◌<◌, pos, get_or};
 ghost use Rattle.ask_nodes.specs.Value.{corner, kind_of, value};
 ghost use Rattle.ask_sums.specs.Mean.{corners, spread, terms};

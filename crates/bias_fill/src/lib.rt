@@ -1,4 +1,6 @@
 // The second scan of a header for its biases: what each row gives is stored in three lent areas.
+#![tactic(auto)]
+
 ghost use Rattle.std.specs.Prelude.{◌≡◌, [], ◌∷◌, ◌+◌, ◌*◌, ◌<◌, ◌≤◌, length, pos};
 ghost use Rattle.std.proofs.lemmas.List.Edits.{sets};
 ghost use Rattle.bias_fill.specs.Flat.{four, three, lent};

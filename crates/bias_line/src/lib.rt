@@ -1,4 +1,6 @@
 // A line of a header as the bias reading takes it: what it is, and what a satellite's or a station's record says.
+#![tactic(auto)]
+
 ghost use Rattle.std.specs.Prelude.{◌≡◌, [], ◌∷◌, ◌+◌, ◌≤◌, length};
 ghost use Rattle.forms.specs.Columns.{columns};
 ghost use Rattle.layout.specs.Text.{pad};

@@ -1,4 +1,6 @@
 // The header of a text once more, for its biases: row by row, which satellites and stations were given, and the first fault.
+#![tactic(auto)]
+
 ghost use Rattle.std.specs.Prelude.{◌≡◌, ◌+◌, ◌<◌, ◌≤◌, length, take};
 ghost use Rattle.kit.specs.Answer.{all_dec, ¬_dec};
 ghost use Rattle.kit.specs.Range.{Within};

@@ -1,4 +1,6 @@
 // A text's biases into three lent areas: judged first, and stored only where nothing is wrong and each area is long enough.
+#![tactic(auto)]
+
 ghost use Rattle.std.specs.Prelude.{◌≡◌, [], ◌∷◌, ◌*◌, ◌<◌};
 ghost use Rattle.read_needs.specs.Needs.{fit, first_short};
 ghost use Rattle.bias_scan.specs.Judged.{Gives};

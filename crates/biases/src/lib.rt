@@ -1,4 +1,5 @@
 // What a bias block tells, and where the reading of the header stands: the code's types and those of the definitions are the same.
+#![tactic(auto)]
 
 // The system is its letter, G or R; bias and RMS in thousandths of a nanosecond.
 #[derive(Clone, Copy)]

@@ -1,4 +1,6 @@
 // An answer as it crosses to other languages: its number, and what it brings in areas of the call's own.
+#![tactic(auto)]
+
 ghost use Rattle.mapset.specs.Described.{full};
 ghost use Rattle.std.specs.Prelude.{◌≡◌, [], ◌∷◌, ◌≤◌, length};
 ghost use Rattle.kit.specs.Lists.{front};

@@ -1,4 +1,6 @@
 // Biases as they cross to other languages: a number, the three areas, and two areas of the call's own.
+#![tactic(auto)]
+
 ghost use Rattle.std.specs.Prelude.{◌≤◌, length};
 ghost use Rattle.bias_text.specs.Biased.{told};
 ghost use Rattle.c_biases.specs.BiasesExported.{BiasesCross};

@@ -1,4 +1,6 @@
 // The header record and texts that a caller's numbers and bytes stand for.
+#![tactic(auto)]
+
 ghost use Rattle.std.specs.Prelude.{◌≡◌, ◌+◌, ◌≤◌, length};
 ghost use Rattle.c_given.specs.Given.{bounded, axis_number, stands_of, nth, count_at, version_of, times_of, model_of, axis_at, grid_of, counted_at, system_at, systems_of, header_of, five_of};
 

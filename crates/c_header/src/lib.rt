@@ -1,4 +1,6 @@
 // The header record as numbers, and its texts as bytes, in the areas of a caller in another language.
+#![tactic(auto)]
+
 ghost use Rattle.mapset.specs.Described.{full};
 ghost use Rattle.std.specs.Prelude.{◌≡◌, [], ◌∷◌, ◌+◌, ◌≤◌, ◌<◌, length, pos};
 ghost use Rattle.std.proofs.lemmas.List.Edits.{sets};

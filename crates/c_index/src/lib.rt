@@ -1,4 +1,6 @@
 // A node or a block by an index, as the answer crosses to other languages: its number, and what it brings in an area of the call's own.
+#![tactic(auto)]
+
 ghost use Rattle.std.specs.Prelude.{◌≡◌, ◌≤◌, length};
 ghost use Rattle.kit.specs.Lists.{front};
 ghost use Rattle.index_node.specs.Told.{number};

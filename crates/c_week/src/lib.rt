@@ -1,4 +1,6 @@
 // A week as numbers in an area of a caller in another language, and the answer of adding to it.
+#![tactic(auto)]
+
 ghost use Rattle.std.specs.Prelude.{◌≡◌, ◌+◌, ◌≤◌, length};
 ghost use Rattle.kit.specs.Lists.{front};
 ghost use Rattle.week.specs.Sane.{SmallWeek, SmallAnswer};

@@ -1,4 +1,6 @@
 // An explanation as it crosses to other languages: its number, and the nodes or the one without a value in areas of the call's own.
+#![tactic(auto)]
+
 ghost use Rattle.std.specs.Prelude.{◌≡◌, ◌+◌, ◌≤◌, ◌<◌, pos, length};
 ghost use Rattle.std.proofs.lemmas.List.Edits.{sets};
 ghost use Rattle.kit.specs.Lists.{front};

@@ -1,3 +1,5 @@
+#![tactic(auto)]
+
 ghost use Rattle.std.specs.Prelude.{◌≡◌, ◌<◌, pos};
 ghost use Rattle.kit.specs.Range.{Natural};
 ghost use Rattle.kit.specs.Truth.{Says};

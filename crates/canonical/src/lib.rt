@@ -1,1 +1,2 @@
 // writer
+#![tactic(auto)]

@@ -1,4 +1,6 @@
 // The years by their formula, and the walk through the months.
+#![tactic(auto)]
+
 ghost use Rattle.std.specs.Prelude.{◌≡◌, ◌≤◌, ◌<◌};
 ghost use Rattle.days.specs.Sums.{sum, Place};
 ghost use Rattle.days.specs.Years.{row, month_days, year_days};

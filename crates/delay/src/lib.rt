@@ -1,4 +1,6 @@
 // The group delay in metres of a TEC answer at a carrier (02, request 13).
+#![tactic(auto)]
+
 ghost use Rattle.delay.specs.Delay.{told, Delays};
 
 use ask_nodes::MilliTecu;

@@ -1,3 +1,5 @@
+#![tactic(auto)]
+
 ghost use Rattle.std.specs.Prelude.{◌≡◌, true, [], ◌∷◌, ◌++◌, ◌+◌, ◌-◌, ◌<◌, ◌≤◌, length, get_or};
 ghost use Rattle.forms.specs.Form.{I, F1, F3, decimal, numeral, signed, dot};
 ghost use Rattle.forms.specs.Read.{read_field, is_number};

@@ -1,4 +1,5 @@
 // What stands in the number fields of a line, and where: the code's answers and those of the definitions are the same.
+#![tactic(auto)]
 
 // What stands in a number field.
 #[derive(Clone, Copy)]

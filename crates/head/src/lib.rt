@@ -1,4 +1,6 @@
 // The header of a text: its version record, its records in any order, END OF HEADER.
+#![tactic(auto)]
+
 use head_state::State;
 use mapset::{Header, Texts};
 

@@ -1,4 +1,6 @@
 // The records of a header by themselves: what each says.
+#![tactic(auto)]
+
 use mapset::Axis;
 
 pub mod content;

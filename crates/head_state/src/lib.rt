@@ -1,4 +1,6 @@
 // What was got of a header so far, and the header record of it.
+#![tactic(auto)]
+
 ghost use Rattle.std.specs.Prelude.{◌≡◌, false, ◌+◌, ◌≤◌, ◌<◌, length, get_or, negsuc};
 ghost use Rattle.std.proofs.Math.Option.{none};
 ghost use Rattle.kit.specs.Answer.{refused};

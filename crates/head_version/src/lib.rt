@@ -1,4 +1,6 @@
 // The version record.
+#![tactic(auto)]
+
 ghost use Rattle.std.specs.Prelude.{◌≡◌, [], ◌≤◌, ◌<◌, length, get_or};
 ghost use Rattle.forms.specs.Columns.{columns};
 ghost use Rattle.layout.specs.Text.{pad};

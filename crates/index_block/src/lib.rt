@@ -1,4 +1,6 @@
 // A block found by its position in a text: its lines, and the number in one of its columns.
+#![tactic(auto)]
+
 ghost use Rattle.std.specs.Prelude.{◌≡◌, ◌+◌, ◌<◌, ◌≤◌, ◌^◌, length, drop};
 ghost use Rattle.reading.specs.Maps.{on_row};
 ghost use Rattle.read_values.specs.Quick.{last_columns};

@@ -1,4 +1,6 @@
 // The second time over a text that is accepted: its blocks' positions and exponents, and its marks, are stored.
+#![tactic(auto)]
+
 ghost use Rattle.std.specs.Prelude.{◌≡◌, ◌+◌, ◌-◌, ◌*◌, ◌<◌, ◌≤◌, length, replicate, set};
 ghost use Rattle.layout.specs.Text.{pad};
 ghost use Rattle.mapset.specs.Areas.{first_of};

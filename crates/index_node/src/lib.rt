@@ -1,4 +1,6 @@
 // A node by an index and its text: its number as written with its exponent, and the lines of its block.
+#![tactic(auto)]
+
 ghost use Rattle.std.specs.Prelude.{◌≡◌, ◌+◌, ◌*◌, ◌<◌, ◌≤◌};
 ghost use Rattle.kit.specs.Truth.{Says};
 ghost use Rattle.mapset.specs.Described.{full};

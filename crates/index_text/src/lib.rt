@@ -1,4 +1,6 @@
 // The index of a text, in lent areas: judged first, and stored only where nothing is wrong and each area is long enough.
+#![tactic(auto)]
+
 ghost use Rattle.std.specs.Prelude.{◌≡◌, ◌*◌, ◌≤◌};
 ghost use Rattle.mapset.specs.Described.{full};
 ghost use Rattle.index.specs.Index.{entries};

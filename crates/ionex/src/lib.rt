@@ -1,5 +1,7 @@
 // The public functions: reading, writing, asking, explaining, delays, joining, the week, the index and a text's biases; and an epoch moved and the release, for other languages.
 // Each answers on every input, and asks nothing of its caller.
+#![tactic(auto)]
+
 pub mod asking;
 pub mod biases;
 pub mod delays;

@@ -1,4 +1,6 @@
 // Two map sets joined into six lent areas: judged first, and stored only where they may be joined and each area is long enough.
+#![tactic(auto)]
+
 ghost use Rattle.std.specs.Prelude.{◌≡◌};
 ghost use Rattle.kit.specs.Lists.{front};
 ghost use Rattle.mapset.specs.Described.{full};

@@ -1,4 +1,6 @@
 // Two lists one behind the other in a lent area, one area a function; behind them what was there.
+#![tactic(auto)]
+
 ghost use Rattle.std.specs.Prelude.{◌≡◌, cond, ◌++◌, ◌+◌, ◌≤◌, length, replicate, pos};
 ghost use Rattle.std.proofs.Math.Seq.{paste};
 ghost use Rattle.kit.specs.Lists.{front};

@@ -1,4 +1,6 @@
 // The labels of the records, compared by the reader and written by the writer.
+#![tactic(auto)]
+
 ghost use Rattle.std.specs.Prelude.{◌≡◌, ◌+◌, ◌≤◌, length};
 ghost use Rattle.std.proofs.Math.Decide.{ℕ_discrete};
 ghost use Rattle.layout.specs.Labels.{letters};

@@ -1,4 +1,6 @@
 // The maps of a text, judged: the first time over, which stores nothing that is lent.
+#![tactic(auto)]
+
 ghost use Rattle.std.specs.Prelude.{◌≡◌, [], suc, ◌+◌, ◌<◌, ◌≤◌, ◌^◌, length, drop};
 ghost use Rattle.mapset.specs.Grid.{Limits};
 ghost use Rattle.reading.specs.Feed.{split, feed};

@@ -1,4 +1,6 @@
 // What a record of the maps does, by its label.
+#![tactic(auto)]
+
 ghost use Rattle.std.specs.Prelude.{◌≡◌, ◌-◌, ◌≤◌, length, get_or};
 ghost use Rattle.mapset.specs.Grid.{Limits};
 ghost use Rattle.layout.specs.Text.{pad};

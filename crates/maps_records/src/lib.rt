@@ -1,4 +1,6 @@
 // Records that stand in the header and in the maps, and those of the maps: their columns 1 to 60, cut once for every scan.
+#![tactic(auto)]
+
 ghost use Rattle.std.specs.Prelude.{◌≡◌, ◌≤◌, length};
 ghost use Rattle.kit.specs.Answer.{bind, ok};
 ghost use Rattle.calendar.specs.Calendar.{dated};

@@ -1,5 +1,7 @@
 // The map set's header record, as document 01 lists it: each field looked at, and which starred records stand.
 // The field of a starred record that does not stand holds 0.
+#![tactic(auto)]
+
 ghost use Rattle.std.specs.Prelude.{◌≡◌, ◌*◌, ◌<◌};
 ghost use Rattle.kit.specs.Answer.{pick};
 ghost use Rattle.kit.specs.Truth.{truth};

@@ -1,4 +1,6 @@
 // Number fields, written.
+#![tactic(auto)]
+
 ghost use Rattle.std.specs.Prelude.{◌≡◌, ◌++◌, ◌+◌, ◌<◌, ◌≤◌, length, take, drop};
 ghost use Rattle.forms.specs.Form.{I, W1, sign};
 ghost use Rattle.forms.specs.Show.{is_minus, digits, aligned, show_field};

@@ -1,4 +1,6 @@
 // What a row of the maps brings, the second time over a text that is accepted: nothing, an epoch, a mark, or a block.
+#![tactic(auto)]
+
 ghost use Rattle.std.specs.Prelude.{◌≡◌, [], ◌≤◌, ◌<◌, length, nat_abs};
 ghost use Rattle.layout.specs.Text.{pad};
 ghost use Rattle.layout.specs.Layout.{Other};

@@ -1,4 +1,6 @@
 // The second time over a text that is accepted: its values, exponents, epochs and marks are stored.
+#![tactic(auto)]
+
 ghost use Rattle.std.specs.Prelude.{◌≡◌, ◌+◌, ◌*◌, ◌<◌, ◌≤◌, length, drop};
 ghost use Rattle.std.proofs.lemmas.List.Edits.{sets};
 ghost use Rattle.mapset.specs.Areas.{six};

@@ -1,4 +1,6 @@
 // The first scan of a text as a whole: its header, then its maps.
+#![tactic(auto)]
+
 ghost use Rattle.std.specs.Prelude.{◌≡◌};
 ghost use Rattle.mapset.specs.Described.{full};
 ghost use Rattle.mapset.specs.Lines.{no_lines};

@@ -1,4 +1,6 @@
 // The lines of a text.
+#![tactic(auto)]
+
 ghost use Rattle.std.specs.Prelude.{◌≡◌, ◌<◌, ◌≤◌, length};
 ghost use Rattle.read_lines.specs.Lines.{passing, not_lf?, printable?, blank?, Spans, look_of, Stands};
 ghost use Rattle.read_lines.specs.Quick.{Sixteen, Ahead, Ending, Near, NearLf};

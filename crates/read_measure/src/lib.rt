@@ -1,4 +1,6 @@
 // What the six areas need for a text, told of the text alone: the first scan, and nothing is lent.
+#![tactic(auto)]
+
 ghost use Rattle.read_outcome.specs.Measures.{Measures};
 
 use read_judge::Judged;

@@ -1,4 +1,6 @@
 // What each lent area needs, and the first that is too short.
+#![tactic(auto)]
+
 ghost use Rattle.std.specs.Prelude.{◌≡◌, cond, ◌*◌, ◌≤◌};
 ghost use Rattle.mapset.specs.Grid.{Limits, columns};
 ghost use Rattle.layout.specs.Layout.{per_map};

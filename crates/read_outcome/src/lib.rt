@@ -1,4 +1,6 @@
 // What is answered of a text: the header record with its texts, or the reason why it is refused.
+#![tactic(auto)]
+
 ghost use Rattle.std.specs.Prelude.{◌≡◌, [], ◌∷◌};
 ghost use Rattle.kit.specs.Range.{Within};
 ghost use Rattle.read_outcome.specs.Outcome.{at_place, told_number, told_place, told_reason, no_texts, texts_in};

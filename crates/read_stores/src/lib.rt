@@ -1,4 +1,6 @@
 // The stores of the second scan, each of one area, and what stands there before them.
+#![tactic(auto)]
+
 ghost use Rattle.std.specs.Prelude.{◌≡◌, ◌+◌, ◌-◌, ◌*◌, ◌<◌, ◌≤◌, length, set, get_or, replicate, pos, negsuc};
 ghost use Rattle.areas.specs.Stores.{with_mark, fill};
 ghost use Rattle.mapset.specs.Areas.{first_of};

@@ -1,4 +1,6 @@
 // A text into six lent areas: judged first, and stored only where nothing is wrong and each area is long enough.
+#![tactic(auto)]
+
 ghost use Rattle.std.specs.Prelude.{◌≡◌};
 ghost use Rattle.mapset.specs.Areas.{six};
 ghost use Rattle.mapset.specs.Described.{full};

@@ -1,4 +1,6 @@
 // The values on a line of a data block: I5, 16 to a line, the last line holding the rest and blanks.
+#![tactic(auto)]
+
 ghost use Rattle.std.specs.Prelude.{◌≡◌, ◌+◌, ◌-◌, ◌*◌, ◌<◌, ◌≤◌, false, length, take, drop};
 ghost use Rattle.forms.specs.Form.{signed};
 ghost use Rattle.forms.specs.Read.{is_number};

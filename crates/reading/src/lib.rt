@@ -1,4 +1,6 @@
 // Where the reading of the maps stands: the code's states and those of the definitions are the same.
+#![tactic(auto)]
+
 use mapset::Kind;
 
 // An open map: whether its own epoch may still stand, its kind and number, and how many of its blocks are left to come.

@@ -1,4 +1,6 @@
 // What has to hold of the area lengths, the epochs and the marks, and with the header, before a value is looked at.
+#![tactic(auto)]
+
 ghost use Rattle.std.specs.Prelude.{◌≡◌, ◌≤◌, length};
 ghost use Rattle.mapset.specs.Described.{full};
 ghost use Rattle.mapset.specs.Areas.{six};

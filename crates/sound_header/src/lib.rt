@@ -1,4 +1,6 @@
 // What has to hold of a header record and its texts.
+#![tactic(auto)]
+
 ghost use Rattle.std.specs.Prelude.{◌≡◌};
 ghost use Rattle.kit.specs.Answer.{all_dec};
 ghost use Rattle.kit.specs.Range.{within?};

@@ -1,4 +1,6 @@
 // Whether header, texts and areas are a map set that some text has: else 31.
+#![tactic(auto)]
+
 ghost use Rattle.std.specs.Prelude.{◌≡◌, []};
 ghost use Rattle.kit.specs.Answer.{⊎_dec, all_dec};
 ghost use Rattle.kit.specs.Integer.{int?, between?};

@@ -1,4 +1,6 @@
 // The figures of up to a hundred map sets.
+#![tactic(auto)]
+
 ghost use Rattle.std.specs.Prelude.{◌≡◌, [], ◌+◌, ◌*◌, ◌≤◌, ◌<◌, nat_abs, length};
 ghost use Rattle.std.proofs.Math.Decide.{dec_le};
 ghost use Rattle.kit.specs.Lists.{front};

@@ -1,4 +1,6 @@
 // The figures of the maps of a map set, kind by kind. Kinds are 0 TEC, 1 RMS, 2 height; maps count from 0.
+#![tactic(auto)]
+
 ghost use Rattle.std.specs.Prelude.{◌≡◌, ◌+◌, ◌*◌, ◌≤◌, length};
 ghost use Rattle.std.proofs.lemmas.List.Edits.{sets};
 ghost use Rattle.week_tally.specs.Figures.{figures};

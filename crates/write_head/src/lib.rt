@@ -1,4 +1,6 @@
 // The header of canonical text: the version record, the records in the order of 01's table, END OF HEADER.
+#![tactic(auto)]
+
 ghost use Rattle.std.specs.Prelude.{[], ◌∷◌, ◌*◌, ◌≤◌, ◌<◌, ◌^◌, length};
 ghost use Rattle.mapset.specs.Described.{line_width, full};
 ghost use Rattle.mapset.specs.Sound.{HeaderSays, VersionSays, TimesSay, SystemsSay, ModelSays};

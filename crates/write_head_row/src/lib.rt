@@ -1,4 +1,6 @@
 // The records of canonical text's header, each as a row of 80 bytes.
+#![tactic(auto)]
+
 ghost use Rattle.std.specs.Prelude.{◌≡◌, ◌<◌, ◌^◌, length};
 ghost use Rattle.canonical.specs.Canon as canon;
 ghost use Rattle.write_head_row.specs.HeadRows as said;

@@ -1,4 +1,6 @@
 // The rows of canonical text, put into a lent output as lines.
+#![tactic(auto)]
+
 ghost use Rattle.std.specs.Prelude.{◌≡◌, [], ◌∷◌, ◌<◌, ◌≤◌, ◌^◌, length, take, pos};
 ghost use Rattle.layout.specs.Labels.{epoch, file_end, start, end};
 ghost use Rattle.canonical.specs.Canon.{row_of, date_of, six, trimmed, value_row, value_rows, exponent_rows};

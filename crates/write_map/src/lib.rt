@@ -1,4 +1,6 @@
 // One map of canonical text, put into a lent output.
+#![tactic(auto)]
+
 ghost use Rattle.std.specs.Prelude.{[], ◌<◌, ◌^◌};
 ghost use Rattle.canonical.specs.Canon.{block_rows};
 ghost use Rattle.write_line.specs.Put.{LineRoom, Put};

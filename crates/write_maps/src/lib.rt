@@ -1,4 +1,6 @@
 // The maps of each kind, and those of all kinds, put into a lent output.
+#![tactic(auto)]
+
 ghost use Rattle.mapset.specs.Areas.{six};
 ghost use Rattle.write_line.specs.Put.{Put};
 ghost use Rattle.write_maps.specs.KindRows.{all_rows};

@@ -1,4 +1,6 @@
 // The rows of canonical text, each as 80 bytes.
+#![tactic(auto)]
+
 ghost use Rattle.std.specs.Prelude.{◌≡◌, [], ◌++◌, ◌+◌, ◌<◌, ◌≤◌, ◌^◌, length, take, drop, get_or, replicate, pos};
 ghost use Rattle.layout.specs.Labels.{block};
 ghost use Rattle.layout.specs.Layout as L;
