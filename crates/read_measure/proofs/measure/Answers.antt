@@ -18,7 +18,7 @@ size_of-size-requires c = limits _ _ _ _ _ _ (judged _ _ _ _ c.judge-scan.ensure
 
 pub needed-need-requires : goal.needed-need-requires
 needed-need-requires c =
-    let z = c.type_size.ensures in
+    let z = c.size_of-size.ensures in
     few_by _ _ _ _ _ _ (judged _ _ _ _ c.judge-scan.ensures c.in-Fine.is) z.0 z.1 z.2
 
 pub returns-in-Wrong : goal.returns-in-Wrong
@@ -28,6 +28,6 @@ returns-in-Wrong c = (_, (judged _ _ _ _ c.judge-scan.ensures c.in-Wrong.is, c.r
 pub returns-in-Fine : goal.returns-in-Fine
 returns-in-Fine c =
     let a = judged _ _ _ _ c.judge-scan.ensures c.in-Fine.is in
-    let z = c.type_size.ensures in
+    let z = c.size_of-size.ensures in
     let set : MapSet = set_of _ _ a.maps in
     (set, (a.reads, need_by _ _ _ _ _ _ a z.0 z.1 z.2 c.needed-need.ensures))

@@ -22,7 +22,7 @@ abbrev place : {X : Type 0} {B : X → Type 0} → ((c : X) → B c) → Type 0
 place {X} n = X
 
 -- what is told of a text that is stored is its header record
-told_header : (n : tie.Need-returns-in-Enough) (c : place n) → let s = c.before.before.before.before.before.before.before.before.before.before.before.before.before.before.before.before.before.before.before.before.before.before.before.before in accepted s.args.header ≡ (outcome s.args.text.now (lent s)).told
+told_header : (n : tie.Need-returns-in-Enough) (c : place n) → let s = c.before.before.before.before.before.before.before.before.before.before.before.before.before.before.before.before.before.before.before.before.before.before.before in accepted s.args.header ≡ (outcome s.args.text.now (lent s)).told
 told_header n c = ap (λ o. o.told) (n c)
 
 -- where no area is too short, what is lent is at least what is needed
@@ -35,7 +35,7 @@ size-of-requires c κs = let s = c.before.before.before in limits s.args.text.no
 needed-requires : tie.Need-needed-need-requires
 needed-requires c κs =
     let s = c.before.before.before.before in
-    let z = c.type_size.ensures in
+    let z = c.size_of-size.ensures in
     few_by s.args.text.now (full s.args.texts s.args.lines.now) s.args.header s.args.exponent s.args.at s.args.some s.requires z.0 z.1 z.2
 
 room-for-requires : tie.Need-room_for-requires
@@ -53,7 +53,7 @@ enum_told c = search rules
 fill-maps-requires : tie.Need-fill_maps-requires
 fill-maps-requires c κs =
     let s = c.before.before.before.before.before.before.before.before.before.before.before.before.before in
-    let z = c.type_size.ensures in
+    let z = c.size_of-size.ensures in
     let l = lent s in
     let e = sym c.room_for.ensures ∙ ap fit c.in-Enough.is in
     rw (to_z-of_z s.ranges.exponent) ((s.requires.within, (_, readable_by s.args.text.now (full s.args.texts s.args.lines.now) s.args.header s.args.exponent s.args.at s.args.some s.requires z.0 z.1 z.2 c.needed-need.ensures)), enough_by s.args.text.now (full s.args.texts s.args.lines.now) s.args.header s.args.exponent s.args.at s.args.some s.requires z.0 z.1 z.2 c.needed-need.ensures l e)
@@ -61,7 +61,7 @@ fill-maps-requires c κs =
 returns : tie.Need-returns-in-Short
 returns c =
     let s = c.before.before.before.before.before.before.before.before in
-    let z = c.type_size.ensures in
+    let z = c.size_of-size.ensures in
     let l = lent s in
     let e = sym c.room_for.ensures ∙ ap fit c.in-Short.is in
     let f = c.refused.ensures in
@@ -88,7 +88,7 @@ same-length-6 c = search rules
 returns-2 : tie.Need-returns-in-Enough
 returns-2 c =
     let s = c.before.before.before.before.before.before.before.before.before.before.before.before.before.before.before.before.before.before.before.before.before.before.before in
-    let z = c.type_size.ensures in
+    let z = c.size_of-size.ensures in
     let l = lent s in
     let e = sym c.room_for.ensures ∙ ap fit c.in-Enough.is in
     stored_by s.args.text.now (full s.args.texts s.args.lines.now) s.args.header s.args.exponent s.args.at s.args.some s.requires z.0 z.1 z.2 c.needed-need.ensures l e _ (rw (to_z-of_z s.ranges.exponent) at c.fill_maps.ensures)
