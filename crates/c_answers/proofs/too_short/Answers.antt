@@ -18,7 +18,7 @@ pub returns-then-res-elements : goal.returns-then-res-elements
 unfolding too_short
 returns-then-res-elements c =
     let a = c.args in
-    let told : too_short a.header a.texts a.result a.elements ≡ 103 = pick_yes (dec_le _ _) _ _ (omega arith) ∙ pick_yes (dec_le _ _) _ _ (omega arith) ∙ pick_no (dec_le _ _) _ _ (λ e. omega arith) in
+    let told : too_short a.header a.texts a.res a.elements ≡ 103 = pick_yes (dec_le _ _) _ _ (omega arith) ∙ pick_yes (dec_le _ _) _ _ (omega arith) ∙ pick_no (dec_le _ _) _ _ (λ e. omega arith) in
     sym told
 
 pub returns : goal.returns

@@ -9,13 +9,13 @@ pub size_of-size-requires : goal.size_of-size-requires
 size_of-size-requires c = let s = c.before.before.before in limits s.args.text.now s.args.header (full s.args.texts s.args.lines.now) s.requires
 
 pub room_for-requires : goal.room_for-requires
-room_for-requires c = let s = c.before.before.before.before in let z = c.type_size.ensures in few_by s.args.text.now s.args.header (full s.args.texts s.args.lines.now) s.requires z.0 z.1 z.2 (entries s.args.positions.now s.args.exponents.now s.args.marks.now)
+room_for-requires c = let s = c.before.before.before.before in let z = c.size_of-size.ensures in few_by s.args.text.now s.args.header (full s.args.texts s.args.lines.now) s.requires z.0 z.1 z.2 (entries s.args.positions.now s.args.exponents.now s.args.marks.now)
 
 pub enter_all-requires : goal.enter_all-requires
-enter_all-requires c = let s = c.before.before.before.before.before.before.before.before.before in let z = c.type_size.ensures in steady_by s.args.text.now s.args.header (full s.args.texts s.args.lines.now) s.requires z.0 z.1 z.2 (entries s.args.positions.now s.args.exponents.now s.args.marks.now) (sym c.room_for.ensures ∙ ap fit c.in-Enough.is)
+enter_all-requires c = let s = c.before.before.before.before.before.before.before.before.before in let z = c.size_of-size.ensures in steady_by s.args.text.now s.args.header (full s.args.texts s.args.lines.now) s.requires z.0 z.1 z.2 (entries s.args.positions.now s.args.exponents.now s.args.marks.now) (sym c.room_for.ensures ∙ ap fit c.in-Enough.is)
 
 pub returns-in-Short : goal.returns-in-Short
-returns-in-Short c = let s = c.before.before.before.before.before.before.before in let z = c.type_size.ensures in let f = c.refused.ensures in rw (f.0, f.1) (short_by s.args.text.now s.args.header (full s.args.texts s.args.lines.now) s.requires z.0 z.1 z.2 (entries s.args.positions.now s.args.exponents.now s.args.marks.now) _ _ (sym c.room_for.ensures ∙ ap fit c.in-Short.is))
+returns-in-Short c = let s = c.before.before.before.before.before.before.before in let z = c.size_of-size.ensures in let f = c.refused.ensures in rw (f.0, f.1) (short_by s.args.text.now s.args.header (full s.args.texts s.args.lines.now) s.requires z.0 z.1 z.2 (entries s.args.positions.now s.args.exponents.now s.args.marks.now) _ _ (sym c.room_for.ensures ∙ ap fit c.in-Short.is))
 
 pub returns-in-Enough : goal.returns-in-Enough
-returns-in-Enough c = let s = c.before.before.before.before.before.before.before.before.before.before.before.before.before.before.before.before in let z = c.type_size.ensures in made_by s.args.text.now s.args.header (full s.args.texts s.args.lines.now) s.requires z.0 z.1 z.2 (entries s.args.positions.now s.args.exponents.now s.args.marks.now) (sym c.room_for.ensures ∙ ap fit c.in-Enough.is) _ c.enter_all.ensures
+returns-in-Enough c = let s = c.before.before.before.before.before.before.before.before.before.before.before.before.before.before.before.before in let z = c.size_of-size.ensures in made_by s.args.text.now s.args.header (full s.args.texts s.args.lines.now) s.requires z.0 z.1 z.2 (entries s.args.positions.now s.args.exponents.now s.args.marks.now) (sym c.room_for.ensures ∙ ap fit c.in-Enough.is) _ c.enter_all.ensures
