@@ -34,7 +34,7 @@ lines b = take 1200 (drop 124 b)
 
 -- the description that is handed back is the later set's
 later_lines : (c : tie.After-put_joined-arg-1) → length (lines c.args.btexts.now) ≡ 1200
-later_lines c = c.put_joined-arg-1.given.2
+later_lines c = search rules
 
 -- the number told of the call's own areas, and that they are long enough where it is 0
 told : (c : tie.After-too_short-short) → c.too_short-short.result ≡ too_short (headers c.before.before.before.before.before.before.before.before.before.before.before.before.before) (bytes c.before.before.before.before.before.before.before.before.before.before.before.before.before) (length c.args.place.now) 2
@@ -106,7 +106,7 @@ put-joined-requires c κs =
     let s = c.before.before.before.before.before.before.before.before.before.before.before.before.before.before.before.before.before.before.before.before.before.before.before.before.before.before.before.before.before.before.before.before.before.before.before.before.before.before.before in
     let r = c.join-r in
     let f = fits c.before.before.before.before.before.before.before.before.before.before.before.before.before.before.before.before.before.before.before.before.before.before.before.before.before in
-    let z = small_epochs (lent_of c.header_in-early.result (full c.texts_in-etexts.result (lines s.args.atexts.now)) (early s)) (lent_of c.header_in-late.result (full c.texts_in-ltexts.result (lines s.args.btexts.now)) (late s)) (out s) r.result (full c.texts_in-ltexts.result (lines s.args.btexts.now)) (six r.new.1.1.1.1.1.1.1.1.1.1.1.1.1.1.1.1.1.1.0 r.new.1.1.1.1.1.1.1.1.1.1.1.1.1.1.1.1.1.1.1.0 r.new.1.1.1.1.1.1.1.1.1.1.1.1.1.1.1.1.1.1.1.1.0 r.new.1.1.1.1.1.1.1.1.1.1.1.1.1.1.1.1.1.1.1.1.1.0 r.new.1.1.1.1.1.1.1.1.1.1.1.1.1.1.1.1.1.1.1.1.1.1.0 r.new.1.1.1.1.1.1.1.1.1.1.1.1.1.1.1.1.1.1.1.1.1.1.1.0) r.ensures in
+    let z = small_epochs (lent_of c.header_in-early.result (full c.texts_in-etexts.result (lines s.args.atexts.now)) (early s)) (lent_of c.header_in-late.result (full c.texts_in-ltexts.result (lines s.args.btexts.now)) (late s)) (out s) r.result (full c.texts_in-ltexts.result (lines s.args.btexts.now)) (six r.new.tec r.new.rms r.new.height r.new.exponents r.new.epochs r.new.marks) r.ensures in
     ((all_long 45 (length s.args.aheader.now) (length s.args.bheader.now) (length s.args.header.now) f.header).2, ((all_long 1324 (length s.args.atexts.now) (length s.args.btexts.now) (length s.args.texts.now) f.texts).2, (f.result, (later_lines c.before.before.before, z))))
 
 same_length : tie.Need-shape_of-tec
@@ -144,7 +144,7 @@ returns-2 c =
     let y = c.texts_in-ltexts.ensures in
     let e = rw (c.header_in-early.ensures, c.texts_in-etexts.ensures, c.header_in-late.ensures, y) at r.ensures in
     let n = none (headers s) (bytes s) (length s.args.place.now) 2 (told c.before.before.before.before.before.before.before.before.before.before.before.before.before.before.before.before.before.before.before.before.before.before.before.before.before.before.before.before.before.before.before.before) (omega (arith, c.if-short-gt0.false)) in
-    join_answer s.args.aheader.now s.args.atexts.now (early s) s.args.bheader.now s.args.btexts.now (late s) (out s) s.args.header.now s.args.texts.now s.args.place.now n r.result (six r.new.1.1.1.1.1.1.1.1.1.1.1.1.1.1.1.1.1.1.0 r.new.1.1.1.1.1.1.1.1.1.1.1.1.1.1.1.1.1.1.1.0 r.new.1.1.1.1.1.1.1.1.1.1.1.1.1.1.1.1.1.1.1.1.0 r.new.1.1.1.1.1.1.1.1.1.1.1.1.1.1.1.1.1.1.1.1.1.0 r.new.1.1.1.1.1.1.1.1.1.1.1.1.1.1.1.1.1.1.1.1.1.1.0 r.new.1.1.1.1.1.1.1.1.1.1.1.1.1.1.1.1.1.1.1.1.1.1.1.0) e w.0 w.1.0 (rw y at w.1.1.0) w.1.1.1
+    join_answer s.args.aheader.now s.args.atexts.now (early s) s.args.bheader.now s.args.btexts.now (late s) (out s) s.args.header.now s.args.texts.now s.args.place.now n r.result (six r.new.tec r.new.rms r.new.height r.new.exponents r.new.epochs r.new.marks) e w.0 w.1.0 (rw y at w.1.1.0) w.1.1.1
 
 pub ionex_join_spec : {M : Type 1} → statement M
 ionex_join_spec = tie.close (tie.spec shortest-requires shortest-requires-2 too-short-requires returns header-in-requires texts-in-requires header-in-requires-2 texts-in-requires-2 sub-join part-join-start part-join-end sub-join-2 part-join-start-2 part-join-end-2 join-requires sub-put-joined part-put-joined-start part-put-joined-end put-joined-requires same_length same-length-2 same-length-3 same-length-4 same-length-5 same-length-6 same-length-7 same-length-8 same-length-9 returns-2)

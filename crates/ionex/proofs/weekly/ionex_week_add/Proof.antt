@@ -31,7 +31,7 @@ module _ (a : tie.After-add-answer) where
   abbrev from : tie.Else-short-gt0
   from = a.before.before.before.before.before.before
 
-  added : comes a.add-answer.result a.add-answer.last.1.1.1.1.1.1.1.1.1.1.0 ≡ outcome (week_at (s from).args.week.now) (set_of (s from).args.header.now (s from).args.texts.now (lent (s from)) (s from).args.rows.now)
+  added : comes a.add-answer.result a.add-answer.new.rows ≡ outcome (week_at (s from).args.week.now) (set_of (s from).args.header.now (s from).args.texts.now (lent (s from)) (s from).args.rows.now)
   added =
       rw (a.week_in-w.ensures, a.header_in-h.ensures, a.texts_in-x.ensures) at a.add-answer.ensures
 
