@@ -12,10 +12,12 @@ use Rattle.kit.specs.Lists.{front}
 use Rattle.kit.proofs.AnswerLaws.{pick_yes, pick_no, pick_elim}
 use Rattle.c_answers.specs.Own.{too_short, unless}
 use Rattle.week.specs.Week.{Given, accepted?, accepted, week_of, added, no_sets, report}
-use Rattle.week.specs.Sane.{ToldAdding, into, refused, outcome, kept}
+use Rattle.week.specs.Sane.{outcome, kept}
 use Rattle.week.proofs.WeekLaws.{report_week, report_permuted}
 use Rattle.week.proofs.SaneLaws.{sane_week, kept_added}
 use Rattle.week.specs.declared.Week.{Week}
+use Rattle.week.specs.declared.Added.{Added}
+use Rattle.week.specs.declared.Added.TheVariants as A
 use Rattle.c_week.specs.WeekNumbers.{week_numbers, week_at}
 use Rattle.c_week.specs.WeekExported.{Crossed, told_week, week_short, crossed, crosses, set_of, week_crossed}
 use Rattle.c_week.proofs.Back.{week_back}
@@ -46,9 +48,9 @@ short_some s w n =
     (λ h. h)
 
 -- ---- one call
-after : (W : Week) (a : ToldAdding) (l : List ℤ) → front (told_week a) (front (week_numbers W) l) ≡ front (week_numbers (kept W a)) l
-after W (into v) l = refl
-after W (refused k b) l = refl
+after : (W : Week) (a : Added) (l : List ℤ) → front (told_week a) (front (week_numbers W) l) ≡ front (week_numbers (kept W a)) l
+after W (A.Into v) l = refl
+after W (A.Refused y) l = refl
 
 abbrev set : Handed → Given
 set s = set_of s.header s.texts s.areas s.rows
@@ -64,7 +66,7 @@ module _ (s : Handed) (w : List ℤ) where
   unfolding week_crossed unless own
   passed_over n = ap (λ c. c.week) (pick_no (ℕ_discrete (own s w) 0) (crosses (outcome (week_at w) (set s)) w s.place) (crossed (own s w) w s.rows s.place) (short_some s w n))
 
-  looked_at : Long s → 16 ≤ length w → result ≡ front (told_week (outcome (week_at w) (set s)).told) w
+  looked_at : Long s → 16 ≤ length w → result ≡ front (told_week (outcome (week_at w) (set s)).answer) w
   unfolding week_crossed unless own crosses
   looked_at h k = ap (λ c. c.week) (pick_yes (ℕ_discrete (own s w) 0) (crosses (outcome (week_at w) (set s)) w s.place) (crossed (own s w) w s.rows s.place) (long_none s w h k))
 
@@ -79,7 +81,7 @@ unfolding report
 report_snoc w [] s = refl
 report_snoc w (t ∷ ss) s = report_snoc (added w t) ss s
 
-one_more : (done : List Given) (s : Given) → accepted (done ++ (s ∷ [])) ≤ 100 → kept (week_of done) (outcome (week_of done) s).told ≡ week_of (done ++ (s ∷ []))
+one_more : (done : List Given) (s : Given) → accepted (done ++ (s ∷ [])) ≤ 100 → kept (week_of done) (outcome (week_of done) s).answer ≡ week_of (done ++ (s ∷ []))
 one_more done s h =
     let a = report_week done (omega (arith, accepted_append done (s ∷ []))) in
     kept_added (week_of done) s (sane_week done) ∙ ap (λ (w : Week). added w s) (sym a) ∙ sym (report_snoc no_sets done s) ∙ report_week (done ++ (s ∷ [])) h
@@ -92,8 +94,8 @@ unfolding week_after
 step s done l k h =
     let w : List ℤ = front (week_numbers (week_of done)) l in
     looked_at s w k (sixteen (week_of done) l)
-    ∙ ap (λ (v : Week). front (told_week (outcome v (set s)).told) w) (week_back done l (omega (arith, h, accepted_append done (set s ∷ []))))
-    ∙ after (week_of done) (outcome (week_of done) (set s)).told l
+    ∙ ap (λ (v : Week). front (told_week (outcome v (set s)).answer) w) (week_back done l (omega (arith, h, accepted_append done (set s ∷ []))))
+    ∙ after (week_of done) (outcome (week_of done) (set s)).answer l
     ∙ ap (λ (v : Week). front (week_numbers v) l) (one_more done (set s) h)
 
 run : (ss : List Handed) (done : List Given) (l : List ℤ) {w : List ℤ} → accepted (done ++ sets ss) ≤ 100 → Adds (week_after done l) ss w → w ≡ week_after (done ++ sets ss) l
