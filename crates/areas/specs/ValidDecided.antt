@@ -1,7 +1,7 @@
 -- `Valid` is decided, where `Sound` is.
 use Rattle.std.specs.Prelude.{List, [], ◌∷◌, ℕ, ◌*◌, take, drop, ℤ, pos, negsuc}
 use Rattle.kit.specs.Answer.{All, ×_dec, ⊎_dec, all_dec}
-use Rattle.kit.specs.Integer.{int?, between?}
+use Rattle.kit.specs.Integer.{int?, Between, between?}
 use Rattle.mapset.specs.declared.Kind.{Kind}
 use Rattle.mapset.specs.declared.Kind.TheVariants.{Tec, Rms, Height}
 use Rattle.mapset.specs.declared.Header.{Header}
@@ -13,7 +13,8 @@ use Rattle.areas.specs.Value.{Value}
 use Rattle.areas.specs.Nest.{third}
 use Rattle.areas.specs.Valid.{needed, values_in, Blank, Valid}
 
-unfoldable pub value? : (z : ℤ) → Dec (Value z)
+-- `Value` of z, written out
+unfoldable pub value? : (z : ℤ) → Dec (Between (negsuc 9998) (pos 99999) z)
 value? z = between? (negsuc 9998) (pos 99999) z
 
 unfoldable pub blank? : (k : Kind) (w : ℕ) (v : ℤ) (ms : List ℕ) (l : List ℤ) → Dec (Blank k w v ms l)

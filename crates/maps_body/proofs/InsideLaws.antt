@@ -65,12 +65,12 @@ module _ (h : Header) (p : Force) (r : List ℕ) where
 
   module _ (t : ℕ) (e : bind (fields epoch r) (λ d. on_date (date d) ok) ≡ ok t) where
     pub epoch_late : truth (in_time? h p.epochs t) ≡ false → epoch_tec h p r ≡ refused (fault 8 1)
-    unfolding epoch_tec
+    unfolding epoch_tec in_time?
     epoch_late f = then_date _ (fields epoch r) t e ∙ need_false (in_time? h p.epochs t) _ _ f
 
     pub epoch_fine : truth (in_time? h p.epochs t) ≡ true
         → epoch_tec h p r ≡ goes (Inside (record { fresh = false; kind = Tec; number = suc (length p.epochs); left = per_map h })) (with_epoch t p) (λ w. (record { epoch = t; blocks = w.0 }, w.1))
-    unfolding epoch_tec
+    unfolding epoch_tec in_time?
     epoch_fine f = then_date _ (fields epoch r) t e ∙ need_true (in_time? h p.epochs t) _ _ f
 
 -- an epoch is to be remembered

@@ -90,7 +90,7 @@ implies? (yes p) (no n) = no (λ f. n (f p))
 implies? (no n) q = yes (λ p. absurd (n p))
 
 unfoldable pub in_time? : (h : Header) (es : List ℕ) (e : ℕ) → Dec (InTime h es e)
-in_time? h es e = ×_dec (after? h es e) (implies? (ℕ_discrete (suc (length es)) h.times.maps) (ℕ_discrete e h.times.last))
+in_time? h past e = ×_dec (after? h past e) (implies? (ℕ_discrete (suc (length past)) h.times.maps) (ℕ_discrete e h.times.last))
 
 unfoldable pub height? : (h : Header) (d : ℕ) (z : ℤ) → Dec (HeightOf h d z)
 height? h d z = ⊎_dec (ℕ_discrete h.model.dimension 2) (int? z (node h.grid.heights (d / rows h.grid)))
@@ -148,11 +148,15 @@ on_end h Between p k r = misplaced
 on_end h Early p k r = need (kind? k Tec) (fault 5 61) (bind (fields (end k) r) (λ v. refused missing))
 on_end h (Inside o) p k r = end_map o p k r
 
+-- on with x where `in_time?` holds; written out, so that it can be read without the statement of that
+abbrev pub in_order : {A : Type 0} → (h : Header) (es : List ℕ) (e : ℕ) → Answer Fault A → Answer Fault A
+in_order h es e x = need (×_dec (after? h es e) (implies? (ℕ_discrete (suc (length es)) h.times.maps) (ℕ_discrete e h.times.last))) (disagrees 1) x
+
 -- EPOCH OF CURRENT MAP: a TEC map's, in time; or, once before its first block, that of an RMS or height map, which is its TEC map's
 unfoldable pub epoch_tec : (h : Header) (p : Force) → List ℕ → Step Early
 epoch_tec h p r =
     bind (fields epoch r)
-    (λ d. on_date (date d) (λ t. need (in_time? h p.epochs t) (disagrees 1)
+    (λ d. on_date (date d) (λ t. in_order h p.epochs t
     (goes (Inside (record { fresh = false; kind = Tec; number = suc (length p.epochs); left = per_map h })) (with_epoch t p)
     (λ w. (record { epoch = t; blocks = w.0 }, w.1)))))
 
