@@ -15,7 +15,7 @@ CHAPTERS = [
     ("Two map sets joined", "02, Asks 11, 12", ["ionex/joiner.rt"], []),
     ("The week in figures", "02, Ask 5", ["ionex/weekly.rt"], []),
     ("The index beside a text", "02, Ask 8", ["ionex/indexing.rt"], []),
-    ("Biases", "02, Ask 7", ["ionex/biases.rt"], ["biases/Rules.Makes", "biases/Rules.Tells"]),
+    ("Biases", "02, Ask 7", ["ionex/bias_reader.rt"], ["biases/Rules.Makes", "biases/Rules.Tells"]),
     ("An epoch moved, for other languages", "01, 'Header records' (an epoch moved)", ["ionex/moving.rt"], []),
 ]
 

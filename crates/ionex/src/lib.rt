@@ -3,7 +3,7 @@
 #![tactic(auto)]
 
 pub mod asking;
-pub mod biases;
+pub mod bias_reader;
 pub mod delays;
 pub mod explaining;
 pub mod indexing;

@@ -1,9 +1,9 @@
--- `ionex::biases::ionex_biases` meets its contract.
+-- `ionex::bias_reader::ionex_biases` meets its contract.
 use native.Mathlib.Omega.{arith}
 use Rattle.bias_fill.specs.Flat.{lent}
 use Rattle.bias_text.specs.Biased.{comes}
 use Rattle.c_biases.proofs.BiasOnce.{cross_short, cross_answer}
-use Rattle.ionex.proofs.biases.ionex_biases.Goals as goal
+use Rattle.ionex.proofs.bias_reader.ionex_biases.Goals as goal
 
 pub returns-then-counts-lt2 : goal.returns-then-counts-lt2
 returns-then-counts-lt2 c = record { outcome = cross_short c.args.text.now (lent c.args.satellites.now c.args.stations.now c.args.names.now) c.args.counts.now c.args.place.now (λ h. omega (arith, h.0, c.if-counts-lt2.true)) }
