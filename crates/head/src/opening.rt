@@ -28,33 +28,24 @@ fn led_to(turn: Next, exponent: i32, next: usize, n: u64) -> Onward
 
 // The next record of the header, past remarks, and what it leads to; the DESCRIPTION lines so far stand in `lines`.
 fn pass(
-    s: State,
+    s: &mut State,
     version: Version,
     text: &[u8],
     from: usize,
     passed: u64,
     lines: &mut [u8],
-) -> Passed
-    requires { (from ≤ length text.now) × (passed ≤ from) × Keeps s lines.old }
-    ensures { Passes text.now version s lines.old from passed result.onward result.state lines.new }
+) -> Onward
+    requires { (from ≤ length text.now) × (passed ≤ from) × Keeps s.old lines.old }
+    ensures { Passes text.now version s.old lines.old from passed result s.new lines.new }
 {
     match super::remarks::next_record(s.aux, text, from, passed) {
-        NextRow::Over(n) => Passed {
-            onward: Onward::Stop(Headed::Refused(10, read_lines::line_after(n), 0)),
-            state: s,
-        },
-        NextRow::Bad(number, line, column) => Passed {
-            onward: Onward::Stop(Headed::Refused(number, line, column)),
-            state: s,
-        },
+        NextRow::Over(n) => Onward::Stop(Headed::Refused(10, read_lines::line_after(n), 0)),
+        NextRow::Bad(number, line, column) => Onward::Stop(Headed::Refused(number, line, column)),
         NextRow::Row(start, end, next, n) => {
-            let r = head_step::step(s, version, &text[start..end], lines);
-            let turn = r.next;
-            let t = r.state;
-            Passed {
-                onward: led_to(turn, s.exponent, next, n + 1),
-                state: t,
-            }
+            let exponent = s.exponent;
+            let r = head_step::step(*s, version, &text[start..end], lines);
+            *s = r.state;
+            led_to(r.next, exponent, next, n + 1)
         }
     }
 }
@@ -76,6 +67,8 @@ fn texts_of(s: State) -> Texts
     }
 }
 
+// Apart, so that each place that answers blanks takes no stack for its own.
+#[inline(never)]
 pub fn blanks() -> Texts
     ensures { result ≡ blank_texts }
 {
@@ -118,15 +111,11 @@ fn header_from(
     let mut at = from;
     let mut n = passed;
     loop {
-        let r = pass(s, version, text, at, n, lines);
-        let onward = r.onward;
-        let t = r.state;
-        match onward {
+        match pass(&mut s, version, text, at, n, lines) {
             Onward::Stop(answer) => {
-                return handed(answer, t);
+                return handed(answer, s);
             }
             Onward::On(next, m) => {
-                s = t;
                 at = next;
                 n = m;
             }

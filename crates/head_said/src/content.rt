@@ -209,7 +209,8 @@ fn hear_axis(line: &[u8], which: Line) -> Heard
     }
 }
 
-// The counts of a system.
+// The counts of a system; apart for the stack, as `hear` is.
+#[inline(never)]
 pub fn hear_system(line: &[u8]) -> Heard
     requires { length line.now ≤ 80 }
     ensures { told_heard system result ≡ entry system (pad line.now) }
@@ -228,7 +229,8 @@ pub fn hear_system(line: &[u8]) -> Heard
     }
 }
 
-// What the record of numbers at place i of the header says.
+// What the record of numbers at place i of the header says. What it takes of the stack is given back before the record is kept.
+#[inline(never)]
 pub fn hear(line: &[u8], i: usize) -> Heard
     requires { (length line.now ≤ 80) × (i < 15) × (kind_of (content i) ≤ 5) }
     ensures { told_heard (content i) result ≡ entry (content i) (pad line.now) }

@@ -306,7 +306,8 @@ pub fn header_of(s: State, version: Version) -> Header
     }
 }
 
-// No record is missing but starred ones.
+// No record is missing but starred ones. Inlined, its loop would have every copy of a state cut into small pieces on the stack.
+#[inline(never)]
 pub fn complete(s: State) -> bool
     ensures { result ≡ truth (complete? starred (slots_of s)) }
 {

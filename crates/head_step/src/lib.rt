@@ -45,7 +45,8 @@ fn at_place(s: State, i: usize, line: &[u8]) -> Stepped
     requires { (i < 15) × (length line.now ≤ 80) }
     ensures { told result ≡ fresh s i (entry (content i) (pad line.now)) }
 {
-    if s.seen[i] {
+    let seen = s.seen;
+    if seen[i] {
         return head_state::refuse(s, 5, 61);
     }
     let kind = content::KINDS[i];
@@ -82,7 +83,8 @@ fn at_system(s: State, line: &[u8]) -> Stepped
         return no_system(s, line);
     }
     let i = 15 + j;
-    if s.seen[i] {
+    let seen = s.seen;
+    if seen[i] {
         return head_state::refuse(s, 5, 61);
     }
     head_state::keep(s, i, content::hear_system(line))

@@ -36,18 +36,18 @@ returns c = rw (← (at_letter c.before.before), le-ltb _ _ c.if-j-ge7.true) c.n
 add-i : tie.Need-overflow_add-i
 add-i c = search rules
 
-element-copy-out-if2 : tie.Need-bounds-s-i
+element-copy-out-if2 : tie.Need-bounds-seen-i
 element-copy-out-if2 c = search rules
 
 refuse-requires : tie.Need-refuse-requires
 refuse-requires c κs = search rules
 
-returns-2 : tie.Need-returns-then-s-i
+returns-2 : tie.Need-returns-then-seen-i
 unfolding system_at
 returns-2 c =
     let l = c.before.before.before.before in
     let s = l.args.s in
-    rw (← (at_letter l), lt-ltb _ _ c.if-j-ge7.false) (c.refuse.ensures ∙ sym (is_repeated s (15 + l.letter_place-j.result) _ (omega arith) c.if-s-i.true))
+    rw (← (at_letter l), lt-ltb _ _ c.if-j-ge7.false) (c.refuse.ensures ∙ sym (is_repeated s (15 + l.letter_place-j.result) _ (omega arith) c.if-seen-i.true))
 
 hear-system-requires : tie.Need-hear_system-requires
 hear-system-requires c κs = search rules
@@ -64,7 +64,7 @@ returns-3 c =
     let k : told_heard (content (15 + l.letter_place-j.result)) h.hear_system.result ≡ entry system (pad a.line.now) =
     subst (λ (k : Content). told_heard k h.hear_system.result ≡ entry system (pad a.line.now)) (sym (system_content l.letter_place-j.result)) h.hear_system.ensures in
     rw (← (at_letter l), lt-ltb _ _ c.if-j-ge7.false)
-    (c.keep.ensures ∙ ap (kept a.s (15 + l.letter_place-j.result)) k ∙ sym (is_fresh a.s (15 + l.letter_place-j.result) _ (omega arith) c.if-s-i.false))
+    (c.keep.ensures ∙ ap (kept a.s (15 + l.letter_place-j.result)) k ∙ sym (is_fresh a.s (15 + l.letter_place-j.result) _ (omega arith) c.if-seen-i.false))
 
 pub at_system_spec : {M : Type 1} → statement M
 at_system_spec = tie.close (tie.spec byte-at-requires letter-place-requires no-system-requires returns add-i element-copy-out-if2 refuse-requires returns-2 hear-system-requires keep-requires returns-3)

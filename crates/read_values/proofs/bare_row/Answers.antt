@@ -14,9 +14,6 @@ returns-then-text-n c = λ h. absurd (omega arith)
 pub returns-then-z-eq0 : goal.returns-then-z-eq0
 returns-then-z-eq0 c = λ h. absurd (omega arith)
 
-pub returns-then-text-i-eq32 : goal.returns-then-text-i-eq32
-returns-then-text-i-eq32 c = λ h. absurd (omega arith)
-
 pub returns-then-not-ok : goal.returns-then-not-ok
 returns-then-not-ok c = λ h. absurd (omega arith)
 
@@ -32,4 +29,4 @@ returns c =
     let f = c.before in
     let q = f.before.before.before.before in
     let b = q.before.before.before in
-    λ h. bare_row_of b.args.text.now b.args.m q.end_at-z.result (b.args.m * 5 - 1) b.requires.0 b.requires.1 (omega arith) q.end_at-z.ensures (omega arith) refl f.if-text-i-eq32.false f.all_bare-ok.result f.all_bare-ok.ensures (not-false _ (ap not c.if-not-ok.false))
+    λ h. bare_row_of b.args.text.now b.args.m q.end_at-z.result (b.args.m * 5 - 1) b.requires.0 b.requires.1 (omega arith) q.end_at-z.ensures (omega arith) refl (omega arith) f.all_bare-ok.result f.all_bare-ok.ensures (not-false _ (ap not c.if-not-ok.false))

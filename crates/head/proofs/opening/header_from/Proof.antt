@@ -36,10 +36,10 @@ loop-holds c =
     let b = begins c.nothing-s.result o.args.lines.now e.0 e.1 e.2 e.3 o.requires.2 in
     (omega (arith, o.requires.0), omega (arith, o.requires.1), b.0, b.1 _ _, refl)
 
-pass-requires : tie.Need-pass-r-requires invariant-loop decreases-loop
+pass-requires : tie.Need-pass-requires invariant-loop decreases-loop
 pass-requires c κs = let i = c.loop-answer.invariant in (i.0, i.1, i.2)
 
-enum-known-onward : tie.Need-enum_known-onward invariant-loop decreases-loop
+enum-known-onward : tie.Need-enum_known-answer invariant-loop decreases-loop
 enum-known-onward c = search rules
 
 handed-requires : tie.Need-handed-requires invariant-loop decreases-loop
@@ -50,27 +50,27 @@ same_length c = search rules
 
 returns : tie.Need-returns-in-Stop invariant-loop decreases-loop
 returns c =
-    let p = c.before.before.before.before.before in
-    let l = p.before.before in
+    let p = c.before.before.before.before in
+    let l = p.before.before.before in
     let a = l.args in
-    let q : Stops a.text.now a.version l.loop-answer.s l.loop-answer.lines l.loop-answer.at l.loop-answer.n p.pass-r.result.state p.pass-r.new.lines c.in-Stop.answer =
-    subst (λ (x : Onward). Passes a.text.now a.version l.loop-answer.s l.loop-answer.lines l.loop-answer.at l.loop-answer.n x p.pass-r.result.state p.pass-r.new.lines) c.in-Stop.is p.pass-r.ensures in
-    hands _ a.text.now c.in-Stop.answer (texts_of p.pass-r.result.state) p.pass-r.new.lines c.handed.result c.handed.ensures.0 c.handed.ensures.1 (l.loop-answer.invariant.3 ∙ q.same) q.sound
+    let q : Stops a.text.now a.version l.loop-answer.s l.loop-answer.lines l.loop-answer.at l.loop-answer.n p.pass.new.s p.pass.new.lines c.in-Stop.answer =
+    subst (λ (x : Onward). Passes a.text.now a.version l.loop-answer.s l.loop-answer.lines l.loop-answer.at l.loop-answer.n x p.pass.new.s p.pass.new.lines) c.in-Stop.is p.pass.ensures in
+    hands _ a.text.now c.in-Stop.answer (texts_of p.pass.new.s) p.pass.new.lines c.handed.result c.handed.ensures.0 c.handed.ensures.1 (l.loop-answer.invariant.3 ∙ q.same) q.sound
 
-enum-known-onward-2 : tie.Need-enum_known-onward-in-On-1 invariant-loop decreases-loop
+enum-known-onward-2 : tie.Need-enum_known-next invariant-loop decreases-loop
 enum-known-onward-2 c = search rules
 
 -- on from the next row
 onward_goes : (c : tie.In-On invariant-loop decreases-loop) →
-    let p = c.before.before.before.before in
-    let l = p.before.before in
+    let p = c.before.before.before in
+    let l = p.before.before.before in
     let a = l.args in
-    Goes a.text.now a.version l.loop-answer.s l.loop-answer.lines l.loop-answer.at l.loop-answer.n p.pass-r.result.state p.pass-r.new.lines c.in-On.next c.in-On.m
+    Goes a.text.now a.version l.loop-answer.s l.loop-answer.lines l.loop-answer.at l.loop-answer.n p.pass.new.s p.pass.new.lines c.in-On.next c.in-On.m
 onward_goes c =
-    let p = c.before.before.before.before in
-    let l = p.before.before in
+    let p = c.before.before.before in
+    let l = p.before.before.before in
     let a = l.args in
-    subst (λ (x : Onward). Passes a.text.now a.version l.loop-answer.s l.loop-answer.lines l.loop-answer.at l.loop-answer.n x p.pass-r.result.state p.pass-r.new.lines) c.in-On.is p.pass-r.ensures
+    subst (λ (x : Onward). Passes a.text.now a.version l.loop-answer.s l.loop-answer.lines l.loop-answer.at l.loop-answer.n x p.pass.new.s p.pass.new.lines) c.in-On.is p.pass.ensures
 
 loop-less : tie.Need-loop-answer-smaller invariant-loop decreases-loop
 loop-less c = omega (arith, (onward_goes c).ahead, (onward_goes c).within)
