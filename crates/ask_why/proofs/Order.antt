@@ -15,7 +15,7 @@ use Rattle.ask_cells.specs.Place.{RightOf, first, next, InCell}
 use Rattle.ask_cells.specs.declared.Cell.{Cell}
 use Rattle.ask_cells.proofs.EarthLaws.{strip_turn}
 use Rattle.ask_nodes.specs.declared.Weighed.{Weighed}
-use Rattle.ask_sums.specs.Mean.{right, corners, spread}
+use Rattle.ask_sums.specs.Mean.{corners, spread}
 use Rattle.ask_sums.proofs.SumLaws.{corners_elim, all_corners}
 use Rattle.ask.specs.Ask.{Question, Served, Weighs}
 use Rattle.ask.specs.Sun.{unit_of}

@@ -13,7 +13,7 @@ use lib.Seq.{take-append_seam}
 use Rattle.kit.specs.Answer.{All, pick}
 use Rattle.mapset.specs.Areas.{Sound}
 use Rattle.ask_round.specs.Round.{Nearest}
-use Rattle.ask_nodes.specs.Value.{kind_of, value, or_zero}
+use Rattle.ask_nodes.specs.Value.{kind_of, or_zero}
 use Rattle.ask_nodes.specs.Units.{bare}
 use Rattle.ask_nodes.specs.declared.Weighed.{Weighed}
 use Rattle.ask_nodes.proofs.NodeLaws.{bare_node}

@@ -28,7 +28,7 @@ use Rattle.ask.specs.declared.Asked.TheVariants as A
 use Rattle.ask.proofs.AskLaws.{steady, last_is, can_sum}
 use Rattle.ask.proofs.Once.{weighs_once}
 use Rattle.ask.proofs.Between.{thousandths_of, in_unit_of}
-use Rattle.ask_why.specs.Explain.{needed, listed, places, Gap, nearest, last, between, Denominator, CauseAt, told, Lists, Explains}
+use Rattle.ask_why.specs.Explain.{needed, listed, places, Gap, nearest, last, between, Denominator, CauseAt, Lists, Explains}
 use Rattle.ask_why.specs.Parts.{Listable, none_listed, collect, first, cause, blank, without, of_answer, denominator, with_nodes, explained_by, is_22, has_nodes}
 use Rattle.ask_why.specs.declared.causes.First.{First}
 use Rattle.ask_why.specs.declared.nodes.Listing.{Listing}

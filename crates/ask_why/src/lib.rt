@@ -128,10 +128,11 @@ fn denominator_of(shares: Shares, c: Cell) -> u64
 fn without(why: Why, first: First) -> Explanation
     ensures { result ≡ parts.without why first }
 {
-    match first {
-        First::At(l) => blank(Explained::Lacks(l)),
-        First::Nowhere => blank(Explained::Refused(why)),
-    }
+    let answer = match first {
+        First::At(l) => Explained::Lacks(l),
+        First::Nowhere => Explained::Refused(why),
+    };
+    blank(answer)
 }
 
 // The nodes beside an answer, in the area of its kind.
@@ -148,22 +149,17 @@ fn explain_in(
     requires { Listable values.now exponents.now marks.now s shares first second }
     ensures { result ≡ explained_by asked shares first second s values.now exponents.now marks.now }
 {
-    match asked {
-        Asked::Tecu(v) => nodes::beside(
-            Explained::Tecu(v),
-            denominator_of(shares, first),
-            nodes::list(shares, first, second, s, values, exponents, marks),
-        ),
-        Asked::Km(v) => nodes::beside(
-            Explained::Km(v),
-            denominator_of(shares, first),
-            nodes::list(shares, first, second, s, values, exponents, marks),
-        ),
-        Asked::Refused(why) => without(
+    if let Asked::Refused(why) = asked {
+        return without(
             why,
             causes::find(shares, first, second, s, values, exponents, marks),
-        ),
+        );
     }
+    nodes::beside(
+        answer_of(asked),
+        denominator_of(shares, first),
+        nodes::list(shares, first, second, s, values, exponents, marks),
+    )
 }
 
 fn explain_kind(

@@ -55,26 +55,23 @@ fn listed(n: Weighed, layer: u64, value: Node) -> Needed
     }
 }
 
-fn put(l: Listing, n: Needed) -> Listing
-    requires { l.count < 8 }
-    ensures { result ≡ parts.put l n }
+// One more behind the others.
+fn put(l: &mut Listing, n: Needed)
+    requires { l.old.count < 8 }
+    ensures { l.new ≡ parts.put l.old n }
 {
     let at = l.count as usize;
-    let mut nodes = l.nodes;
-    nodes[at] = n;
-    Listing {
-        count: l.count + 1,
-        nodes: nodes,
-    }
+    l.nodes[at] = n;
+    l.count += 1;
 }
 
 // A node more, where it is needed.
-fn add(l: Listing, n: Weighed, s: Shape, values: &[i32], exponents: &[i32], marks: &[u8]) -> Listing
-    requires { (l.count < 8) × ((n.map ≤ 1001) × Reaches values.now exponents.now marks.now s n) }
-    ensures { result ≡ parts.add s values.now exponents.now marks.now l n }
+fn add(l: &mut Listing, n: Weighed, s: Shape, values: &[i32], exponents: &[i32], marks: &[u8])
+    requires { (l.old.count < 8) × ((n.map ≤ 1001) × Reaches values.now exponents.now marks.now s n) }
+    ensures { l.new ≡ parts.add s values.now exponents.now marks.now l.old n }
 {
     if n.weight == 0 {
-        return l;
+        return;
     }
     put(
         l,
@@ -83,7 +80,7 @@ fn add(l: Listing, n: Weighed, s: Shape, values: &[i32], exponents: &[i32], mark
             s.layer,
             ask_nodes::node_at(n, s, values, exponents, marks),
         ),
-    )
+    );
 }
 
 // All that are needed.
@@ -102,8 +99,8 @@ pub fn list(
     let mut l = empty();
     let mut k: u64 = 0;
     while k < 8 {
-        l = add(
-            l,
+        add(
+            &mut l,
             ask_sums::nth_node(shares, first, second, k),
             s,
             values,

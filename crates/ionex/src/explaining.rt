@@ -81,7 +81,7 @@ pub extern "C" fn ionex_explain(
     }
     let h = c_given::header_in(header);
     let x = c_given::texts_in(texts);
-    let answer = explain(
+    let answer = ask_why::explain(
         h,
         x,
         &texts[LINES..END],

@@ -1,7 +1,7 @@
 -- `ask_why::nodes::list` meets its contract.
 use mathlib.Core.Path.{◌≡◌, refl, ap, ◌∙◌}
 use native.Mathlib.Omega.{arith}
-use Prim.Native.Nat.{◌-◌, ◌≤◌, ◌<◌}
+use Prim.Native.Nat.{◌≤◌, ◌<◌}
 use lib.ListN.{length, get_or, drop_of_length-le}
 use Rattle.kit.proofs.ListLaws.{all_in}
 use Rattle.ask_nodes.specs.declared.Weighed.{Weighed}
@@ -19,8 +19,8 @@ loop-k-init c = rw c.empty-l.ensures (omega arith, omega arith, refl)
 pub nth_node-requires : goal.nth_node-requires
 nth_node-requires c = let p = c.requires in (p.early, p.late, p.map, omega arith)
 
-pub add-l-requires : goal.add-l-requires
-add-l-requires c =
+pub add-requires : goal.add-requires
+add-requires c =
     let l = c.before.before in
     let s = l.before.before.before in
     let a = s.args in
@@ -46,8 +46,8 @@ loop-k-preserved c =
     let a = s.args in
     let ns = spread a.shares a.first a.second in
     let h : l.loop-k.k < length ns = omega (arith, eight_nodes a.shares a.first a.second) in
-    let t : c.add-l.result ≡ add a.s a.values.now a.exponents.now a.marks.now l.loop-k.l (get_or ns l.loop-k.k (corner 0 0 0 0)) =
-    c.add-l.ensures ∙ ap (λ (n : Weighed). add a.s a.values.now a.exponents.now a.marks.now l.loop-k.l n) c.nth_node.ensures in (
+    let t : c.add.new.l ≡ add a.s a.values.now a.exponents.now a.marks.now l.loop-k.l (get_or ns l.loop-k.k (corner 0 0 0 0)) =
+    c.add.ensures ∙ ap (λ (n : Weighed). add a.s a.values.now a.exponents.now a.marks.now l.loop-k.l n) c.nth_node.ensures in (
       omega arith,
       rw t (omega (arith, l.loop-k.invariant.1, add_count a.s a.values.now a.exponents.now a.marks.now l.loop-k.l (get_or ns l.loop-k.k (corner 0 0 0 0)))),
       rw t (next_collected a.s a.values.now a.exponents.now a.marks.now ns (corner 0 0 0 0) l.loop-k.k h l.loop-k.l) ∙ l.loop-k.invariant.2,
