@@ -1,6 +1,5 @@
 //! Files read and written; `-` is standard input or output.
 
-use crate::filter;
 use crate::status::Stop;
 use std::borrow::Cow;
 use std::ffi::OsStr;
@@ -74,11 +73,6 @@ pub fn read(file: &OsStr, most: u64) -> Result<Vec<u8>, Stop> {
         })
     };
     let bytes = read.map_err(|fault| unread(words(&fault)))?;
-    let bytes = if filter::packed(&bytes) {
-        filter::unpacked(bytes, most).map_err(unread)?
-    } else {
-        bytes
-    };
     if bytes.len() as u64 > most {
         return Err(unread(format!(
             "more than {most} bytes; --max-bytes reads more"
