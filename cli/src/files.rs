@@ -58,7 +58,7 @@ pub fn words(fault: &io::Error) -> String {
     }
 }
 
-/// All bytes of a file, unpacked, where they are not more than `most`.
+/// All bytes of a file, where they are not more than `most`.
 pub fn read(file: &OsStr, most: u64) -> Result<Vec<u8>, Stop> {
     let unread = |words: String| Stop::Unread {
         name: name(file),
