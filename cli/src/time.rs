@@ -10,14 +10,14 @@ pub fn parse(word: &str) -> Result<Epoch, String> {
     };
     match found {
         Some(epoch) => Ok(epoch),
-        None => of_date(word).map_err(|_| {
+        None => of_date(word).map_err(|fault| {
             let digits = word.bytes().all(|byte| byte.is_ascii_digit()) && word.len() > 4;
             let hint = if digits {
                 format!("; Unix time is written @{word}")
             } else {
                 String::new()
             };
-            format!("{word:?}: expected a time of 1900 to 2199, as 2010-12-04T06:30:00{hint}")
+            format!("{word:?}: expected {}{hint}", fault.expected())
         }),
     }
 }
@@ -219,7 +219,7 @@ mod tests {
         );
         assert_eq!(
             parse("1291444200").unwrap_err(),
-            "\"1291444200\": expected a time of 1900 to 2199, as 2010-12-04T06:30:00; Unix time is written @1291444200"
+            "\"1291444200\": expected a date of 1900 to 2199 and a time, as 2010-12-04T06:30:00; Unix time is written @1291444200"
         );
     }
 }

@@ -140,12 +140,12 @@ fn not_understood() {
         ),
         (
             &["ask", "x", "--at", "1,2", "--time", "1291444200"],
-            "ask: --time \"1291444200\": expected a time of 1900 to 2199, as 2010-12-04T06:30:00; Unix time is written \
+            "ask: --time \"1291444200\": expected a date of 1900 to 2199 and a time, as 2010-12-04T06:30:00; Unix time is written \
              @1291444200; see ionex ask --help",
         ),
         (
             &["ask", "x", "--at", "1,2", "--time", "noon"],
-            "ask: --time \"noon\": expected a time of 1900 to 2199, as 2010-12-04T06:30:00; see ionex ask --help",
+            "ask: --time \"noon\": expected a date of 1900 to 2199 and a time, as 2010-12-04T06:30:00; see ionex ask --help",
         ),
         (
             &["ask", "x", "--csv", "--json"],
