@@ -1,6 +1,5 @@
 //! What is written behind a command's name: files, and options by their names.
 
-use crate::diagnosis::distance;
 use crate::files;
 use crate::status::{usage, Stop};
 use std::ffi::{OsStr, OsString};
@@ -59,7 +58,7 @@ impl Args {
             return Ok(());
         }
         let Some(option) = known(options.values, name).or_else(|| known(&COMMON, name)) else {
-            return usage(format!("unknown option {name}{}", meant(options, name)));
+            return usage(format!("unknown option {name}"));
         };
         if self.value(option).is_some() {
             return usage(format!("{option} is given twice"));
@@ -86,7 +85,7 @@ impl Args {
             .map(|value| value.to_string_lossy().into_owned())
     }
 
-    /// All bytes of a file, unpacked, where they are not more than --max-bytes.
+    /// All bytes of a file, where they are not more than --max-bytes.
     pub fn read(&self, file: &OsStr) -> Result<Vec<u8>, Stop> {
         let most = self.number("--max-bytes", 1)?;
         files::read(file, most.unwrap_or(files::MOST_BYTES))
@@ -157,16 +156,6 @@ fn split(word: &OsStr) -> (String, Option<OsString>) {
     match bytes.iter().position(|&byte| byte == b'=') {
         Some(end) => (name(&bytes[..end]), Some(part(&bytes[end + 1..]))),
         None => (name(bytes), None),
-    }
-}
-
-/// The option that a slip was made in.
-fn meant(options: &Options, name: &str) -> String {
-    let all = [options.flags, options.values, &COMMON].concat();
-    let near = all.iter().map(|option| (distance(option, name), option));
-    match near.min() {
-        Some((slips, option)) if slips <= 2 && slips + 2 < option.len() => format!(" ({option}?)"),
-        _ => String::new(),
     }
 }
 

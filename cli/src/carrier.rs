@@ -1,6 +1,6 @@
 //! Carriers by the names of their signals.
 
-use ionex::Carrier;
+use ionex::{Carrier, ParseError};
 
 /// The signals of GPS, Galileo and BeiDou, in hertz.
 const NAMES: [(&str, f64); 11] = [
@@ -49,10 +49,7 @@ pub fn parse(word: &str) -> Result<Carrier, String> {
             )),
         };
     }
-    word.parse().map_err(|_| {
-        let names = NAMES.map(|(name, _)| name).join(", ");
-        format!("{word:?}: expected {names}, G1:K, G2:K with a channel K, or hertz, as 1575420000")
-    })
+    word.parse().map_err(|fault: ParseError| fault.to_string())
 }
 
 #[cfg(test)]

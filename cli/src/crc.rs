@@ -1,6 +1,6 @@
-//! The checksum of index files.
+//! The checksum of PNG files and index files.
 
-/// CRC-32 as in ISO 3309.
+/// CRC-32 as in ISO 3309 and PNG.
 pub fn crc32(data: &[u8]) -> u32 {
     let mut sum = !0;
     for &byte in data {

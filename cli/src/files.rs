@@ -1,6 +1,5 @@
 //! Files read and written; `-` is standard input or output.
 
-use crate::filter;
 use crate::status::Stop;
 use std::borrow::Cow;
 use std::ffi::OsStr;
@@ -59,7 +58,7 @@ pub fn words(fault: &io::Error) -> String {
     }
 }
 
-/// All bytes of a file, unpacked, where they are not more than `most`.
+/// All bytes of a file, where they are not more than `most`.
 pub fn read(file: &OsStr, most: u64) -> Result<Vec<u8>, Stop> {
     let unread = |words: String| Stop::Unread {
         name: name(file),
@@ -74,11 +73,6 @@ pub fn read(file: &OsStr, most: u64) -> Result<Vec<u8>, Stop> {
         })
     };
     let bytes = read.map_err(|fault| unread(words(&fault)))?;
-    let bytes = if filter::packed(&bytes) {
-        filter::unpacked(bytes, most).map_err(unread)?
-    } else {
-        bytes
-    };
     if bytes.len() as u64 > most {
         return Err(unread(format!(
             "more than {most} bytes; --max-bytes reads more"

@@ -8,7 +8,6 @@ pub mod commands;
 mod crc;
 pub mod diagnosis;
 mod files;
-mod filter;
 mod form;
 mod index_file;
 mod jobs;
@@ -53,8 +52,7 @@ const CLOSING: &str = "
   --max-bytes N          with every command: texts of up to N bytes are read (if nothing is said 1500000000: only
                          remarks make a text longer that is accepted)
 
-A FILE that is - is standard input. One packed by gzip or compress (.gz, .Z) is unpacked by gzip as it is read. All
-times are universal time (UT).
+A FILE that is - is standard input. All times are universal time (UT).
 Exit status: 0 done, 1 a file or a question was refused, 2 a wrong command or a file that cannot be read or written;
 of several the highest. 3 of choose: nothing was chosen.
 ";

@@ -222,7 +222,7 @@ impl<A: Answers> Answering<'_, A> {
             };
             return Line::Words(Status::Done, nothing);
         }
-        let fault = match parse_line(line, self.round) {
+        let fault = match question(line, self.round) {
             Ok(asked) => return Line::Question(asked),
             Err(fault) => fault,
         };
@@ -247,8 +247,34 @@ fn names(line: &str) -> bool {
     start.is_some_and(|start| start.eq_ignore_ascii_case("lat"))
 }
 
+/// The question of a line, its place rounded to hundredths where that was asked for.
+fn question(line: &str, round: bool) -> Result<Asked, String> {
+    if !round {
+        let (place, time) = parse_line(line)?;
+        return Ok(Asked {
+            place,
+            time,
+            rounded: false,
+        });
+    }
+    let (lat, lon, time) = parts(line)?;
+    let (place, rounded) = place::of_degrees(lat, lon, true).map_err(|fault| fault.to_string())?;
+    Ok(Asked {
+        place,
+        time: time::parse(&time)?,
+        rounded,
+    })
+}
+
 /// `LAT LON TIME`, with blanks or commas between them.
-fn parse_line(line: &str, round: bool) -> Result<Asked, String> {
+fn parse_line(line: &str) -> Result<(Place, Epoch), String> {
+    let (lat, lon, time) = parts(line)?;
+    let place = Place::from_degrees(lat, lon).map_err(|fault| fault.to_string())?;
+    Ok((place, time::parse(&time)?))
+}
+
+/// The words of a question; a time may be of two.
+fn parts(line: &str) -> Result<(&str, &str, String), String> {
     let mut words = line
         .split([' ', '\t', ',', '\r'])
         .filter(|word| !word.is_empty());
@@ -256,13 +282,7 @@ fn parse_line(line: &str, round: bool) -> Result<Asked, String> {
         return Err(format!("{:?}: expected LAT LON TIME", line.trim()));
     };
     let rest: Vec<&str> = words.collect();
-    let (place, rounded) = place::of_degrees(lat, lon, round).map_err(|fault| fault.to_string())?;
-    let time = time::parse(&rest.join(" "))?;
-    Ok(Asked {
-        place,
-        time,
-        rounded,
-    })
+    Ok((lat, lon, rest.join(" ")))
 }
 
 /// No question is longer, so a line without an end does not fill the memory.
@@ -295,17 +315,16 @@ mod tests {
 
     #[test]
     fn lines_of_questions() {
-        let asked = Asked {
-            place: Place::new(4725, -850),
-            time: time::parse("2010-12-04T06:30:00").unwrap(),
-            rounded: false,
-        };
+        let asked = (
+            Place::new(4725, -850),
+            time::parse("2010-12-04T06:30:00").unwrap(),
+        );
         for line in [
             "47.25 -8.5 2010-12-04T06:30:00",
             "  47.25\t-8.50  2010-12-04 06:30:00\r",
             "47.25,-8.5,2010-12-04T06:30:00",
         ] {
-            assert_eq!(parse_line(line, false), Ok(asked), "{line}");
+            assert_eq!(parse_line(line), Ok(asked), "{line}");
         }
         for line in [
             "47.25",
@@ -314,7 +333,7 @@ mod tests {
             "47.25 8.5 noon",
             "a b 2010-12-04",
         ] {
-            assert!(parse_line(line, false).is_err(), "{line}");
+            assert!(parse_line(line).is_err(), "{line}");
         }
     }
 

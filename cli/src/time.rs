@@ -1,6 +1,6 @@
 //! Times as people write them. All are in universal time (UT), as the epochs of IONEX are.
 
-use ionex::{Date, Epoch};
+use ionex::{Date, Epoch, ParseError};
 
 /// A time in one of the forms of `FORMS`; or what is wrong with it.
 pub fn parse(word: &str) -> Result<Epoch, String> {
@@ -10,14 +10,14 @@ pub fn parse(word: &str) -> Result<Epoch, String> {
     };
     match found {
         Some(epoch) => Ok(epoch),
-        None => word.parse().map_err(|_| {
+        None => of_date(word).map_err(|fault| {
             let digits = word.bytes().all(|byte| byte.is_ascii_digit()) && word.len() > 4;
             let hint = if digits {
                 format!("; Unix time is written @{word}")
             } else {
                 String::new()
             };
-            format!("{word:?}: expected a time of 1900 to 2199, as 2010-12-04T06:30:00{hint}")
+            format!("{word:?}: expected {}{hint}", fault.expected())
         }),
     }
 }
@@ -47,6 +47,14 @@ macro_rules! at_help {
 /// `2010-12-04 06:30:00`
 pub fn words(epoch: Epoch) -> String {
     epoch.to_string().replace('T', " ")
+}
+
+/// A date with a time of day, or a date alone, whose first second is meant.
+fn of_date(word: &str) -> Result<Epoch, ParseError> {
+    match word.len() {
+        10 => format!("{word}T00:00:00").parse(),
+        _ => word.parse(),
+    }
 }
 
 fn whole(word: &str) -> Option<i64> {
@@ -115,7 +123,7 @@ fn of_day_of_year(word: &str) -> Option<Epoch> {
             (year, day, of_day(time)?)
         }
     };
-    let first: Epoch = format!("{year}-01-01").parse().ok()?;
+    let first: Epoch = format!("{year}-01-01T00:00").parse().ok()?;
     let found = first.moved(86_400 * (whole(day)? - 1) + second).ok()?;
     (found >= first && found.date().year == first.date().year).then_some(found)
 }
@@ -129,6 +137,20 @@ fn of_day(time: &str) -> Option<i64> {
 #[cfg(test)]
 mod tests {
     use super::*;
+
+    #[test]
+    fn three_forms() {
+        let noon = parse("2010-12-04T12:00:00").unwrap();
+        assert_eq!(parse("2010-12-04 12:00:00").unwrap(), noon);
+        assert_eq!(words(noon), "2010-12-04 12:00:00");
+        assert_eq!(
+            parse("2010-12-04").unwrap().seconds(),
+            noon.seconds() - 43_200
+        );
+        for word in ["", "2010-13-04", "2010-12-4", "2010-12-04T12", "noon"] {
+            assert!(parse(word).is_err(), "{word}");
+        }
+    }
 
     #[test]
     fn one_time_in_every_form() {
@@ -197,7 +219,7 @@ mod tests {
         );
         assert_eq!(
             parse("1291444200").unwrap_err(),
-            "\"1291444200\": expected a time of 1900 to 2199, as 2010-12-04T06:30:00; Unix time is written @1291444200"
+            "\"1291444200\": expected a date of 1900 to 2199 and a time, as 2010-12-04T06:30:00; Unix time is written @1291444200"
         );
     }
 }

@@ -149,6 +149,11 @@ fn refused_blocks() {
             "blanks in columns 47 to 60 of STATION / BIAS / RMS, found `2`",
         ),
         (
+            &[("   E07     0.100     0.200", SATELLITE)],
+            "3:4: refused 7",
+            "the system: `G` or a blank for GPS, `R` for GLONASS, found `E`",
+        ),
+        (
             &[("   G00     0.100     0.200", SATELLITE)],
             "3:5: refused 7",
             "the satellite's number: 1 to 99, found `00`",

@@ -19,12 +19,12 @@ fn accepted_files() {
     ];
     let ran = ionex(&[&["check"], &files[..]].concat());
     let said = [
-        "5 TEC, 5 RMS and 5 height maps, 35 x 72, 1995-10-15 00:00:00 to 1995-10-16 00:00:00",
-        "5 TEC and 5 RMS maps, 13 layers of 35 x 72, 1995-10-15 00:00:00 to 1995-10-16 00:00:00",
-        "2 TEC and 1 RMS maps, 2 x 3, 2000-01-01 00:00:00 to 2000-01-01 02:00:00",
-        "1 TEC map, 40 x 100, 2000-01-01 00:00:00 to 2000-01-01 00:00:00",
-        "2 TEC and 1 RMS maps, 2 x 3, 2000-01-01 00:00:00 to 2000-01-01 02:00:00",
-        "25 TEC and 25 RMS maps, 71 x 73, 2010-12-04 00:00:00 to 2010-12-05 00:00:00",
+        "5 TEC, 5 RMS and 5 height maps, 35 × 72, 1995-10-15 00:00:00 to 1995-10-16 00:00:00",
+        "5 TEC and 5 RMS maps, 13 layers of 35 × 72, 1995-10-15 00:00:00 to 1995-10-16 00:00:00",
+        "2 TEC and 1 RMS maps, 2 × 3, 2000-01-01 00:00:00 to 2000-01-01 02:00:00",
+        "1 TEC map, 40 × 100, 2000-01-01 00:00:00 to 2000-01-01 00:00:00",
+        "2 TEC and 1 RMS maps, 2 × 3, 2000-01-01 00:00:00 to 2000-01-01 02:00:00",
+        "25 TEC and 25 RMS maps, 71 × 73, 2010-12-04 00:00:00 to 2010-12-05 00:00:00",
     ];
     let expected: String = files
         .iter()
@@ -59,7 +59,7 @@ fn refused_examples() {
 #[test]
 fn an_area_is_never_too_short() {
     let ran = ionex(&["check", "tests/examples/refused-11.inx"]);
-    let said = "ok, 1 TEC map, 6 x 721, 2000-01-01 00:00:00 to 2000-01-01 00:00:00";
+    let said = "ok, 1 TEC map, 6 × 721, 2000-01-01 00:00:00 to 2000-01-01 00:00:00";
     assert_eq!(
         ran.done(),
         format!("tests/examples/refused-11.inx: {said}\n")
@@ -103,7 +103,7 @@ fn several_files() {
 #[test]
 fn standard_input() {
     let ran = ionex_given(&example("accepted-canonical.inx"), &["check", "-"]);
-    let said = "ok, 2 TEC and 1 RMS maps, 2 x 3, 2000-01-01 00:00:00 to 2000-01-01 02:00:00";
+    let said = "ok, 2 TEC and 1 RMS maps, 2 × 3, 2000-01-01 00:00:00 to 2000-01-01 02:00:00";
     assert_eq!(ran.done(), format!("standard input: {said}\n"));
     let ran = ionex_given(b"", &["check", "-"]);
     assert!(ran.text().starts_with("standard input:1:0: refused 10: "));
@@ -160,7 +160,17 @@ fn hints_for_what_people_meet() {
         (
             archive[..archive.len() - 72].to_vec(),
             "10 44:0",
-            "some centres leave END OF FILE out; if nothing else is missing, `ionex mend` adds it",
+            "some centres leave END OF FILE out; if nothing else is missing, add it: `printf '%60sEND OF FILE\\n' '' >>FILE`",
+        ),
+        (
+            [b"\x1f\x8b\x08\x00\x12\x34".as_slice(), &good].concat(),
+            "1 1:81",
+            "this is a gzip file: unpack it with `gunzip` first",
+        ),
+        (
+            b"\x1f\x9d\x90ab\n".to_vec(),
+            "2 1:1",
+            "this is a file of `compress` (.Z): unpack it with `uncompress` or `gzip -d` first",
         ),
         (
             b"\x28\xb5\x2f\xfd\x04\x00\r\x01\x02\r\x03\n".to_vec(),
@@ -200,12 +210,12 @@ fn hints_for_what_people_meet() {
         (
             String::from_utf8(good.clone()).expect("ASCII").replace('\n', "\r").into_bytes(),
             "1 1:81",
-            "lines end in CR alone: `ionex mend` makes LF of them",
+            "lines end in CR alone here: turn them into LF, as by `tr '\\r' '\\n'`",
         ),
         (
             b"     1.1\rMAPS\rGNS".to_vec(),
             "2 1:9",
-            "lines end in CR alone: `ionex mend` makes LF of them",
+            "lines end in CR alone here: turn them into LF, as by `tr '\\r' '\\n'`",
         ),
         (
             damaged(|lines| lines[1] = "one\rtwo\rthree".to_string()),
@@ -493,12 +503,12 @@ fn too_many_descriptions() {
          \u{20}  39 | {blanks}DESCRIPTION\n\
          \u{20}     | {blanks}^~~~~~~~~~~\n\
          \u{20}     = expected at most 20 DESCRIPTION lines: line 38 is the last\n\
-         \u{20}     = hint: there may be any number of COMMENT lines, which are skipped: `ionex mend` makes COMMENT of \
-         those that are too many\n"
+         \u{20}     = hint: there may be any number of COMMENT lines, which are skipped: make COMMENT of those that are too \
+         many\n"
     );
     assert_eq!((ran.status, ran.text()), (1, expected.as_str()));
     let ran = ionex(&["check", "tests/examples/accepted-descriptions.inx"]);
-    assert!(ran.done().contains(": ok, 2 TEC and 1 RMS maps, 2 x 3, "));
+    assert!(ran.done().contains(": ok, 2 TEC and 1 RMS maps, 2 × 3, "));
 }
 
 /// Labels with a slip, in small letters, or in another column.
@@ -512,11 +522,11 @@ fn labels_that_are_meant() {
         ("INTREVAL", "`INTERVAL` may be meant"),
         (
             " INTERVAL",
-            "`INTERVAL` stands from column 62 on, and belongs into column 61",
+            "a label is written as `INTERVAL`, from column 61 on",
         ),
         (
             "  interval",
-            "`INTERVAL` stands from column 63 on, and belongs into column 61",
+            "a label is written as `INTERVAL`, from column 61 on",
         ),
     ];
     for (label, hint) in cases {
@@ -561,8 +571,7 @@ fn a_kind_that_breaks_off() {
         "RMS maps end at 5 of 25: the file was probably cut off, so fetch it again"
     );
     // With no RMS map at all, or with the last of them, only END OF FILE may be missing.
-    let only =
-        "some centres leave END OF FILE out; if nothing else is missing, `ionex mend` adds it";
+    let only = "some centres leave END OF FILE out; if nothing else is missing, add it: `printf '%60sEND OF FILE\\n' '' >>FILE`";
     for end in ["    25", "    25"]
         .iter()
         .zip(["END OF TEC MAP", "END OF RMS MAP"])

@@ -88,7 +88,7 @@ fn refused_in_words() {
 #[test]
 fn json() {
     let ran = asked("0,10", "2000-01-01", "1e9", &["--json"]);
-    let expected = r#"{"lat":0.00,"lon":10.00,"time":"2000-01-01T00:00:00","kind":"tec","method":"between","layer":0,"carrier":1000000000,"tecu":0.500,"metres":0.2015}"#;
+    let expected = r#"{"lat":0.00,"lon":10.00,"time":"2000-01-01T00:00:00","kind":"tec","method":"between","layer":0,"carrier":1000000000,"tecu":0.5,"metres":0.2015}"#;
     assert_eq!(ran.done(), format!("{expected}\n"));
     let ran = asked("0,10", "2000-01-01", "1.5", &["--json"]);
     let expected = r#"{"lat":0.00,"lon":10.00,"time":"2000-01-01T00:00:00","kind":"tec","method":"between","layer":0,"carrier":1.5,"refused":25,"reason":"a carrier outside 1.0e9 to 2.0e9 hertz: 1.5 Hz"}"#;

@@ -248,7 +248,7 @@ fn agrees_with_the_second_program() {
     let checked = ionex_given(&ran.out, &["check", "-"]);
     assert_eq!(
         checked.done(),
-        "standard input: ok, 49 TEC and 24 RMS maps, 71 x 73, 2010-12-04 00:00:00 to 2010-12-06 00:00:00\n"
+        "standard input: ok, 49 TEC and 24 RMS maps, 71 × 73, 2010-12-04 00:00:00 to 2010-12-06 00:00:00\n"
     );
 }
 

@@ -7,7 +7,7 @@ use common::peer::Peer;
 use common::{example, ionex, ionex_given, lines, Folder};
 use std::fs;
 
-const OK: &str = "ok, 2 TEC and 1 RMS maps, 2 x 3, 2000-01-01 00:00:00 to 2000-01-01 02:00:00";
+const OK: &str = "ok, 2 TEC and 1 RMS maps, 2 × 3, 2000-01-01 00:00:00 to 2000-01-01 02:00:00";
 
 /// What is told of a text, with FILE and OUT for the two names; and what is written, where something is.
 fn mended(text: &[u8]) -> (i32, String, Option<Vec<u8>>) {
@@ -104,7 +104,7 @@ fn hour_24() {
             0,
             "FILE:4: mended: hour 24 made hour 0 of 2000-01-01\n\
              FILE:24: mended: hour 24 made hour 0 of 2000-01-01\n\
-             OUT: ok, 2 TEC and 1 RMS maps, 2 x 3, 1999-12-31 22:00:00 to 2000-01-01 00:00:00\n"
+             OUT: ok, 2 TEC and 1 RMS maps, 2 × 3, 1999-12-31 22:00:00 to 2000-01-01 00:00:00\n"
         )
     );
     assert_eq!(

@@ -1,10 +1,8 @@
-//! Names that would order a terminal about, texts without an end, and packed files.
+//! Names that would order a terminal about, texts without an end, packed files, and many files at once.
 
 mod common;
 
-use common::{command, example, global, ionex, ionex_given, Folder};
-use std::io::Write;
-use std::process::{Command, Stdio};
+use common::{command, example, global, ionex, Folder};
 
 /// Clears a screen, and begins a line of its own in a log.
 const WILD: &str = "a\x1b[2J\nionex: b.inx";
@@ -95,102 +93,35 @@ fn texts_without_an_end() {
     );
 }
 
-/// As gzip packs it.
-fn gzip(text: &[u8]) -> Vec<u8> {
-    let mut child = Command::new("gzip")
-        .arg("-c")
-        .stdin(Stdio::piped())
-        .stdout(Stdio::piped())
-        .spawn()
-        .expect("gzip");
-    let mut stdin = child.stdin.take().expect("standard input");
-    let text = text.to_vec();
-    let writer = std::thread::spawn(move || stdin.write_all(&text).expect("written"));
-    let output = child.wait_with_output().expect("an end");
-    writer.join().expect("a writer");
-    output.stdout
-}
-
-/// As `compress` may pack it: each byte a code of nine bits, and after 247 of them the code that empties the table.
-fn compress(text: &[u8]) -> Vec<u8> {
-    let mut packed = vec![0x1f, 0x9d, 0x90];
-    let codes = text.chunks(247).flat_map(|part| {
-        let bytes = part.iter().map(|&byte| u16::from(byte));
-        bytes.chain((part.len() == 247).then_some(256))
-    });
-    let (mut bits, mut count) = (0u32, 0);
-    for code in codes {
-        bits |= u32::from(code) << count;
-        count += 9;
-        while count >= 8 {
-            packed.push(bits as u8);
-            bits >>= 8;
-            count -= 8;
-        }
-    }
-    packed.push(bits as u8);
-    packed
-}
-
-/// Packed texts are read as they are, under their own names, and refused by the lines of the text.
+/// Packed texts are no texts: every command refuses them, and says by their first bytes how they are unpacked.
 #[test]
 fn packed_files() {
     let folder = Folder::new();
-    let good = example("accepted-canonical.inx");
-    let text = good.clone();
-    let files = [
-        folder.file("a.inx.gz", &gzip(&text)),
-        folder.file("a.inx.Z", &compress(&text)),
-        folder.file("b.inx.gz", &gzip(&example("refused-07.inx"))),
-    ];
-    let ran = ionex(&["check", &files[0], &files[1], &files[2]]);
-    let said = "ok, 2 TEC and 1 RMS maps, 2 x 3, 2000-01-01 00:00:00 to 2000-01-01 02:00:00";
-    let start = format!(
-        "{}: {said}\n{}: {said}\n{}:3:13: refused 7: a value outside what is accepted\n",
-        files[0], files[1], files[2]
-    );
-    assert_eq!((ran.status, ran.err.as_str()), (1, ""));
-    assert!(ran.text().starts_with(&start), "{}", ran.text());
-    assert_eq!(ionex(&["canon", &files[1]]).done().as_bytes(), good);
-    let ran = ionex_given(
-        &gzip(&good),
-        &[
-            "ask",
-            "-",
-            "--at",
-            "5.00,5.00",
-            "--time",
-            "2000-01-01T00:30:00",
-        ],
-    );
-    assert_eq!(ran.done(), "0.550 TECU\n");
-}
-
-/// A packed file that is cut, or that would unpack into too much; and no gzip at all.
-#[test]
-fn packed_files_that_cannot_be_read() {
-    let folder = Folder::new();
-    let packed = gzip(&global::text(false));
-    let cut = folder.file("cut.gz", &packed[..packed.len() / 2]);
-    ionex(&["check", &cut]).failed(
-        2,
-        &format!("ionex: {cut}: not unpacked: unexpected end of file\n"),
-    );
-    let bomb = folder.file("bomb.gz", &gzip(&vec![b' '; 10_000_000]));
-    ionex(&["check", &bomb, "--max-bytes", "1000000"]).failed(
-        2,
-        &format!("ionex: {bomb}: more than 1000000 bytes; --max-bytes reads more\n"),
-    );
-    let output = command()
-        .args(["check", &cut])
-        .env("PATH", folder.path(""))
-        .output()
-        .expect("the program runs");
-    assert_eq!(output.status.code(), Some(2));
-    assert_eq!(
-        String::from_utf8_lossy(&output.stderr),
-        format!("ionex: {cut}: packed, and the program gzip that unpacks it is not installed\n")
-    );
+    let gzip = folder.file("a.inx.gz", b"\x1f\x8b\x08\x00\x12\x34");
+    let compress = folder.file("a.inx.Z", b"\x1f\x9d\x90ab\n");
+    let place = ["--at", "5,5", "--time", "2000-01-01"];
+    for (file, told) in [
+        (&gzip, "unpack it with `gunzip` first\n"),
+        (
+            &compress,
+            "unpack it with `uncompress` or `gzip -d` first\n",
+        ),
+    ] {
+        for (command, more) in [
+            ("check", &[][..]),
+            ("info", &[]),
+            ("biases", &[]),
+            ("canon", &[]),
+            ("ask", &place),
+            ("export", &["--csv"]),
+        ] {
+            let ran = ionex(&[&[command, file], more].concat());
+            assert_eq!(ran.status, 1, "{command}");
+            let all = format!("{}{}", ran.text(), ran.err);
+            let start = format!("{file}:1:1: refused 2: ");
+            assert!(all.starts_with(&start) && all.ends_with(told), "{all}");
+        }
+    }
 }
 
 /// On one thread or on many, files are told in the order in which they are given.

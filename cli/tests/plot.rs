@@ -1,10 +1,12 @@
-//! `ionex plot`: what stands in a picture.
+//! `ionex plot`: what stands in a picture, and that both forms show the same.
 
 mod common;
+#[path = "common/image.rs"]
+mod image;
 
-use common::{command, example, global, ionex, ionex_given, Folder};
+use common::{example, global, ionex, ionex_given, Folder};
+use image::Image;
 use std::fs;
-use std::os::unix::fs::PermissionsExt;
 
 const CANONICAL: &str = "tests/examples/accepted-canonical.inx";
 
@@ -20,96 +22,91 @@ fn words(svg: &str) -> Vec<&str> {
         .collect()
 }
 
-/// An attribute of an element.
-fn attribute<'a>(element: &'a str, name: &str) -> Option<&'a str> {
-    let (_, rest) = element.split_once(&format!(" {name}=\""))?;
-    rest.split_once('"').map(|(value, _)| value)
-}
-
-/// The colour that the values have at a pixel: of the piece of a line that lies over it.
-fn colour(svg: &str, x: i32, y: i32) -> &str {
-    let covers = |run: &str, height: i32| {
-        let (corner, length) = run.split_once('h').expect("a run");
-        let (left, top) = corner.split_once(' ').expect("a corner");
-        let [left, top, length] =
-            [left, top, length].map(|word| word.parse::<i32>().expect("a number"));
-        (left..left + length).contains(&x) && (top..top + height).contains(&y)
-    };
-    let runs = svg
-        .lines()
-        .filter(|line| line.starts_with("<path ") && line.contains("crispEdges"));
-    let mut found = runs.filter(|line| {
-        let height = attribute(line, "stroke-width")
-            .expect("a height")
-            .parse()
-            .expect("a number");
-        let path = attribute(line, " d")
-            .or(attribute(line, "d"))
-            .expect("a path");
-        path.split('M').skip(1).any(|run| covers(run, height))
-    });
-    let line = found
-        .next()
-        .unwrap_or_else(|| panic!("nothing at {x}, {y}"));
-    assert_eq!(found.next(), None, "two colours at {x}, {y}");
-    attribute(line, "stroke").expect("a colour")
-}
-
-/// Rows 10.0 and 0.0, columns 0.0 to 20.0, so 960 by 480 pixels from the corner at 90, 124 on. The values are 0.1 to 0.6
-/// TECU, and a step of 0.1 makes a scale with ends at just these.
+/// Rows 10.0 and 0.0, columns 0.0 to 20.0: cells from 15.0 to -5.0 and from -5.0 to 25.0, so 900 by 600 pixels from the
+/// corner at 90, 124 on. The values are 0.1 to 0.6 TECU, and a step of 0.05 makes a scale with ends at just these.
 #[test]
-fn values_by_hand() {
-    let ran = ionex(&["plot", CANONICAL, "-o", "-"]);
-    let svg = ran.done();
-    assert_eq!(colour(svg, 90, 124), "#440154");
-    assert_eq!(colour(svg, 1049, 603), "#fde725");
-    // In the middle of the first four nodes, 0.1, 0.2, 0.4 and 0.5: 0.3 is two fifths of the way up, between the fourth colour
-    // of nine, 44, 113, 142, and the fifth, 33, 144, 141.
-    let middle = colour(svg, 90 + 240, 124 + 240);
-    let part = |place: usize| i32::from_str_radix(&middle[place..place + 2], 16).expect("a colour");
-    assert!(
-        (33..=44).contains(&part(1)) && (113..=144).contains(&part(3)),
-        "{middle}"
-    );
-    // Each pixel of the map has one colour.
-    for x in (90..1050).step_by(97) {
-        for y in (124..604).step_by(53) {
-            assert!(colour(svg, x, y).starts_with('#'));
-        }
+fn cells_by_hand() {
+    let folder = Folder::new();
+    let (svg, png) = (folder.path("map.svg"), folder.path("map.png"));
+    for out in [&svg, &png] {
+        assert_eq!(ionex(&["plot", CANONICAL, "-o", out]).done(), "");
     }
-    let found = words(svg);
+    let svg = fs::read_to_string(&svg).expect("an SVG");
+    let (dark, light) = ("#440154", "#fde725");
+    for (x, y, colour) in [(90, 124, dark), (690, 424, light)] {
+        let cell =
+            format!("<rect x=\"{x}\" y=\"{y}\" width=\"300\" height=\"300\" fill=\"{colour}\"");
+        assert!(svg.contains(&cell), "{cell}");
+    }
+    let image = Image::read(&fs::read(&png).expect("a PNG"));
+    assert_eq!(
+        (image.width, image.height),
+        (90 + 900 + 190, 124 + 600 + 84)
+    );
+    assert_eq!(image.at(200, 200), [0x44, 0x01, 0x54]);
+    assert_eq!(image.at(900, 700), [0xfd, 0xe7, 0x25]);
+    // The scale, its largest value above.
+    assert_eq!(image.at(1030, 125), [0xfd, 0xe7, 0x25]);
+    assert_eq!(image.at(1030, 722), [0x44, 0x01, 0x54]);
+    let found = words(&svg);
     assert_eq!(
         found[..3],
         [
             "Electron content (TEC), 2000-01-01 00:00:00 UT",
             "map 1 of 2, 400.0 km",
-            "accepted-canonical.inx, program, agency, 1-jan-00 00:00",
+            "tests/examples/accepted-canonical.inx, program, agency, 1-jan-00 00:00",
         ]
     );
-    for label in ["0°", "2°E", "20°E", "10°N", "0.1", "0.3", "0.6", "TECU"] {
+    for label in [
+        "5°W", "0°", "5°E", "14°N", "4°S", "0.10", "0.35", "0.60", "TECU",
+    ] {
         assert!(found.contains(&label), "{label} in {found:?}");
     }
-    assert!(
-        !svg.contains("stroke=\"url(#bare)\""),
-        "every node has a value"
-    );
+    assert!(!svg.contains("url(#bare)"), "every node has a value");
 }
 
-/// Where a needed node has no value the map is striped, and the legend counts them.
+/// Nodes without a value are striped, and the legend counts them.
 #[test]
 fn nodes_without_a_value() {
-    let ran = ionex(&["plot", CANONICAL, "--map", "2", "--kind", "rms", "-o", "-"]);
-    let svg = ran.done();
-    // The node at 0.0, 20.0 has none: no place east of 10.0 has a value, and every other one has.
-    assert_eq!(colour(svg, 90 + 700, 124 + 400), "url(#bare)");
-    assert_eq!(colour(svg, 90 + 481, 124 + 1), "url(#bare)");
-    assert!(colour(svg, 90 + 477, 124 + 479).starts_with('#'));
-    let found = words(svg);
-    assert_eq!(found[0], "RMS error of TEC, 2000-01-01 02:00:00 UT");
+    let folder = Folder::new();
+    let (svg, png) = (folder.path("rms.svg"), folder.path("rms.PNG"));
+    for out in [&svg, &png] {
+        ionex(&["plot", CANONICAL, "--map", "2", "--kind", "rms", "-o", out]).done();
+    }
+    let svg = fs::read_to_string(&svg).expect("an SVG");
     assert!(
-        found.contains(&"no value: 1 of 6 nodes (16.7 %)"),
-        "{found:?}"
+        svg.contains("<rect x=\"690\" y=\"424\" width=\"300\" height=\"300\" fill=\"url(#bare)\"")
     );
+    let found = words(&svg);
+    assert_eq!(found[0], "RMS error of TEC, 2000-01-01 02:00:00 UT");
+    assert_eq!(found.last(), Some(&"no value: 1 of 6 nodes (16.7 %)"));
+    let image = Image::read(&fs::read(&png).expect("a PNG"));
+    let mut shades: Vec<[u8; 3]> = (700..980).map(|x| image.at(x, 600)).collect();
+    shades.sort();
+    shades.dedup();
+    // The two greys of the stripes, and the line of 20 degrees east.
+    assert_eq!(shades, [[90; 3], [150; 3], [225; 3]]);
+}
+
+/// The PNG carries words too: ink stands where the title does, and none above it.
+#[test]
+fn words_in_pixels() {
+    let folder = Folder::new();
+    let png = folder.path("map.png");
+    ionex(&["plot", CANONICAL, "-o", &png]).done();
+    let image = Image::read(&fs::read(&png).expect("a PNG"));
+    let ink = |from: (usize, usize), to: (usize, usize)| {
+        let dots = (from.1..to.1).flat_map(|y| (from.0..to.0).map(move |x| (x, y)));
+        dots.filter(|&(x, y)| image.at(x, y) == [0, 0, 0]).count()
+    };
+    assert_eq!(ink((0, 0), (1180, 20)), 0);
+    // An E is five dots high and wide at least: a left stroke of 7 dots, each 3 pixels wide and high.
+    assert_eq!(ink((90, 23), (93, 44)), 3 * 21);
+    // 46 letters of 18 pixels, of which a few dozen are ink.
+    assert!(ink((90, 20), (90 + 46 * 18, 50)) > 46 * 50);
+    assert!(ink((20, 124), (80, 724)) > 500, "latitudes");
+    assert!(ink((60, 735), (1000, 752)) > 500, "longitudes");
+    assert!(ink((1060, 110), (1170, 730)) > 500, "the scale");
 }
 
 /// A day of the whole Earth, at a time between two maps.
@@ -117,146 +114,74 @@ fn nodes_without_a_value() {
 fn a_global_day() {
     let folder = Folder::new();
     let day = folder.file("day.inx", &global::text(true));
-    let svg = folder.path("day.svg");
-    let time = [
-        "--time",
-        "2010-12-04 06:30:00",
-        "--method",
-        "sun",
-        "-o",
-        &svg,
-    ];
-    ionex(&[&["plot", &day][..], &time].concat()).done();
+    let (svg, png) = (folder.path("day.svg"), folder.path("day.png"));
+    for out in [&svg, &png] {
+        ionex(&[
+            "plot",
+            &day,
+            "--time",
+            "2010-12-04 06:30:00",
+            "--method",
+            "sun",
+            "-o",
+            out,
+        ])
+        .done();
+    }
     let svg = fs::read_to_string(&svg).expect("an SVG");
     let found = words(&svg);
-    assert_eq!(found[0], "Electron content (TEC), 2010-12-04 06:30:00 UT");
-    assert!(found.contains(&"method sun, 450.0 km"));
+    assert_eq!(
+        found[..2],
+        [
+            "Electron content (TEC), 2010-12-04 06:30:00 UT",
+            "method sun, 450.0 km"
+        ]
+    );
     for label in [
         "180°", "150°W", "0°", "150°E", "60°N", "60°S", "TECU", "0", "10", "60",
     ] {
         assert!(found.contains(&label), "{label} in {found:?}");
     }
-    let last = "two crests that follow the Sun; the values are made up";
-    assert_eq!(found.last(), Some(&last));
-    // The crest lies where it is two in the afternoon, 112.5 degrees east, 15 north; the far side is dark.
-    let green =
-        |x: i32| i32::from_str_radix(&colour(&svg, x, 124 + 193)[3..5], 16).expect("a colour");
-    assert!(green(90 + 780) > 200, "{}", green(90 + 780));
-    assert!(green(90 + 300) < 60, "{}", green(90 + 300));
-}
-
-/// Coasts lie where they are: Ireland's most northern point, 55.2 N 6.7 W, on maps that begin at 180 W and at 0.
-#[test]
-fn coasts() {
-    let folder = Folder::new();
-    let day = folder.file("day.inx", &global::text(false));
-    // 360 degrees on 960 pixels, 175 on 462; and 355 on 960, 170 on 456.
-    let cases = [
-        (
-            day.as_str(),
-            90.0 + (180.0 - 6.7) * 960.0 / 360.0,
-            124.0 + (87.5 - 55.2) * 462.0 / 175.0,
-        ),
-        (
-            "tests/examples/001-table-3.inx",
-            90.0 + (360.0 - 6.7) * 960.0 / 355.0,
-            124.0 + (85.0 - 55.2) * 456.0 / 170.0,
-        ),
-    ];
-    for (file, x, y) in cases {
-        let ran = ionex(&["plot", file, "-o", "-"]);
-        let point = format!("L{x:.1} {y:.1}");
-        let coast = ran.done().lines().filter(|line| line.contains("url(#map)"));
-        assert!(coast.clone().any(|line| line.contains(&point)), "{point}");
-        // None is drawn beside the map.
-        assert_eq!(coast.count(), 3);
-    }
-}
-
-/// The scale goes from 0 to a value that was asked for, and what is larger has its last colour.
-#[test]
-fn a_fixed_scale() {
-    let folder = Folder::new();
-    let day = folder.file("day.inx", &global::text(false));
-    let ran = ionex(&["plot", &day, "--map", "1", "--max", "25", "-o", "-"]);
-    let found = words(ran.done());
-    for tick in ["0", "5", "10", "15", "20", "25"] {
-        assert!(found.contains(&tick), "{tick} in {found:?}");
-    }
-    assert!(!found.contains(&"30"));
-    // At 0 h the crest is at 150 W, where it is two in the afternoon, 15 N, and has more than 60 TECU.
-    assert_eq!(colour(ran.text(), 90 + 80, 124 + 191), "#fde725");
-    let ran = ionex(&["plot", &day, "--max", "0", "-o", "-"]);
-    ran.failed(
-        2,
-        "ionex: plot: --max 0: expected a whole number from 1 on; see ionex plot --help\n",
-    );
-}
-
-/// All maps in one picture, each shown for its time; the first where nothing moves.
-#[test]
-fn animated() {
-    let folder = Folder::new();
-    let day = folder.file("day.inx", &global::text(false));
-    let ran = ionex(&["plot", &day, "--animate", "-o", "-"]);
-    let svg = ran.done();
-    let titles: Vec<&str> = words(svg)
-        .into_iter()
-        .filter(|words| words.starts_with("Electron content"))
-        .collect();
-    assert_eq!(titles.len(), 25);
-    assert_eq!(titles[7], "Electron content (TEC), 2010-12-04 07:00:00 UT");
-    assert!(words(svg).contains(&"25 maps, 450.0 km"));
-    assert_eq!(svg.matches("<g display=\"inline\">").count(), 1);
-    assert_eq!(svg.matches("<g display=\"none\">").count(), 24);
-    let animated: Vec<&str> = svg
-        .lines()
-        .filter(|line| line.contains("<animate "))
-        .collect();
-    let times = |number: usize| attribute(animated[number], "keyTimes").expect("times");
-    assert_eq!(animated.len(), 25);
+    let image = Image::read(&fs::read(&png).expect("a PNG"));
+    assert_eq!((image.width, image.height), (1240, 124 + 473 + 84 + 24));
     assert_eq!(
-        [times(0), times(1), times(24)],
-        ["0;0.04000", "0;0.04000;0.08000", "0;0.96000"]
+        found.last(),
+        Some(&"two crests that follow the Sun; the values are made up")
     );
-    assert!(animated[3].contains("dur=\"15.0s\" repeatCount=\"indefinite\""));
-    let cases: &[(&[&str], &str)] = &[
-        (
-            &["--map", "1"],
-            "--animate draws all maps, and takes no --map and no --time",
-        ),
-        (
-            &["--time", "2010-12-04"],
-            "--animate draws all maps, and takes no --map and no --time",
-        ),
-        (&["-o", "a.png"], "--animate makes an SVG"),
-    ];
-    for (more, told) in cases {
-        let mut words = vec!["plot", &day, "--animate"];
-        words.extend(*more);
-        if !more.contains(&"-o") {
-            words.extend(["-o", "a.svg"]);
-        }
-        ionex(&words).failed(2, &format!("ionex: plot: {told}; see ionex plot --help\n"));
-    }
+    // The crest lies where it is two in the afternoon, 112.5 degrees east; the far side is dark.
+    let [crest, night] = [90 + 780, 90 + 300].map(|x| image.at(x, 124 + 236 - 33));
+    assert!(
+        crest[0] > 150 && crest[1] > 200 && night[1] < 60,
+        "{crest:?} {night:?}"
+    );
 }
 
 /// The file's own words stand below the map, each on its line, and a blank line leaves its room.
 #[test]
 fn descriptions_below_the_map() {
+    let folder = Folder::new();
+    let (svg, png) = (folder.path("map.svg"), folder.path("map.png"));
     let draw = |name: &str| {
-        let ran = ionex(&["plot", &format!("tests/examples/{name}.inx"), "-o", "-"]);
-        ran.done().to_string()
+        let file = format!("tests/examples/{name}.inx");
+        for out in [&svg, &png] {
+            assert_eq!(ionex(&["plot", &file, "-o", out]).done(), "");
+        }
+        let image = Image::read(&fs::read(&png).expect("a PNG"));
+        (fs::read_to_string(&svg).expect("an SVG"), image)
     };
-    let height = |svg: &str| attribute(svg, "height").expect("a height").to_string();
     // None: all ends below the longitudes.
-    let svg = draw("accepted-canonical");
+    let (svg, image) = draw("accepted-canonical");
     assert!(!svg.contains("monospace"));
-    let end = 124 + 480 + 84;
-    assert_eq!(height(&svg), end.to_string());
-    // The same map, and twenty lines.
-    let svg = draw("accepted-descriptions");
-    assert_eq!(height(&svg), (end + 20 * 24).to_string());
+    assert_eq!(image.height, 124 + 600 + 84);
+
+    let (svg, image) = draw("accepted-2d-freedoms");
+    assert!(svg.contains(">a description</text>"));
+    let end = 124 + 600 + 84;
+    assert_eq!(image.height, end + 24);
+
+    // The same map as the first, and twenty lines.
+    let (svg, image) = draw("accepted-descriptions");
+    assert_eq!((image.width, image.height), (1180, end + 20 * 24));
     let found = words(&svg);
     let first = found
         .iter()
@@ -268,73 +193,20 @@ fn descriptions_below_the_map() {
     );
     assert_eq!(found[first..].len(), 17, "three lines are blank");
     assert_eq!(found.last(), Some(&"nineteen"));
-    let places: Vec<&str> = svg
-        .lines()
-        .filter(|line| line.contains("monospace"))
-        .map(|line| attribute(line, "y").expect("a place"))
-        .collect();
-    // The second, eleventh and twentieth are blank.
-    let expected: Vec<String> = (0..20)
-        .filter(|line| ![1, 10, 19].contains(line))
-        .map(|line| (end + 12 + 24 * line).to_string())
-        .collect();
-    assert_eq!(places, expected);
-    assert!(draw("accepted-2d-freedoms").contains(">a description</text>"));
-}
-
-/// A PNG is what the converter makes of the SVG; without one that is told, and the file stays as it was.
-#[test]
-fn png() {
-    let folder = Folder::new();
-    let svg = ionex(&["plot", CANONICAL, "-o", "-"]).out;
-    let out = folder.file("map.PNG", b"old");
-    let plot = |path: &str| {
-        let mut program = command();
-        program
-            .args(["plot", CANONICAL, "-o", &out])
-            .env("PATH", path);
-        program.output().expect("the program runs")
+    let ink = |line: usize, from: usize, to: usize| {
+        let rows = end + 24 * line - 2..end + 24 * (line + 1) - 2;
+        let dots = rows.flat_map(|y| (from..to).map(move |x| (x, y)));
+        dots.filter(|&(x, y)| image.at(x, y) == [0, 0, 0]).count()
     };
-    let none = plot(&folder.path("none"));
-    assert_eq!(none.status.code(), Some(2));
-    assert_eq!(
-        String::from_utf8_lossy(&none.stderr),
-        format!(
-            "ionex: {out}: not written: a PNG is made by the program rsvg-convert (Debian: librsvg2-bin), which is not \
-             installed; an SVG needs nothing\n"
-        )
-    );
-    assert_eq!(fs::read(&out).expect("OUT"), b"old");
-    // One that only says what it is asked for.
-    let stand_in = folder.file("rsvg-convert", b"#!/bin/sh\necho \"$@\"\nexec cat\n");
-    fs::set_permissions(&stand_in, fs::Permissions::from_mode(0o755)).expect("a program");
-    let path = format!("{}:/usr/bin:/bin", folder.path(""));
-    assert_eq!(plot(&path).status.code(), Some(0));
-    assert_eq!(
-        fs::read(&out).expect("OUT"),
-        [b"--format png\n", &svg[..]].concat()
-    );
-    // One that fails.
-    fs::write(&stand_in, b"#!/bin/sh\necho no room >&2\nexit 1\n").expect("a program");
-    let failed = plot(&path);
-    assert_eq!(
-        (
-            failed.status.code(),
-            String::from_utf8_lossy(&failed.stderr).as_ref()
-        ),
-        (
-            Some(2),
-            format!("ionex: {out}: not written: rsvg-convert: no room\n").as_str()
-        )
-    );
-    // The real one, where it is installed: as wide and high as the SVG.
-    let real = folder.path("real.png");
-    if ionex(&["plot", CANONICAL, "-o", &real]).status == 0 {
-        let png = fs::read(&real).expect("a PNG");
-        assert_eq!(&png[..16], b"\x89PNG\r\n\x1a\n\0\0\0\rIHDR");
-        let side = |at: usize| u32::from_be_bytes(png[at..at + 4].try_into().expect("four bytes"));
-        assert_eq!([side(16), side(20)], [90 + 960 + 150, 124 + 480 + 84]);
+    for line in 0..20 {
+        let blank = [1, 10, 19].contains(&line);
+        assert_eq!(ink(line, 0, 1180) == 0, blank, "line {}", line + 1);
     }
+    // Twelve pixels to a column: two blanks first, and a letter in column 60 alone.
+    assert_eq!(ink(2, 90, 90 + 24), 0);
+    assert!(ink(2, 90 + 24, 90 + 36) > 0);
+    assert_eq!(ink(8, 0, 90 + 59 * 12), 0);
+    assert!(ink(8, 90 + 59 * 12, 90 + 60 * 12) > 0);
 }
 
 #[test]
@@ -372,30 +244,154 @@ fn refused() {
 fn names_layers_and_equal_values() {
     let folder = Folder::new();
     let file = folder.file("a&b<c>.inx", &example("001-table-4.inx"));
-    let ran = ionex(&["plot", &file, "--layer", "2", "-o", "-"]);
-    let found = words(ran.done());
-    assert!(found.contains(&"map 1 of 5, layer 2, 300.0 km"));
-    assert!(
-        found
-            .iter()
-            .any(|words| words.starts_with("a&amp;b&lt;c&gt;.inx, ")),
-        "{found:?}"
-    );
+    let (svg, png) = (folder.path("map.svg"), folder.path("map.png"));
+    for out in [&svg, &png] {
+        ionex(&["plot", &file, "--layer", "2", "-o", out]).done();
+    }
+    let svg = fs::read_to_string(&svg).expect("an SVG");
+    let found = words(&svg);
+    assert_eq!(found[1], "map 1 of 5, layer 2, 300.0 km");
+    assert!(found[2].contains("/a&amp;b&lt;c&gt;.inx, "), "{}", found[2]);
     // 1000 under exponent -2, in the middle of the scale.
     for tick in ["9.0", "10.0", "11.0"] {
         assert!(found.contains(&tick), "{tick} in {found:?}");
     }
-    let svg = folder.path("map.SVG");
-    let ran = ionex_given(&example("accepted-3d.inx"), &["plot", "-", "-o", &svg]);
+    Image::read(&fs::read(&png).expect("a PNG"));
+    let ran = ionex_given(&example("accepted-3d.inx"), &["plot", "-", "-o", &png]);
     assert_eq!(ran.done(), "");
-    assert!(fs::read_to_string(&svg)
-        .expect("an SVG")
-        .starts_with("<svg "));
 }
 
-/// One row, one column, one node: drawn as wide as a step.
+/// An attribute of an element.
+fn attribute<'a>(element: &'a str, name: &str) -> Option<&'a str> {
+    let (_, rest) = element.split_once(&format!(" {name}=\""))?;
+    rest.split_once('"').map(|(value, _)| value)
+}
+
+/// The colour of the cell that covers a pixel.
+fn colour(svg: &str, x: i32, y: i32) -> &str {
+    let covers = |element: &&str| {
+        let sides = ["x", "y", "width", "height"].map(|name| attribute(element, name));
+        let [Some(left), Some(top), Some(width), Some(height)] =
+            sides.map(|side| side.and_then(|side| side.parse::<i32>().ok()))
+        else {
+            return false;
+        };
+        (left..left + width).contains(&x) && (top..top + height).contains(&y)
+    };
+    let mut cells = svg.lines().filter(|line| line.contains("crispEdges"));
+    let cell = cells
+        .find(covers)
+        .unwrap_or_else(|| panic!("nothing at {x}, {y}"));
+    attribute(cell, "fill").expect("a colour")
+}
+
+/// Coasts lie where they are: Ireland's most northern point, 55.2 N 6.7 W, on maps that begin at 180 W and at 2.5 W.
 #[test]
-fn single_rows_and_columns() {
+fn coasts() {
+    let folder = Folder::new();
+    let day = folder.file("day.inx", &global::text(false));
+    let table = "tests/examples/001-table-3.inx".to_string();
+    // 360 degrees on 960 pixels, 177.5 on 473: 173.3 degrees are 462 pixels, and 143.95 from below 384. 360 on 960, 175 on
+    // 466: 355.8 degrees are 949 pixels, and 142.7 are 380.
+    for (file, x, y) in [
+        (day, 90 + 462, 124 + 473 - 384),
+        (table, 90 + 949, 124 + 466 - 380),
+    ] {
+        let svg = ionex(&["plot", &file, "--coasts", "-o", "-"]);
+        let point = format!("L{x}.5 {y}.5");
+        assert!(svg.done().contains(&point), "{point}");
+        let png = folder.path("map.png");
+        assert_eq!(ionex(&["plot", &file, "--coasts", "-o", &png]).done(), "");
+        let image = Image::read(&fs::read(&png).expect("a PNG"));
+        assert_eq!(image.at(x, y), [255; 3]);
+        // None is drawn where it was not asked for.
+        let plain = ionex(&["plot", &file, "-o", "-"]);
+        assert!(!plain.done().contains(" stroke=\"#ffffff\"") && !plain.done().contains(&point));
+    }
+}
+
+/// The scale goes from 0 to a value that was asked for, and what is larger has its last colour.
+#[test]
+fn a_fixed_scale() {
+    let folder = Folder::new();
+    let day = folder.file("day.inx", &global::text(false));
+    let ran = ionex(&["plot", &day, "--map", "1", "--max", "25", "-o", "-"]);
+    let found = words(ran.done());
+    for tick in ["0", "5", "10", "15", "20", "25"] {
+        assert!(found.contains(&tick), "{tick} in {found:?}");
+    }
+    assert!(!found.contains(&"30"));
+    // At 0 h the crest is at 150 W, where it is two in the afternoon, 15 N, and has more than 60 TECU.
+    assert_eq!(colour(ran.text(), 90 + 80, 124 + 196), "#fde725");
+    let ran = ionex(&["plot", &day, "--max", "0", "-o", "-"]);
+    ran.failed(
+        2,
+        "ionex: plot: --max 0: expected a whole number from 1 on; see ionex plot --help\n",
+    );
+}
+
+/// All maps in one picture, each shown for its time; the first where nothing moves.
+#[test]
+fn animation() {
+    let folder = Folder::new();
+    let day = folder.file("day.inx", &global::text(false));
+    let ran = ionex(&["plot", &day, "--animate", "-o", "-"]);
+    let svg = ran.done();
+    let titles: Vec<&str> = words(svg)
+        .into_iter()
+        .filter(|words| words.starts_with("Electron content"))
+        .collect();
+    assert_eq!(titles.len(), 25);
+    assert_eq!(titles[7], "Electron content (TEC), 2010-12-04 07:00:00 UT");
+    assert!(words(svg).contains(&"25 maps, 450.0 km"));
+    assert_eq!(svg.matches("<g display=\"inline\">").count(), 1);
+    assert_eq!(svg.matches("<g display=\"none\">").count(), 24);
+    let animated: Vec<&str> = svg
+        .lines()
+        .filter(|line| line.contains("<animate "))
+        .collect();
+    let times = |number: usize| attribute(animated[number], "keyTimes").expect("times");
+    assert_eq!(animated.len(), 25);
+    assert_eq!(
+        [times(0), times(1), times(24)],
+        ["0;0.04000", "0;0.04000;0.08000", "0;0.96000"]
+    );
+    assert!(animated[3].contains("dur=\"15.0s\" repeatCount=\"indefinite\""));
+}
+
+/// An animation is of all maps, and an SVG.
+#[test]
+fn no_animation() {
+    let cases: &[(&[&str], &str)] = &[
+        (
+            &["-o", "a.svg", "--map", "1"],
+            "--animate draws all maps, and takes no --map and no --time",
+        ),
+        (
+            &["-o", "a.svg", "--time", "2010-12-04"],
+            "--animate draws all maps, and takes no --map and no --time",
+        ),
+        (&["-o", "a.png"], "--animate makes an SVG"),
+    ];
+    for (more, told) in cases {
+        let ran = ionex(&[&["plot", CANONICAL, "--animate"], *more].concat());
+        ran.failed(2, &format!("ionex: plot: {told}; see ionex plot --help\n"));
+    }
+}
+
+/// On standard output an SVG comes out, the same as in a file.
+#[test]
+fn standard_output() {
+    let folder = Folder::new();
+    let svg = folder.path("map.svg");
+    assert_eq!(ionex(&["plot", CANONICAL, "-o", &svg]).done(), "");
+    let ran = ionex(&["plot", CANONICAL, "-o", "-"]);
+    assert_eq!(ran.done(), fs::read_to_string(&svg).expect("an SVG"));
+}
+
+/// One row: its cells are as high as a step.
+#[test]
+fn single_rows() {
     let mut lines = common::lines();
     lines[12] = global::record("    10.0  10.0 -10.0", "LAT1 / LAT2 / DLAT");
     // The second row of each map goes.
@@ -404,41 +400,29 @@ fn single_rows_and_columns() {
     }
     let ran = ionex_given(&global::joined(&lines), &["plot", "-", "-o", "-"]);
     let svg = ran.done();
-    // 20 degrees by 10: from 15 N to 5 N.
+    // 30 degrees by 10, from 15 N to 5 N, with a line for every second degree.
     let found = words(svg);
-    assert!(
-        found.contains(&"15°N") && found.contains(&"5°N"),
-        "{found:?}"
-    );
+    let north: Vec<&str> = found
+        .into_iter()
+        .filter(|words| words.ends_with("°N"))
+        .collect();
+    assert_eq!(north, ["6°N", "8°N", "10°N", "12°N", "14°N"]);
     assert_eq!(colour(svg, 90, 124), "#440154");
-    assert_eq!(colour(svg, 90, 124 + 479), "#440154");
+    assert_eq!(colour(svg, 90, 124 + 319), "#440154");
     assert_eq!(colour(svg, 1049, 300), "#fde725");
 }
 
-/// Blanks in the file's texts are one, and words end before the scale with three dots; the file's own name comes first.
+/// Words below the title end before the picture does, with three dots.
 #[test]
-fn words_end_before_the_scale() {
+fn words_that_are_cut() {
     let folder = Folder::new();
-    let mut lines = common::lines();
-    lines[1] = format!(
-        "{:<20}{:<20}{:<20}PGM / RUN BY / DATE",
-        "my   program", "an   agency", "1-jan-00"
+    let file = folder.file(
+        &format!("{}.inx", "x".repeat(120)),
+        &example("accepted-canonical.inx"),
     );
-    let long = format!("{}.inx", "x".repeat(120));
-    for (name, start) in [
-        ("a.inx", "a.inx, my program, an agency, 1-jan-00"),
-        (&long, "xxxx"),
-    ] {
-        let file = folder.file(name, &global::joined(&lines));
-        let ran = ionex(&["plot", &file, "-o", "-"]);
-        let found = words(ran.done());
-        assert!(found[2].starts_with(start), "{}", found[2]);
-        if name == "a.inx" {
-            assert_eq!(found[2], start);
-        } else {
-            // 960 pixels wide is the map, and so many are 96 letters of 10.
-            assert!(found[2].ends_with("xxx..."), "{}", found[2]);
-            assert!((80..=96).contains(&found[2].len()), "{}", found[2].len());
-        }
-    }
+    let ran = ionex(&["plot", &file, "-o", "-"]);
+    let found = words(ran.done());
+    assert!(found[2].ends_with("..."), "{}", found[2]);
+    // 1180 pixels wide is the picture, and from 90 to 20 before its end are 89 letters of 12.
+    assert!((80..=89).contains(&found[2].len()), "{}", found[2].len());
 }

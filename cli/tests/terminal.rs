@@ -53,13 +53,22 @@ fn progress() {
 #[test]
 fn progress_of_files() {
     let file = "tests/examples/accepted-canonical.inx";
-    for command in ["week", "check --jobs 1", "check --jobs 3"] {
-        let slow =
-            format!("{{ sleep 1.2; cat {file}; }} | $IONEX {command} {file} - {file} >/dev/null");
+    let slow = format!("{{ sleep 1.2; cat {file}; }} | $IONEX week {file} - {file} >/dev/null");
+    assert_eq!(at_terminal(&slow, false), "\r2 of 3 files\r\x1b[K");
+}
+
+/// The same of `check`, on one thread and on several.
+#[test]
+fn progress_of_checked_files() {
+    let file = "tests/examples/accepted-canonical.inx";
+    for jobs in [1, 3] {
+        let slow = format!(
+            "{{ sleep 1.2; cat {file}; }} | $IONEX check --jobs {jobs} {file} - {file} >/dev/null"
+        );
         assert_eq!(
             at_terminal(&slow, false),
             "\r2 of 3 files\r\x1b[K",
-            "{command}"
+            "{jobs}"
         );
     }
 }

@@ -9,7 +9,7 @@ use ionex_cli::commands::{Command, COMMANDS};
 fn help_of_everything() {
     let help = ionex(&["--help"]);
     for Command { name, .. } in COMMANDS {
-        assert!(help.done().contains(&format!("\n  {name:<10} ")), "{name}");
+        assert!(help.done().contains(&format!("\n  {name:<8} ")), "{name}");
         let of_command = ionex(&[name, "--help"]);
         assert!(of_command
             .done()
@@ -71,12 +71,12 @@ fn not_understood() {
         (&["help", "me"], "no command me; see ionex --help"),
         (&["help", "mnd"], "no command mnd (mend?); see ionex --help"),
         (&["check"], "check: no FILE is given; see ionex check --help"),
-        (&["check", "--jsn", "x"], "check: unknown option --jsn (--json?); see ionex check --help"),
-        (&["check", "--Jobs", "2", "x"], "check: unknown option --Jobs (--jobs?); see ionex check --help"),
+        (&["check", "--jsn", "x"], "check: unknown option --jsn; see ionex check --help"),
+        (&["check", "--Jobs", "2", "x"], "check: unknown option --Jobs; see ionex check --help"),
         (&["check", "--frobnicate", "x"], "check: unknown option --frobnicate; see ionex check --help"),
         (&["check", "-j", "x"], "check: unknown option -j; see ionex check --help"),
         (&["check", "--jobs", "0", "x"], "check: --jobs 0: expected a whole number from 1 on; see ionex check --help"),
-        (&["info", "--max-byte", "9", "x"], "info: unknown option --max-byte (--max-bytes?); see ionex info --help"),
+        (&["info", "--max-byte", "9", "x"], "info: unknown option --max-byte; see ionex info --help"),
         (&["info", "--max-bytes", "x", "y"], "info: --max-bytes x: expected a whole number from 1 on; see ionex info --help"),
         (&["mend", "x"], "mend: no -o OUT is given; see ionex mend --help"),
         (&["mend", "-o", "x"], "mend: no FILE is given; see ionex mend --help"),
@@ -128,12 +128,11 @@ fn not_understood() {
         ),
         (
             &["delay", "x", "--at", "1,2", "--time", "2010-12-04"],
-            "delay: no --carrier is given: a name, as L1, or hertz; see ionex delay --help",
+            "delay: no --carrier is given: L1, L2, L5 or hertz; see ionex delay --help",
         ),
         (
             &["delay", "x", "--carrier", "L3"],
-            "delay: --carrier \"L3\": expected L1, L2, L5, E1, E5a, E5b, E6, B1I, B1C, B2a, B3, G1:K, G2:K with a channel K, or \
-             hertz, as 1575420000; see ionex delay --help",
+            "delay: --carrier \"L3\": expected L1, L2, L5 or hertz, as 1575420000; see ionex delay --help",
         ),
         (
             &["delay", "x", "--carrier", "g1"],
@@ -141,12 +140,12 @@ fn not_understood() {
         ),
         (
             &["ask", "x", "--at", "1,2", "--time", "1291444200"],
-            "ask: --time \"1291444200\": expected a time of 1900 to 2199, as 2010-12-04T06:30:00; Unix time is written \
+            "ask: --time \"1291444200\": expected a date of 1900 to 2199 and a time, as 2010-12-04T06:30:00; Unix time is written \
              @1291444200; see ionex ask --help",
         ),
         (
             &["ask", "x", "--at", "1,2", "--time", "noon"],
-            "ask: --time \"noon\": expected a time of 1900 to 2199, as 2010-12-04T06:30:00; see ionex ask --help",
+            "ask: --time \"noon\": expected a date of 1900 to 2199 and a time, as 2010-12-04T06:30:00; see ionex ask --help",
         ),
         (
             &["ask", "x", "--csv", "--json"],

@@ -12,23 +12,23 @@ const FREEDOMS: &str = "tests/examples/accepted-2d-freedoms.inx";
 const REFUSED: &str = "tests/examples/refused-07.inx";
 
 /// Of accepted-canonical.inx by hand: 0.1 to 0.6 and 1.1 to 1.6 TECU, RMS of the second map alone with one node without.
-const ROWS: &str = "   map  epoch                kind    unit            count    without   smallest    largest       mean  sum/count
-     1  2000-01-01 00:00:00  TEC     0.001 TECU          6          0        100        600      0.350  2100/6
-     1  2000-01-01 00:00:00  RMS     0.001 TECU          0          6          -          -          -  0/0
-     1  2000-01-01 00:00:00  height  0.001 km            0          6          -          -          -  0/0
-     2  2000-01-01 02:00:00  TEC     0.001 TECU          6          0       1100       1600      1.350  8100/6
-     2  2000-01-01 02:00:00  RMS     0.001 TECU          5          1       2100       2500      2.300  11500/5
-     2  2000-01-01 02:00:00  height  0.001 km            0          6          -          -          -  0/0
-        all maps             TEC     0.001 TECU         12          0        100       1600      0.850  10200/12
-        all maps             RMS     0.001 TECU          5          7       2100       2500      2.300  11500/5
-        all maps             height  0.001 km            0         12          -          -          -  0/0
+const ROWS: &str = "   map  epoch                kind    unit            count    without   smallest    largest  mean
+     1  2000-01-01 00:00:00  TEC     0.001 TECU          6          0        100        600  2100/6
+     1  2000-01-01 00:00:00  RMS     0.001 TECU          0          6          -          -  0/0
+     1  2000-01-01 00:00:00  height  0.001 km            0          6          -          -  0/0
+     2  2000-01-01 02:00:00  TEC     0.001 TECU          6          0       1100       1600  8100/6
+     2  2000-01-01 02:00:00  RMS     0.001 TECU          5          1       2100       2500  11500/5
+     2  2000-01-01 02:00:00  height  0.001 km            0          6          -          -  0/0
+        all maps             TEC     0.001 TECU         12          0        100       1600  10200/12
+        all maps             RMS     0.001 TECU          5          7       2100       2500  11500/5
+        all maps             height  0.001 km            0         12          -          -  0/0
 ";
 
 /// Over accepted-canonical.inx and accepted-2d-freedoms.inx: exponents -2 to 0, negative values, and heights.
-const TOTALS: &str = "   map  epoch                kind    unit            count    without   smallest    largest       mean  sum/count
-        all files            TEC     0.001 TECU         19          1    -999900    9999900    474.342  9012490/19
-        all files            RMS     0.001 TECU          9         11       1000       2500      1.944  17500/9
-        all files            height  0.001 km            4         16         50        800      0.403  1610/4
+const TOTALS: &str = "   map  epoch                kind    unit            count    without   smallest    largest  mean
+        all files            TEC     0.001 TECU         19          1    -999900    9999900  9012490/19
+        all files            RMS     0.001 TECU          9         11       1000       2500  17500/9
+        all files            height  0.001 km            4         16         50        800  1610/4
 ";
 
 #[test]
@@ -42,7 +42,7 @@ fn by_hand() {
         "{rest}"
     );
     assert!(
-        rest.contains("     2  2000-01-01 00:00:00  TEC     0.001 TECU          4          0    -999900    9999900   2250.575  9002300/4\n"),
+        rest.contains("     2  2000-01-01 00:00:00  TEC     0.001 TECU          4          0    -999900    9999900  9002300/4\n"),
         "{rest}"
     );
     assert!(
@@ -72,7 +72,7 @@ fn files_that_are_left_out() {
     assert_eq!(ionex(&["week", CANONICAL, REFUSED]).status, 1);
     let nothing = ionex(&["week", REFUSED]);
     assert_eq!(nothing.status, 1);
-    let row = "        all files            TEC     0.001 TECU          0          0          -          -          -  0/0\n";
+    let row = "        all files            TEC     0.001 TECU          0          0          -          -  0/0\n";
     assert!(nothing.text().contains(row), "{}", nothing.text());
 }
 
@@ -80,31 +80,27 @@ fn files_that_are_left_out() {
 fn json() {
     let none = |without: u64, unit: &str| {
         format!(
-            r#"{{"unit":"0.001 {unit}","count":0,"without":{without},"smallest":null,"largest":null,"sum":0,"mean":null}}"#
+            r#"{{"unit":"0.001 {unit}","count":0,"without":{without},"smallest":null,"largest":null,"sum":0}}"#
         )
     };
-    let tecu = |figures: [i64; 5], mean: &str| {
+    let tecu = |figures: [i64; 5]| {
         let [count, without, smallest, largest, sum] = figures;
         format!(
-            r#"{{"unit":"0.001 TECU","count":{count},"without":{without},"smallest":{smallest},"largest":{largest},"sum":{sum},"mean":{mean}}}"#
+            r#"{{"unit":"0.001 TECU","count":{count},"without":{without},"smallest":{smallest},"largest":{largest},"sum":{sum}}}"#
         )
     };
     let kinds = |tec: String, rms: String, height: String| {
         format!(r#""tec":{tec},"rms":{rms},"height":{height}"#)
     };
-    let first = kinds(
-        tecu([6, 0, 100, 600, 2100], "0.350"),
-        none(6, "TECU"),
-        none(6, "km"),
-    );
+    let first = kinds(tecu([6, 0, 100, 600, 2100]), none(6, "TECU"), none(6, "km"));
     let second = kinds(
-        tecu([6, 0, 1100, 1600, 8100], "1.350"),
-        tecu([5, 1, 2100, 2500, 11500], "2.300"),
+        tecu([6, 0, 1100, 1600, 8100]),
+        tecu([5, 1, 2100, 2500, 11500]),
         none(6, "km"),
     );
     let all = kinds(
-        tecu([12, 0, 100, 1600, 10200], "0.850"),
-        tecu([5, 7, 2100, 2500, 11500], "2.300"),
+        tecu([12, 0, 100, 1600, 10200]),
+        tecu([5, 7, 2100, 2500, 11500]),
         none(12, "km"),
     );
     let maps = format!(
@@ -125,19 +121,19 @@ fn csv() {
     let name = folder.file("a, \"b\".inx", &example("accepted-canonical.inx"));
     let quoted = format!("\"{}\"", name.replace('"', "\"\""));
     let expected = "\
-file,map,epoch,kind,unit,count,without,smallest,largest,sum,mean
-FILE,1,2000-01-01T00:00:00,TEC,0.001 TECU,6,0,100,600,2100,0.350
-FILE,1,2000-01-01T00:00:00,RMS,0.001 TECU,0,6,,,0,
-FILE,1,2000-01-01T00:00:00,height,0.001 km,0,6,,,0,
-FILE,2,2000-01-01T02:00:00,TEC,0.001 TECU,6,0,1100,1600,8100,1.350
-FILE,2,2000-01-01T02:00:00,RMS,0.001 TECU,5,1,2100,2500,11500,2.300
-FILE,2,2000-01-01T02:00:00,height,0.001 km,0,6,,,0,
-FILE,,,TEC,0.001 TECU,12,0,100,1600,10200,0.850
-FILE,,,RMS,0.001 TECU,5,7,2100,2500,11500,2.300
-FILE,,,height,0.001 km,0,12,,,0,
-,,,TEC,0.001 TECU,12,0,100,1600,10200,0.850
-,,,RMS,0.001 TECU,5,7,2100,2500,11500,2.300
-,,,height,0.001 km,0,12,,,0,
+file,map,epoch,kind,unit,count,without,smallest,largest,sum
+FILE,1,2000-01-01T00:00:00,TEC,0.001 TECU,6,0,100,600,2100
+FILE,1,2000-01-01T00:00:00,RMS,0.001 TECU,0,6,,,0
+FILE,1,2000-01-01T00:00:00,height,0.001 km,0,6,,,0
+FILE,2,2000-01-01T02:00:00,TEC,0.001 TECU,6,0,1100,1600,8100
+FILE,2,2000-01-01T02:00:00,RMS,0.001 TECU,5,1,2100,2500,11500
+FILE,2,2000-01-01T02:00:00,height,0.001 km,0,6,,,0
+FILE,,,TEC,0.001 TECU,12,0,100,1600,10200
+FILE,,,RMS,0.001 TECU,5,7,2100,2500,11500
+FILE,,,height,0.001 km,0,12,,,0
+,,,TEC,0.001 TECU,12,0,100,1600,10200
+,,,RMS,0.001 TECU,5,7,2100,2500,11500
+,,,height,0.001 km,0,12,,,0
 ";
     let ran = ionex(&["week", "--csv", REFUSED, &name]);
     assert_eq!(
@@ -207,10 +203,10 @@ fn the_hundred_and_first() {
     // 99 times 12 nodes and 10200, and once 7 of 8 and 9002290.
     let end = "\
 all of 100 files, 4 left out:
-   map  epoch                kind    unit            count    without   smallest    largest       mean  sum/count
-        all files            TEC     0.001 TECU       1195          1    -999900    9999900      8.378  10012090/1195
-        all files            RMS     0.001 TECU        499        697       1000       2500      2.294  1144500/499
-        all files            height  0.001 km            4       1192         50        800      0.403  1610/4
+   map  epoch                kind    unit            count    without   smallest    largest  mean
+        all files            TEC     0.001 TECU       1195          1    -999900    9999900  10012090/1195
+        all files            RMS     0.001 TECU        499        697       1000       2500  1144500/499
+        all files            height  0.001 km            4       1192         50        800  1610/4
 ";
     assert!(ran.text().ends_with(end), "{}", ran.text());
     words.push("--json");
@@ -221,17 +217,6 @@ all of 100 files, 4 left out:
     assert_eq!(ran.text().lines().rev().nth(1), Some(object.as_str()));
 }
 
-/// The mean in the unit with three decimals, halves away from zero, by whole numbers.
-fn mean(sum: i64, count: i64) -> String {
-    if count == 0 {
-        return String::new();
-    }
-    let (whole, rest) = (sum.abs() / count, sum.abs() % count);
-    let size = whole + i64::from(2 * rest >= count);
-    let sign = if sum < 0 && size > 0 { "-" } else { "" };
-    format!("{sign}{}.{:03}", size / 1000, size % 1000)
-}
-
 /// A row of figures behind what they are of, as `--csv` prints it.
 fn row(what: &str, kind: usize, figures: &[i64]) -> String {
     let (name, unit) = [("TEC", "TECU"), ("RMS", "TECU"), ("height", "km")][kind];
@@ -240,10 +225,7 @@ fn row(what: &str, kind: usize, figures: &[i64]) -> String {
         0 => ",".to_string(),
         _ => format!("{smallest},{largest}"),
     };
-    format!(
-        "{what},{name},0.001 {unit},{count},{without},{range},{sum},{}",
-        mean(sum, count)
-    )
+    format!("{what},{name},0.001 {unit},{count},{without},{range},{sum}")
 }
 
 /// Full-size days and small files: every row by the second program.

@@ -104,14 +104,14 @@ pub fn standing(maps: &MapSet) -> [usize; 3] {
     Kind::ALL.map(|kind| (0..maps.maps()).filter(|&map| maps.has(kind, map)).count())
 }
 
-/// `ok, 25 TEC and 25 RMS maps, 71 x 73, 2010-12-04 00:00:00 to 2010-12-05 00:00:00`
+/// `ok, 25 TEC and 25 RMS maps, 71 × 73, 2010-12-04 00:00:00 to 2010-12-05 00:00:00`
 pub fn accepted(maps: &MapSet) -> String {
     let layers = match maps.layers() {
         1 => String::new(),
         layers => format!("{} of ", counted(layers, "layer")),
     };
     format!(
-        "ok, {}, {layers}{} x {}, {} to {}",
+        "ok, {}, {layers}{} × {}, {} to {}",
         map_counts(standing(maps)),
         maps.rows(),
         maps.columns(),

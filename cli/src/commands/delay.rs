@@ -64,7 +64,7 @@ fn run(args: &Args, out: &mut Output) -> Result<Status, Stop> {
         ..Question::of(args)?
     };
     let Some(word) = args.word("--carrier") else {
-        return usage("no --carrier is given: a name, as L1, or hertz");
+        return usage("no --carrier is given: L1, L2, L5 or hertz");
     };
     let carrier =
         carrier::parse(&word).map_err(|fault| Stop::Usage(format!("--carrier {fault}")))?;
@@ -123,7 +123,9 @@ impl Answers for Asker {
     }
 
     fn json(&self, asked: Object, found: &Delay) -> Object {
-        asked.raw("tecu", tecu(found)).raw("metres", found.metres.0)
+        asked
+            .raw("tecu", found.tecu.0)
+            .raw("metres", found.metres.0)
     }
 
     fn csv(&self, found: &Delay) -> String {
@@ -132,7 +134,7 @@ impl Answers for Asker {
     }
 }
 
-/// With three decimals, as every value in thousandths has.
+/// With three decimals, as the CSV of `ionex ask` has them.
 fn tecu(found: &Delay) -> String {
     format!("{:.3}", found.tecu.0)
 }

@@ -4,20 +4,20 @@ use super::Command;
 use crate::args::{Args, Options};
 use crate::numbers::tenths;
 use crate::output::Output;
-use crate::plot::{draw, svg, Field, Frame};
+use crate::plot::{animated, draw, png, svg, Field, Picture, Range};
 use crate::question::Question;
 use crate::status::{usage, Status, Stop};
-use crate::{files, filter, nodes, refused, time};
+use crate::{files, nodes, refused, time};
 use ionex::{Epoch, Kind, MapSet};
 use std::ffi::OsStr;
 use std::path::Path;
 
 pub const COMMAND: Command = Command {
     name: "plot",
-    does: "draws a map with coasts, graticule and colour scale, or all maps as an animation",
+    does: "draws a map with its graticule and colour scale, as SVG or PNG",
     help: HELP,
     options: Options {
-        flags: &["--animate"],
+        flags: &["--animate", "--coasts"],
         values: &[
             "--map", "--time", "--kind", "--method", "--layer", "--max", "-o",
         ],
@@ -27,11 +27,11 @@ pub const COMMAND: Command = Command {
 
 const HELP: &str = concat!(
     "\
-Usage: ionex plot FILE [--map N | --time T [--method M] | --animate] [--kind K] [--layer L] [--max X] -o OUT.svg|OUT.png
+Usage: ionex plot FILE [--map N | --time T [--method M] | --animate] [--kind K] [--layer L] [--max X] [--coasts]
+       -o OUT.svg|OUT.png
 
-Draws one map, smooth between its nodes, with coasts, degrees, a colour scale and its unit, and the epoch as title. Where a
-needed node has no value it is striped. The file's DESCRIPTION lines stand below the map. A PNG is made of the SVG by the
-program rsvg-convert, where that is installed.
+Draws one map: the nodes as coloured cells, with degrees, a colour scale and its unit, and the epoch as title. Nodes
+without a value are striped. The file's DESCRIPTION lines stand below the map.
 
   --map N       the map of this number, counted from 1 (if nothing is said 1)
 ",
@@ -43,6 +43,7 @@ program rsvg-convert, where that is installed.
   --layer L     the layer, counted from 0 (if nothing is said 0)
   --max X       the scale goes from 0 to X TECU or km, a whole number, so that pictures can be compared; what is larger
                 has the colour of X
+  --coasts      the coasts too, as white lines
   -o OUT        the picture, replaced only when it is whole; its ending says which form it has
   -             as FILE: standard input, as OUT: standard output, where the picture is SVG
 
@@ -60,27 +61,33 @@ fn run(args: &Args, output: &mut Output) -> Result<Status, Stop> {
     if as_png && args.has("--animate") {
         return usage("--animate makes an SVG");
     }
-    // No value of a map is larger than 99,999.000.
-    let most = args
-        .number("--max", 1)?
-        .map(|most| 1000 * most.min(100_000) as i64);
+    let most = args.number("--max", 1)?;
     let name = files::name(file);
     let maps = refused::read(&name, &args.read(file)?)?;
-    let field = Field {
-        most,
-        ..chosen.field(&name, &maps, &question)?
-    };
-    let mut picture = svg(&draw(&field)).into_bytes();
-    if as_png {
-        let told = |words| Stop::File(format!("{}: not written: {words}", files::out_name(out)));
-        picture = filter::png(picture).map_err(told)?;
+    let mut fields = chosen.fields(&name, &maps, &question)?;
+    for field in &mut fields {
+        field.coasts = args.has("--coasts");
+        if let Some(most) = most {
+            // No value of a map is larger than 99,999.000.
+            field.range = Range::UpTo(1000 * most.min(100_000) as i64);
+        }
     }
+    let picture = written(&fields, as_png);
     if out == "-" {
         output.put(&picture)?;
     } else {
         files::replace(out, &picture)?;
     }
     Ok(Status::Done)
+}
+
+fn written(fields: &[Field], as_png: bool) -> Vec<u8> {
+    let pictures: Vec<Picture> = fields.iter().map(draw).collect();
+    match pictures.as_slice() {
+        [picture] if as_png => png(picture),
+        [picture] => svg(picture).into_bytes(),
+        pictures => animated(pictures).into_bytes(),
+    }
 }
 
 /// Whether the name of the picture asks for a PNG.
@@ -93,7 +100,7 @@ fn as_png(out: &OsStr) -> Result<bool, Stop> {
         Some("png") => Ok(true),
         _ => usage(format!(
             "-o {}: expected a name that ends in .svg or .png",
-            files::out_name(out)
+            files::name(out)
         )),
     }
 }
@@ -127,55 +134,82 @@ impl Chosen {
         }
     }
 
-    fn field<'a>(
+    /// One field, or one for each map.
+    fn fields<'a>(
         &self,
         name: &str,
         maps: &'a MapSet,
         question: &Question,
-    ) -> Result<Field<'a>, Stop> {
-        let (note, frames) = self.frames(maps, question)?;
-        let header = maps.header();
-        Ok(Field {
-            latitudes: &header.latitudes,
-            longitudes: &header.longitudes,
-            frames,
-            unit: nodes::unit(question.kind),
-            most: None,
-            notes: vec![
-                format!("{note}{}", layer(maps, question.layer)),
-                origin(name, maps),
-            ],
-            descriptions: maps.descriptions().map(str::to_string).collect(),
-        })
-    }
-
-    /// What is drawn, and what is said of it.
-    fn frames(&self, maps: &MapSet, question: &Question) -> Result<(String, Vec<Frame>), Stop> {
-        let frame = |epoch: Epoch, values| Frame {
-            title: format!("{}, {} UT", title(question.kind), time::words(epoch)),
-            values,
+    ) -> Result<Vec<Field<'a>>, Stop> {
+        let field = |epoch, note, values| field(name, maps, question, epoch, note, values);
+        let of_map = |map: usize, note: String| {
+            let values = nodes::of_map(maps, question, map);
+            field(maps.epochs()[map], note, values)
         };
-        let of_map = |map: usize| frame(maps.epochs()[map], nodes::of_map(maps, question, map));
         match *self {
             Chosen::Map(number) => {
                 let map = standing(maps, question, number)?;
-                let note = format!("map {number} of {}", maps.maps());
-                Ok((note, vec![of_map(map)]))
+                Ok(vec![of_map(
+                    map,
+                    format!("map {number} of {}", maps.maps()),
+                )])
             }
             Chosen::Time(epoch) => {
                 let note = format!("method {}", question.method_name());
                 let values = nodes::at_time(maps, question, epoch)?;
-                Ok((note, vec![frame(epoch, values)]))
+                Ok(vec![field(epoch, note, values)])
             }
             Chosen::All => {
-                let first = (0..maps.maps()).find(|&map| maps.has(question.kind, map));
-                standing(maps, question, first.unwrap_or(0) as u64 + 1)?;
-                let all = (0..maps.maps()).filter(|&map| maps.has(question.kind, map));
-                let frames: Vec<Frame> = all.map(of_map).collect();
-                Ok((format!("{} maps", frames.len()), frames))
+                let all: Vec<usize> = (0..maps.maps())
+                    .filter(|&map| maps.has(question.kind, map))
+                    .collect();
+                standing(maps, question, all.first().map_or(1, |&map| map as u64 + 1))?;
+                let note = format!("{} maps", all.len());
+                let fields = all.into_iter().map(|map| of_map(map, note.clone()));
+                Ok(with_one_scale(fields.collect()))
             }
         }
     }
+}
+
+fn field<'a>(
+    name: &str,
+    maps: &'a MapSet,
+    question: &Question,
+    epoch: Epoch,
+    note: String,
+    values: Vec<Option<i32>>,
+) -> Field<'a> {
+    let header = maps.header();
+    Field {
+        latitudes: &header.latitudes,
+        longitudes: &header.longitudes,
+        values,
+        unit: nodes::unit(question.kind),
+        title: format!("{}, {} UT", title(question.kind), time::words(epoch)),
+        range: Range::Own,
+        coasts: false,
+        notes: vec![
+            format!("{note}{}", layer(maps, question.layer)),
+            origin(name, maps),
+        ],
+        descriptions: maps.descriptions().map(str::to_string).collect(),
+    }
+}
+
+/// The scale of each goes round the values of all.
+fn with_one_scale(mut fields: Vec<Field>) -> Vec<Field> {
+    let values = || {
+        fields
+            .iter()
+            .flat_map(|field| field.values.iter().flatten())
+    };
+    if let (Some(&low), Some(&high)) = (values().min(), values().max()) {
+        for field in &mut fields {
+            field.range = Range::Shared(low, high);
+        }
+    }
+    fields
 }
 
 /// The layer by its height, and by its number where there are several.
@@ -189,13 +223,10 @@ fn layer(maps: &MapSet, layer: u64) -> String {
     format!("{number}, {} km", tenths(height))
 }
 
-/// The file's own name, and who made it, with one blank between two words.
+/// The file, and who made it.
 fn origin(name: &str, maps: &MapSet) -> String {
-    let name = Path::new(name).file_name();
-    let name = name.map_or(String::new(), |name| name.to_string_lossy().into_owned());
-    let spaced = |words: &str| words.split_whitespace().collect::<Vec<_>>().join(" ");
-    let parts = [&name, maps.program(), maps.run_by(), maps.date()].map(spaced);
-    let parts: Vec<String> = parts.into_iter().filter(|part| !part.is_empty()).collect();
+    let parts = [name, maps.program(), maps.run_by(), maps.date()].map(str::trim);
+    let parts: Vec<&str> = parts.into_iter().filter(|part| !part.is_empty()).collect();
     parts.join(", ")
 }
 

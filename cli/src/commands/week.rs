@@ -4,7 +4,7 @@ use super::{check, Command};
 use crate::args::{Args, Options};
 use crate::form::{quoted, Form};
 use crate::json::{array, Object};
-use crate::numbers::{counted, rounded, thousandths};
+use crate::numbers::counted;
 use crate::output::{tell, Output, Style};
 use crate::progress::Progress;
 use crate::status::{Status, Stop};
@@ -28,9 +28,8 @@ const HELP: &str = "\
 Usage: ionex week FILE... [--json | --csv]
 
 Prints for each file, map and kind how many nodes have a value (count) and how many have none (without), the smallest and
-the largest value, and the sum by the count, two whole numbers, which is the mean: the same over all maps of a kind, and at
-the end over all files. Values are in thousandths of a TECU, those of heights in thousandths of a kilometre; the mean stands
-behind them in TECU or km, rounded once. `-` stands where there is none.
+the largest value, and the mean as sum/count, two whole numbers: the same over all maps of a kind, and at the end over all
+files. Values are in thousandths of a TECU, those of heights in thousandths of a kilometre; `-` stands where there is none.
 A map that is absent has nodes without a value only. A refused file is told as `ionex check` does and left out, and so is
 each after the hundredth (60). The order of the files makes no difference to the figures over all.
 
@@ -175,12 +174,6 @@ fn unit(figures: &Figures) -> String {
     format!("0.001 {}", figures.sum.unit())
 }
 
-/// The mean in TECU or km, where there is a value.
-fn mean(figures: &Figures) -> Option<String> {
-    let mean = rounded(figures.sum.thousandths().into(), figures.with.into());
-    (figures.with > 0).then(|| thousandths(mean as i32))
-}
-
 fn ends(figures: &Figures) -> [Option<i32>; 2] {
     [figures.smallest, figures.largest].map(|end| end.map(Answer::thousandths))
 }
@@ -188,7 +181,7 @@ fn ends(figures: &Figures) -> [Option<i32>; 2] {
 // ---- For people
 
 const TITLES: &str =
-    "   map  epoch                kind    unit            count    without   smallest    largest       mean  sum/count";
+    "   map  epoch                kind    unit            count    without   smallest    largest  mean";
 
 fn table(name: &str, maps: &MapSet, figures: &SetFigures, style: Style) -> String {
     let nodes = maps.layers() * maps.rows() * maps.columns();
@@ -211,11 +204,10 @@ fn row(map: &str, epoch: &str, kind: Kind, figures: &Figures) -> String {
     let [smallest, largest] =
         ends(figures).map(|end| end.map_or("-".to_string(), |end| end.to_string()));
     format!(
-        "{map:>6}  {epoch:<19}  {kind:<6}  {:<10}  {:>9}  {:>9}  {smallest:>9}  {largest:>9}  {:>9}  {}/{}",
+        "{map:>6}  {epoch:<19}  {kind:<6}  {:<10}  {:>9}  {:>9}  {smallest:>9}  {largest:>9}  {}/{}",
         unit(figures),
         figures.with,
         figures.without,
-        mean(figures).unwrap_or("-".to_string()),
         figures.sum.thousandths(),
         figures.with
     )
@@ -244,13 +236,12 @@ fn with_kinds(object: Object, kinds: [(Kind, Figures); 3]) -> Object {
             .raw("without", figures.without)
             .maybe("smallest", smallest)
             .maybe("largest", largest)
-            .raw("sum", figures.sum.thousandths())
-            .maybe("mean", mean(&figures));
+            .raw("sum", figures.sum.thousandths());
         object.raw(&kind.to_string().to_lowercase(), row)
     })
 }
 
-const NAMES: &str = "file,map,epoch,kind,unit,count,without,smallest,largest,sum,mean";
+const NAMES: &str = "file,map,epoch,kind,unit,count,without,smallest,largest,sum";
 
 fn csv(name: &str, maps: &MapSet, figures: &SetFigures) -> String {
     let name = quoted(&files::shown(name));
@@ -267,11 +258,10 @@ fn csv_row(file: &str, map: &str, epoch: &str, kind: Kind, figures: &Figures) ->
     let [smallest, largest] =
         ends(figures).map(|end| end.map_or(String::new(), |end| end.to_string()));
     format!(
-        "{file},{map},{epoch},{kind},{},{},{},{smallest},{largest},{},{}",
+        "{file},{map},{epoch},{kind},{},{},{},{smallest},{largest},{}",
         unit(figures),
         figures.with,
         figures.without,
-        figures.sum.thousandths(),
-        mean(figures).unwrap_or_default()
+        figures.sum.thousandths()
     )
 }

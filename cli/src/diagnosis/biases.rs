@@ -3,7 +3,6 @@
 use super::records::{bias_record_of, label_of, Record};
 use super::state::Stage;
 use super::Place;
-use crate::numbers::counted;
 use crate::text::{self, Card};
 use std::collections::BTreeMap;
 
@@ -29,7 +28,7 @@ pub fn twice(place: &Place) -> String {
     }
 }
 
-/// How many records of other systems there are in all, by their letters.
+/// How many records of other systems there are in all, by their letters, where there are several.
 pub fn other_systems(place: &Place) -> Option<String> {
     let letter = |card: &Card| bias_record_of(card).map(|_| char::from(card[3]));
     if place.number != 7 || place.state.stage != Stage::Aux || letter(&place.card).is_none_or(read)
@@ -44,13 +43,16 @@ pub fn other_systems(place: &Place) -> Option<String> {
     {
         *counts.entry(other).or_insert(0) += 1;
     }
-    let all = counted(counts.values().sum(), "record");
+    let all: usize = counts.values().sum();
+    if all < 2 {
+        return None;
+    }
     let each: Vec<String> = counts
         .iter()
         .map(|(letter, count)| format!("{count} of {letter}"))
         .collect();
     Some(format!(
-        "only biases of G (GPS) and R (GLONASS) are read; this file has {all} of other systems: {}",
+        "only biases of G (GPS) and R (GLONASS) are read; this file has {all} records of other systems: {}",
         each.join(", ")
     ))
 }

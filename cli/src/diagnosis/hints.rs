@@ -134,9 +134,7 @@ fn carriage_return(place: &Place) -> Option<String> {
     let is_text = |&byte: &u8| byte == b'\r' || (32..127).contains(&byte);
     let many = place.bytes.iter().filter(|&&byte| byte == b'\r').count() > 1
         && place.bytes.iter().all(is_text);
-    let alone = !place.text.contains(&b'\n');
     let words = match place.number {
-        1 | 2 if many && alone => "lines end in CR alone: `ionex mend` makes LF of them",
         1 | 2 if many => "lines end in CR alone here: turn them into LF, as by `tr '\\r' '\\n'`",
         2 if is_return => "a line ends in LF or CR LF, and here is a CR too many: delete it",
         _ => return None,
@@ -222,7 +220,7 @@ fn end_of_file(place: &Place) -> Option<String> {
             place.state.maps
         ),
         None => {
-            "some centres leave END OF FILE out; if nothing else is missing, `ionex mend` adds it"
+            "some centres leave END OF FILE out; if nothing else is missing, add it: `printf '%60sEND OF FILE\\n' '' >>FILE`"
                 .to_string()
         }
     })
@@ -310,7 +308,7 @@ fn descriptions(place: &Place) -> Option<String> {
     let many =
         place.number == 5 && place.label() == "DESCRIPTION" && place.state.stage == Stage::Header;
     many.then(|| {
-        "there may be any number of COMMENT lines, which are skipped: `ionex mend` makes COMMENT of those that are too many"
+        "there may be any number of COMMENT lines, which are skipped: make COMMENT of those that are too many"
             .to_string()
     })
 }

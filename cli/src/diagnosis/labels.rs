@@ -128,13 +128,15 @@ fn block(state: &State, open: &Open) -> String {
 
 /// The label that was meant, where one is likely: written small, in other columns, or with a slip or two.
 pub fn meant(place: &Place) -> Option<String> {
-    if let Some((label, column)) = found(place.bytes) {
-        return Some(match column {
-            61 => format!("a label is written as `{label}`, from column 61 on"),
-            _ => elsewhere(label, column),
-        });
-    }
     let written = text::columns(&place.card, 61, 20).to_uppercase();
+    if let Some(label) = labels().find(|&label| label == written) {
+        return Some(format!(
+            "a label is written as `{label}`, from column 61 on"
+        ));
+    }
+    if let Some((label, column)) = found(place.bytes) {
+        return Some(elsewhere(label, column));
+    }
     let near = labels()
         .map(|label| (distance(label, &written), label))
         .min()?;

@@ -1,4 +1,4 @@
-//! Degrees and pixels: where a place lies, and which lines the graticule has.
+//! Degrees and pixels: where a node's cell lies, and which lines the graticule has.
 
 use crate::numbers::tenths;
 use ionex::Axis;
@@ -12,35 +12,24 @@ pub struct Side {
     pub pixels: i32,
 }
 
-/// From the one outer node of an axis to the other. A single node goes half a step to both sides, but not beyond `limits`.
+/// Where the cells of an axis end: half a step beyond the outer nodes, but not beyond `limits` and not more than a turn.
 pub fn extent(axis: &Axis, limits: Option<(i64, i64)>) -> (i64, i64) {
+    let half = 5 * axis.step.abs();
     let (low, high) = (
         10 * axis.first.min(axis.last),
         10 * axis.first.max(axis.last),
     );
-    if low < high {
-        return (low, high);
+    match limits {
+        Some((least, most)) => ((low - half).max(least), (high + half).min(most)),
+        None if high - low == 36_000 => (low, high),
+        None => (low - half, high + half),
     }
-    let half = 5 * axis.step.abs().max(1);
-    let (least, most) = limits.unwrap_or((low - half, high + half));
-    ((low - half).max(least), (high + half).min(most))
 }
 
 impl Side {
     /// Whether a place, in hundredths of a degree, lies on it.
     pub fn holds(&self, place: i64) -> bool {
         (self.low..=self.high).contains(&place)
-    }
-
-    /// Eastward, and not in whole pixels; also of places that lie beside it.
-    pub fn x_exactly(&self, place: i64) -> f64 {
-        let span = (self.high - self.low).max(1) as f64;
-        f64::from(self.start) + (place - self.low) as f64 * f64::from(self.pixels) / span
-    }
-
-    /// Downward, likewise.
-    pub fn y_exactly(&self, place: i64) -> f64 {
-        f64::from(2 * self.start + self.pixels) - self.x_exactly(place)
     }
 
     /// The pixel of a place, in hundredths of a degree, counted from the low end.
@@ -146,14 +135,7 @@ mod tests {
             last: -875,
             step: -25,
         };
-        assert_eq!(extent(&axis, Some((-9000, 9000))), (-8750, 8750));
-        let pole = Axis {
-            first: 900,
-            last: 900,
-            step: 25,
-        };
-        assert_eq!(extent(&pole, Some((-9000, 9000))), (8875, 9000));
-        assert_eq!(extent(&pole, None), (8875, 9125));
+        assert_eq!(extent(&axis, Some((-9000, 9000))), (-8875, 8875));
         let side = Side {
             low: -75,
             high: -25,
@@ -168,6 +150,5 @@ mod tests {
             pixels: 360,
         };
         assert_eq!([side.y(9000), side.y(0), side.y(-9000)], [50, 230, 410]);
-        assert_eq!([side.y_exactly(25), side.x_exactly(-9050)], [229.5, 49.0]);
     }
 }

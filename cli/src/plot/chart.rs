@@ -1,20 +1,34 @@
-//! A map of values with its coasts, graticule, scale and titles.
+//! A map of values with its graticule, scale and titles.
 
-use super::axes::{latitude, longitude, Side};
-use super::coast::coasts;
-use super::field::{Field, Frame};
-use super::picture::{
-    across, area, down, frame, words, Anchor, Fill, Picture, Shape, Size, BLACK, WHITE,
-};
-use super::scale::{shade_colour, Scale, SHADES};
+use super::axes::{extent, latitude, longitude, Side};
+use super::coast;
+use super::picture::{Anchor, Fill, Picture, Size, BLACK, GREY};
+use super::raster;
+use super::scale::{shade_colour, Range, Scale, SHADES};
 use crate::numbers::share;
-use std::fmt::Write;
+use ionex::Axis;
+
+/// What is drawn: a value in thousandths, or none, for each node, row by row.
+pub struct Field<'a> {
+    pub latitudes: &'a Axis,
+    pub longitudes: &'a Axis,
+    pub values: Vec<Option<i32>>,
+    pub unit: &'a str,
+    pub title: String,
+    pub range: Range,
+    /// Whether the coasts are drawn.
+    pub coasts: bool,
+    /// The lines below the title.
+    pub notes: Vec<String>,
+    /// The DESCRIPTION lines, below the map.
+    pub descriptions: Vec<String>,
+}
 
 /// The map is not larger than this, and not smaller, so that words find room.
 const WIDEST: i64 = 960;
 const HIGHEST: i64 = 600;
 const LEAST_WIDTH: i64 = 240;
-const LEAST_HEIGHT: i64 = 162;
+const LEAST_HEIGHT: i64 = 160;
 /// The title needs so much.
 const LEAST_PICTURE: i32 = 960;
 
@@ -22,18 +36,13 @@ const LEAST_PICTURE: i32 = 960;
 const LEFT: i32 = 90;
 const TOP: i32 = 76;
 const NOTE: i32 = 24;
-const RIGHT: i32 = 150;
+const RIGHT: i32 = 190;
 const BOTTOM: i32 = 84;
 /// The scale beside the map.
-const GAP: i32 = 30;
-const BAR: i32 = 24;
+const GAP: i32 = 34;
+const BAR: i32 = 26;
 
-/// The squares that values are drawn in, of one map and of several.
-const SQUARE: i32 = 3;
-const SQUARE_OF_MANY: i32 = 6;
-
-struct Chart<'a> {
-    field: &'a Field<'a>,
+struct Chart {
     across: Side,
     along: Side,
     scale: Scale,
@@ -41,26 +50,27 @@ struct Chart<'a> {
 
 pub fn draw(field: &Field) -> Picture {
     let chart = layout(field);
-    let mut above = chart.lines();
-    above.extend(chart.notes());
-    above.extend(chart.graticule());
-    above.extend(chart.bar());
-    above.extend(chart.descriptions());
-    Picture {
+    let mut picture = Picture {
         width: (LEFT + chart.across.pixels + RIGHT).max(LEAST_PICTURE),
-        height: chart.below() + BOTTOM + lines(field.descriptions.len()),
-        title: field
-            .frames
-            .first()
-            .map_or(String::new(), |frame| frame.title.clone()),
-        map: chart.map(),
-        frames: field
-            .frames
-            .iter()
-            .map(|frame| chart.frame(frame))
-            .collect(),
-        above,
+        height: below(&chart) + BOTTOM + lines(field.descriptions.len()),
+        title: field.title.clone(),
+        shapes: Vec::new(),
+    };
+    titles(&mut picture, field);
+    cells(&mut picture, field, &chart);
+    if field.coasts {
+        coast::draw(&mut picture, &chart.across, &chart.along);
     }
+    graticule(&mut picture, &chart);
+    bar(&mut picture, field.unit, &chart);
+    legend(&mut picture, field, &chart);
+    descriptions(&mut picture, field, &chart);
+    picture
+}
+
+/// Where the map ends.
+fn below(chart: &Chart) -> i32 {
+    chart.along.start + chart.along.pixels
 }
 
 /// How much so many lines of words take.
@@ -68,19 +78,14 @@ fn lines(count: usize) -> i32 {
     NOTE * count as i32
 }
 
-fn layout<'a>(field: &'a Field<'a>) -> Chart<'a> {
-    let [(west, east), (south, north)] = field.extents();
+fn layout(field: &Field) -> Chart {
+    let (west, east) = extent(field.longitudes, None);
+    let (south, north) = extent(field.latitudes, Some((-9000, 9000)));
     let (wide, high) = ((east - west).max(1), (north - south).max(1));
-    // The same scale both ways, as large as there is room for, in whole squares.
-    let squares = |pixels: i64| pixels / i64::from(SQUARE_OF_MANY) * i64::from(SQUARE_OF_MANY);
-    let width = squares(WIDEST.min(HIGHEST * wide / high).max(LEAST_WIDTH));
-    let height = squares(HIGHEST.min(WIDEST * high / wide).max(LEAST_HEIGHT));
-    let values = field
-        .frames
-        .iter()
-        .flat_map(|frame| frame.values.iter().flatten());
+    // The same scale both ways, as large as there is room for.
+    let width = WIDEST.min(HIGHEST * wide / high).max(LEAST_WIDTH);
+    let height = HIGHEST.min(WIDEST * high / wide).max(LEAST_HEIGHT);
     Chart {
-        field,
         across: Side {
             low: west,
             high: east,
@@ -93,191 +98,139 @@ fn layout<'a>(field: &'a Field<'a>) -> Chart<'a> {
             start: TOP + lines(field.notes.len()),
             pixels: height as i32,
         },
-        scale: match field.most {
-            Some(most) => Scale::up_to(most, height / 60),
-            None => Scale::around(values.copied(), height / 60),
-        },
+        scale: field.range.scale(&field.values, height / 60),
     }
 }
 
-/// Words cut to so many letters.
-fn shortened(words: &str, letters: usize) -> String {
-    if words.chars().count() <= letters {
-        return words.to_string();
+fn titles(picture: &mut Picture, field: &Field) {
+    picture.words(LEFT, 44, field.title.clone(), Size::Title, Anchor::Start);
+    let room = picture.width - LEFT - 20;
+    for (line, note) in (0..).zip(&field.notes) {
+        let y = TOP + NOTE * line;
+        picture.words(LEFT, y, shortened(note, room), Size::Body, Anchor::Start);
     }
-    let kept: String = words.chars().take(letters.saturating_sub(3)).collect();
-    kept + "..."
 }
 
-impl Chart<'_> {
-    /// The corner of the map, its width and its height.
-    fn map(&self) -> [i32; 4] {
-        [
-            self.across.start,
-            self.along.start,
-            self.across.pixels,
-            self.along.pixels,
-        ]
+/// Words cut to the room there is.
+fn shortened(words: &str, room: i32) -> String {
+    let mut words = words.to_string();
+    if raster::width(&words, Size::Body) <= room {
+        return words;
     }
+    while raster::width(&words, Size::Body) > room - 36 && words.pop().is_some() {}
+    words + "..."
+}
 
-    /// Where the map ends.
-    fn below(&self) -> i32 {
-        self.along.start + self.along.pixels
+/// One area for neighbours of one colour in a row.
+fn cells(picture: &mut Picture, field: &Field, chart: &Chart) {
+    let columns = field.longitudes.nodes().max(1);
+    for (row, values) in field.values.chunks(columns).enumerate() {
+        let (top, bottom) = cell(field.latitudes, row, |place| chart.along.y(place));
+        let shades: Vec<Option<i64>> = values
+            .iter()
+            .map(|value| value.map(|value| chart.scale.shade(i64::from(value))))
+            .collect();
+        let mut first = 0;
+        for run in shades.chunk_by(|one, other| one == other) {
+            let last = first + run.len() - 1;
+            let (left, _) = cell(field.longitudes, first, |place| chart.across.x(place));
+            let (_, right) = cell(field.longitudes, last, |place| chart.across.x(place));
+            let fill = run[0].map_or(Fill::Striped, |shade| Fill::Plain(shade_colour(shade)));
+            picture.area(left, top, right - left, bottom - top, fill);
+            first = last + 1;
+        }
     }
+}
 
-    /// What changes from map to map: the title, the values, and how many nodes have none.
-    fn frame(&self, frame: &Frame) -> Vec<Shape> {
-        let square = if self.field.frames.len() > 1 {
-            SQUARE_OF_MANY
-        } else {
-            SQUARE
-        };
-        let title = words(LEFT, 44, frame.title.clone(), Size::Title, Anchor::Start);
-        let mut shapes = vec![title];
-        let sides = [&self.across, &self.along];
-        shapes.extend(self.field.squares(frame, sides, &self.scale, square));
-        shapes.extend(self.legend(frame));
-        shapes
+/// The two ends of a node's cell in pixels, half a step to each side.
+fn cell(axis: &Axis, node: usize, pixel: impl Fn(i64) -> i32) -> (i32, i32) {
+    let middle = 10 * axis.at(node).unwrap_or(axis.first);
+    let half = 5 * axis.step.abs();
+    let ends = [pixel(middle - half), pixel(middle + half)];
+    (ends[0].min(ends[1]), ends[0].max(ends[1]))
+}
+
+fn graticule(picture: &mut Picture, chart: &Chart) {
+    let (left, width) = (chart.across.start, chart.across.pixels);
+    let (top, height) = (chart.along.start, chart.along.pixels);
+    for line in chart.across.lines(70) {
+        let x = chart.across.x(10 * line);
+        picture.down(x.min(left + width - 1), top, height, GREY);
+        picture.down(x, top + height, 7, BLACK);
+        picture.words(
+            x,
+            top + height + 26,
+            longitude(line),
+            Size::Body,
+            Anchor::Middle,
+        );
     }
-
-    fn notes(&self) -> Vec<Shape> {
-        // Beside them stands the scale, with its unit above it.
-        let letters = Size::Body.letters_in(self.across.pixels);
-        let note = |(line, note): (usize, &String)| {
-            words(
-                LEFT,
-                TOP + lines(line),
-                shortened(note, letters),
-                Size::Body,
-                Anchor::Start,
-            )
-        };
-        self.field.notes.iter().enumerate().map(note).collect()
+    for line in chart.along.lines(40) {
+        let y = chart.along.y(10 * line);
+        picture.across(left, y.min(top + height - 1), width, GREY);
+        picture.across(left - 7, y, 7, BLACK);
+        picture.words(left - 12, y + 6, latitude(line), Size::Body, Anchor::End);
     }
+    picture.frame(left, top, width, height);
+}
 
-    /// Coasts and graticule, over the values.
-    fn lines(&self) -> Vec<Shape> {
-        let coasts = coasts(&self.across, &self.along);
-        let [left, top, width, height] = self.map();
-        let mut path = String::new();
-        for line in self.across.lines(70) {
-            let _ = write!(path, "M{}.5 {top}v{height}", self.across.x(10 * line));
-        }
-        for line in self.along.lines(40) {
-            let _ = write!(path, "M{left} {}.5h{width}", self.along.y(10 * line));
-        }
-        let line = |path: String, colour, width, opacity| Shape::Lines {
-            path,
-            colour,
-            width,
-            opacity,
-        };
-        vec![
-            line(path, WHITE, 1.0, 0.3),
-            line(coasts.clone(), BLACK, 2.4, 0.4),
-            line(coasts, WHITE, 1.1, 0.9),
-        ]
-    }
-
-    fn graticule(&self) -> Vec<Shape> {
-        let [left, top, _, height] = self.map();
-        let mut shapes = Vec::new();
-        for line in self.across.lines(70) {
-            let x = self.across.x(10 * line);
-            shapes.push(down(x, top + height, 7));
-            let name = longitude(line);
-            shapes.push(words(
-                x,
-                top + height + 26,
-                name,
-                Size::Body,
-                Anchor::Middle,
-            ));
-        }
-        for line in self.along.lines(40) {
-            let y = self.along.y(10 * line);
-            shapes.push(across(left - 7, y, 7));
-            shapes.push(words(
-                left - 12,
-                y + 6,
-                latitude(line),
-                Size::Body,
-                Anchor::End,
-            ));
-        }
-        shapes.extend(frame(self.map()));
-        shapes
-    }
-
-    /// The colour scale, its smallest value below, with ticks and its unit.
-    fn bar(&self) -> Vec<Shape> {
-        let left = self.across.start + self.across.pixels + GAP;
-        let (top, height) = (self.along.start, self.along.pixels);
-        let level =
-            |part: i64, whole: i64| top + height - (part * i64::from(height) / whole) as i32;
-        let mut shapes = Vec::new();
-        for shade in 0..SHADES {
-            let (above, below) = (level(shade + 1, SHADES), level(shade, SHADES));
-            let fill = Fill::Plain(shade_colour(shade));
-            shapes.push(area(left, above, BAR, below - above, fill));
-        }
-        shapes.extend(frame([left, top, BAR, height]));
-        let scale = &self.scale;
-        for tick in scale.ticks() {
-            let y = level(tick - scale.low, scale.high - scale.low);
-            shapes.push(across(left + BAR, y, 7));
-            let label = scale.label(tick);
-            shapes.push(words(
-                left + BAR + 13,
-                y + 6,
-                label,
-                Size::Body,
-                Anchor::Start,
-            ));
-        }
-        shapes.push(words(
+/// The colour scale, its smallest value below, with ticks and its unit.
+fn bar(picture: &mut Picture, unit: &str, chart: &Chart) {
+    let left = chart.across.start + chart.across.pixels + GAP;
+    let (top, height) = (chart.along.start, chart.along.pixels);
+    let level = |part: i64, whole: i64| top + height - (part * i64::from(height) / whole) as i32;
+    for shade in 0..SHADES {
+        let (above, below) = (level(shade + 1, SHADES), level(shade, SHADES));
+        picture.area(
             left,
-            top - 12,
-            self.field.unit,
+            above,
+            BAR,
+            below - above,
+            Fill::Plain(shade_colour(shade)),
+        );
+    }
+    picture.frame(left, top, BAR, height);
+    let scale = &chart.scale;
+    for tick in scale.ticks() {
+        let y = level(tick - scale.low, scale.high - scale.low);
+        picture.across(left + BAR, y, 7, BLACK);
+        picture.words(
+            left + BAR + 13,
+            y + 6,
+            scale.label(tick),
             Size::Body,
             Anchor::Start,
-        ));
-        shapes
-    }
-
-    /// What the stripes mean, where there are any.
-    fn legend(&self, map: &Frame) -> Vec<Shape> {
-        let all = map.values.len();
-        let without = map.values.iter().filter(|value| value.is_none()).count();
-        if without == 0 {
-            return Vec::new();
-        }
-        let y = self.below() + 48;
-        let told = format!(
-            "no value: {without} of {all} nodes ({} %)",
-            share(without, all)
         );
-        let mut shapes = vec![area(LEFT, y, 36, 18, Fill::Striped)];
-        shapes.extend(frame([LEFT, y, 36, 18]));
-        shapes.push(words(LEFT + 48, y + 15, told, Size::Body, Anchor::Start));
-        shapes
     }
+    picture.words(left, top - 12, unit.to_string(), Size::Body, Anchor::Start);
+}
 
-    /// The file's own words, column by column as they stand; a blank line leaves its room.
-    fn descriptions(&self) -> Vec<Shape> {
-        let first = self.below() + BOTTOM + 12;
-        let written = self.field.descriptions.iter().enumerate();
-        written
-            .filter(|(_, line)| !line.is_empty())
-            .map(|(line, told)| {
-                words(
-                    LEFT,
-                    first + lines(line),
-                    told.clone(),
-                    Size::Columns,
-                    Anchor::Start,
-                )
-            })
-            .collect()
+/// What the stripes mean, where there are any.
+fn legend(picture: &mut Picture, field: &Field, chart: &Chart) {
+    let (all, without) = (
+        field.values.len(),
+        field.values.iter().filter(|value| value.is_none()).count(),
+    );
+    if without == 0 {
+        return;
+    }
+    let y = below(chart) + 48;
+    picture.area(LEFT, y, 36, 18, Fill::Striped);
+    picture.frame(LEFT, y, 36, 18);
+    let words = format!(
+        "no value: {without} of {all} nodes ({} %)",
+        share(without, all)
+    );
+    picture.words(LEFT + 48, y + 15, words, Size::Body, Anchor::Start);
+}
+
+/// The file's own words, column by column as they stand; a blank line leaves its room.
+fn descriptions(picture: &mut Picture, field: &Field, chart: &Chart) {
+    let first = below(chart) + BOTTOM + 12;
+    for (line, words) in field.descriptions.iter().enumerate() {
+        if !words.is_empty() {
+            let y = first + lines(line);
+            picture.words(LEFT, y, words.clone(), Size::Columns, Anchor::Start);
+        }
     }
 }

@@ -1,14 +1,18 @@
-//! Pictures of maps: what is drawn, and how it is written.
+//! Pictures of maps: what is drawn, and two ways to write it.
 
 mod axes;
 mod chart;
 mod coast;
-mod field;
+mod deflate;
+mod font;
 mod picture;
+mod png;
+mod raster;
 mod scale;
 mod svg;
 
-pub use chart::draw;
-pub use field::{Field, Frame};
+pub use chart::{draw, Field};
 pub use picture::Picture;
-pub use svg::svg;
+pub use png::png;
+pub use scale::Range;
+pub use svg::{animated, svg};

@@ -27,6 +27,27 @@ pub struct Scale {
     pub step: i64,
 }
 
+/// What the scale goes round.
+#[derive(Clone, Copy, Debug, PartialEq, Eq)]
+pub enum Range {
+    /// The values of the map itself.
+    Own,
+    /// From the one value to the other, so that several maps have one scale.
+    Shared(i32, i32),
+    /// From 0 to a value that was asked for.
+    UpTo(i64),
+}
+
+impl Range {
+    pub fn scale(self, values: &[Option<i32>], ticks: i64) -> Scale {
+        match self {
+            Range::Own => Scale::around(values.iter().flatten().copied(), ticks),
+            Range::Shared(low, high) => Scale::around([low, high].into_iter(), ticks),
+            Range::UpTo(most) => Scale::up_to(most, ticks),
+        }
+    }
+}
+
 impl Scale {
     /// A scale around these values with about `ticks` ticks.
     pub fn around(values: impl Iterator<Item = i32>, ticks: i64) -> Scale {

@@ -3,41 +3,34 @@
 use super::picture::{Anchor, Fill, Picture, Shape, Size, BARE, STRIPE, STRIPES};
 use std::fmt::Write;
 
-/// How long a map of several is shown.
+/// How long a map of several is shown, in seconds.
 const SHOWN: f64 = 0.6;
 
 pub fn svg(picture: &Picture) -> String {
-    let (width, height) = (picture.width, picture.height);
-    let [x, y, wide, high] = picture.map;
-    let mut out = format!(
-        "<svg xmlns=\"http://www.w3.org/2000/svg\" width=\"{width}\" height=\"{height}\" \
-         viewBox=\"0 0 {width} {height}\" font-family=\"DejaVu Sans, Verdana, Helvetica, Arial, sans-serif\">\n\
-         <title>{}</title>\n<defs>{}\
-         <clipPath id=\"map\"><rect x=\"{x}\" y=\"{y}\" width=\"{wide}\" height=\"{high}\"/></clipPath></defs>\n\
-         <rect width=\"{width}\" height=\"{height}\" fill=\"#ffffff\"/>\n",
-        escaped(&picture.title),
-        stripes()
-    );
-    let count = picture.frames.len();
-    for (number, frame) in picture.frames.iter().enumerate() {
-        // Where nothing moves, the first alone is shown.
-        let display = if number == 0 { "inline" } else { "none" };
-        let _ = write!(out, "<g display=\"{display}\">{}", shown(number, count));
-        put_all(&mut out, frame);
-        out.push_str("</g>\n");
-    }
-    put_all(&mut out, &picture.above);
+    let mut out = opening(picture);
+    put_all(&mut out, picture);
     out.push_str("</svg>\n");
     out
 }
 
-fn put_all(out: &mut String, shapes: &[Shape]) {
-    for shape in shapes {
-        put(out, shape);
+/// Pictures of one size, each shown for its time, again and again. Where nothing moves, the first alone is shown.
+pub fn animated(pictures: &[Picture]) -> String {
+    let mut out = pictures.first().map_or(String::new(), opening);
+    for (number, picture) in pictures.iter().enumerate() {
+        let display = if number == 0 { "inline" } else { "none" };
+        let _ = write!(
+            out,
+            "<g display=\"{display}\">{}",
+            shown(number, pictures.len())
+        );
+        put_all(&mut out, picture);
+        out.push_str("</g>\n");
     }
+    out.push_str("</svg>\n");
+    out
 }
 
-/// When a frame of several is shown, again and again.
+/// When a picture of several is shown.
 fn shown(number: usize, count: usize) -> String {
     if count < 2 {
         return "\n".to_string();
@@ -58,12 +51,31 @@ fn shown(number: usize, count: usize) -> String {
     )
 }
 
+/// What stands before the shapes.
+fn opening(picture: &Picture) -> String {
+    let (width, height) = (picture.width, picture.height);
+    format!(
+        "<svg xmlns=\"http://www.w3.org/2000/svg\" width=\"{width}\" height=\"{height}\" \
+         viewBox=\"0 0 {width} {height}\" font-family=\"Helvetica, Arial, sans-serif\">\n\
+         <title>{}</title>\n{}\
+         <rect width=\"{width}\" height=\"{height}\" fill=\"#ffffff\"/>\n",
+        escaped(&picture.title),
+        stripes()
+    )
+}
+
+fn put_all(out: &mut String, picture: &Picture) {
+    for shape in &picture.shapes {
+        put(out, shape);
+    }
+}
+
 /// The pattern of nodes without a value.
 fn stripes() -> String {
     format!(
-        "<pattern id=\"bare\" width=\"{STRIPES}\" height=\"{STRIPES}\" patternUnits=\"userSpaceOnUse\">\
+        "<defs><pattern id=\"bare\" width=\"{STRIPES}\" height=\"{STRIPES}\" patternUnits=\"userSpaceOnUse\">\
          <rect width=\"{STRIPES}\" height=\"{STRIPES}\" fill=\"{}\"/>\
-         <path d=\"M-1 1L1 -1M0 {STRIPES}L{STRIPES} 0M5 7L7 5\" stroke=\"{}\" stroke-width=\"1.4\"/></pattern>",
+         <path d=\"M-1 1L1 -1M0 {STRIPES}L{STRIPES} 0M5 7L7 5\" stroke=\"{}\" stroke-width=\"1.4\"/></pattern></defs>\n",
         hex(BARE),
         hex(STRIPE)
     )
@@ -96,25 +108,23 @@ fn put(out: &mut String, shape: &Shape) {
             side(*anchor),
             escaped(words)
         ),
-        Shape::Runs { path, height, fill } => writeln!(
+        Shape::Line { places, colour } => writeln!(
             out,
-            "<path d=\"{path}\" transform=\"translate(0 {})\" stroke=\"{}\" stroke-width=\"{height}\" \
-             shape-rendering=\"crispEdges\"/>",
-            f64::from(*height) / 2.0,
-            paint(*fill)
-        ),
-        Shape::Lines {
-            path,
-            colour,
-            width,
-            opacity,
-        } => writeln!(
-            out,
-            "<path d=\"{path}\" fill=\"none\" stroke=\"{}\" stroke-width=\"{width}\" stroke-opacity=\"{opacity}\" \
-             stroke-linejoin=\"round\" clip-path=\"url(#map)\"/>",
+            "<path d=\"{}\" fill=\"none\" stroke=\"{}\"/>",
+            path(places),
             hex(*colour)
         ),
     };
+}
+
+/// Through the middles of pixels.
+fn path(places: &[[i32; 2]]) -> String {
+    let mut path = String::new();
+    for (number, [x, y]) in places.iter().enumerate() {
+        let pen = if number == 0 { 'M' } else { 'L' };
+        let _ = write!(path, "{pen}{x}.5 {y}.5");
+    }
+    path
 }
 
 fn paint(fill: Fill) -> String {
@@ -124,14 +134,12 @@ fn paint(fill: Fill) -> String {
     }
 }
 
-fn font(size: Size) -> String {
-    let pixels = size.pixels();
-    let more = match size {
-        Size::Title => " font-weight=\"bold\"",
-        Size::Body => "",
-        Size::Columns => " font-family=\"DejaVu Sans Mono, monospace\" xml:space=\"preserve\"",
-    };
-    format!("font-size=\"{pixels}\"{more}")
+fn font(size: Size) -> &'static str {
+    match size {
+        Size::Title => "font-size=\"24\" font-weight=\"bold\"",
+        Size::Body => "font-size=\"17\"",
+        Size::Columns => "font-size=\"17\" font-family=\"monospace\" xml:space=\"preserve\"",
+    }
 }
 
 fn side(anchor: Anchor) -> &'static str {
