@@ -17,7 +17,6 @@ use std::str::FromStr;
 /// assert_eq!(morning.seconds(), 3_500_433_000);
 /// assert_eq!(morning.unix(), 1_291_444_200);
 /// assert_eq!(morning, "2010-12-04 06:30".parse()?);
-/// assert_eq!("2010-12-04".parse::<Epoch>()?.to_string(), "2010-12-04T00:00:00");
 /// assert_eq!(morning.to_string(), "2010-12-04T06:30:00");
 /// assert!("2010-02-29T00:00:00".parse::<Epoch>().is_err());
 /// # Ok::<(), ionex::ParseError>(())
@@ -181,8 +180,7 @@ impl fmt::Display for Epoch {
 impl FromStr for Epoch {
     type Err = ParseError;
 
-    /// `2010-12-04T06:30:00`, with a blank in the place of the T, without the seconds, or with a Z behind them; or a date
-    /// alone, whose first second is meant.
+    /// `2010-12-04T06:30:00`, with a blank in the place of the T, without the seconds, or with a Z behind them.
     fn from_str(word: &str) -> Result<Epoch, ParseError> {
         parse(word).ok_or_else(|| {
             ParseError::new(
@@ -194,7 +192,7 @@ impl FromStr for Epoch {
 }
 
 fn parse(word: &str) -> Option<Epoch> {
-    let (date, time) = word.split_once(['T', ' ']).unwrap_or((word, "00:00"));
+    let (date, time) = word.split_once(['T', ' '])?;
     let time = time.strip_suffix('Z').unwrap_or(time);
     let [year, month, day] = numbers(date, '-', [4, 2, 2])?;
     let [hour, minute, second] = match time.len() {
