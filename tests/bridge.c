@@ -61,36 +61,66 @@ static inline double real(uint64_t bits)
 static uint64_t answer(const struct call *call, void *const *at)
 {
     switch (call->function) {
+#ifdef READ
     case FUNCTION_READ:
         return ionex_read(EIGHT, AREA(8), AREA(9));
+#endif
+#ifdef WRITE
     case FUNCTION_WRITE:
         return ionex_write(EIGHT, AREA(8), AREA(9));
+#endif
+#ifdef ASK
     case FUNCTION_ASK:
         return ionex_ask(EIGHT, N(0), N(1), N(2), (int32_t)N(3), (int32_t)N(4), N(5), AREA(8));
+#endif
+#ifdef MOVED
     case FUNCTION_MOVED:
         return ionex_moved(N(0), (int64_t)N(1), AREA(0));
+#endif
+#ifdef NEEDS
     case FUNCTION_NEEDS:
         return ionex_needs(AREA(0), AREA(1), AREA(2));
+#endif
+#ifdef TECU_DELAY
     case FUNCTION_TECU_DELAY:
         return ionex_tecu_delay((int32_t)N(0), real(N(1)), AREA(0));
+#endif
+#ifdef DELAY
     case FUNCTION_DELAY:
         return ionex_delay(EIGHT, N(0), N(1), N(2), (int32_t)N(3), (int32_t)N(4), N(5), real(N(6)), AREA(8));
+#endif
+#ifdef JOIN
     case FUNCTION_JOIN:
         return ionex_join(EIGHT, NEXT_EIGHT, LAST_NINE);
+#endif
+#ifdef WEEK_ADD
     case FUNCTION_WEEK_ADD:
         return ionex_week_add(AREA(8), EIGHT, AREA(9), AREA(10));
+#endif
+#ifdef INDEX
     case FUNCTION_INDEX:
         return ionex_index(AREA(0), AREA(1), AREA(2), AREA(3), AREA(4), AREA(5), AREA(6));
+#endif
+#ifdef INDEXED_NODE
     case FUNCTION_INDEXED_NODE:
         return ionex_indexed_node(SIX, N(0), N(1), N(2), N(3), N(4), AREA(6));
+#endif
+#ifdef INDEXED_BLOCK
     case FUNCTION_INDEXED_BLOCK:
         return ionex_indexed_block(SIX, N(0), N(1), N(2), N(3), N(4), AREA(6));
+#endif
+#ifdef BIASES
     case FUNCTION_BIASES:
         return ionex_biases(SIX);
+#endif
+#ifdef EXPLAIN
     case FUNCTION_EXPLAIN:
         return ionex_explain(EIGHT, N(0), N(1), N(2), (int32_t)N(3), (int32_t)N(4), N(5), AREA(8), AREA(9));
+#endif
+#ifdef ASK_ALL
     case FUNCTION_ASK_ALL:
         return ionex_ask_all(EIGHT, N(0), N(1), N(2), AREA(8), AREA(9), AREA(10), AREA(11), AREA(12));
+#endif
     default:
         fprintf(stderr, "bridge: no function %d\n", (int)call->function);
         exit(1);

@@ -5,7 +5,6 @@ use crate::labels::{self, Label, Part};
 use crate::lines::{self, Card};
 use crate::read;
 use crate::refusal::{fault, Fault, Refusal};
-use std::collections::HashSet;
 use Part::{A, D, I, X};
 
 /// "satellite records 3X,A1,I2.2,2F10.3 and station records 3X,A1,2X,A20,2F10.3";
@@ -96,7 +95,7 @@ pub fn biases(text: &[u8], room: &mut Room) -> Result<[usize; 2], Refusal> {
 /// The biases of a text, however many.
 pub fn gathered(text: &[u8]) -> Result<Biases, Refusal> {
     read::needs(text)?;
-    let mut rows = Rows::default();
+    let mut found = Biases::default();
     // Inside an aux block, and whether that is one of biases.
     let mut block = None;
     for (line, bytes) in (1..).zip(lines::lines(text)) {
@@ -111,7 +110,8 @@ pub fn gathered(text: &[u8]) -> Result<Biases, Refusal> {
             (None, Some(Label::EndHeader)) => break,
             (Some(_), Some(Label::EndAux)) => block = None,
             (Some(true), _) => {
-                rows.take(&card)
+                found
+                    .take(&card)
                     .map_err(|Fault { number, column }| Refusal::Place {
                         number,
                         line,
@@ -121,17 +121,10 @@ pub fn gathered(text: &[u8]) -> Result<Biases, Refusal> {
             _ => {}
         }
     }
-    Ok(rows.found)
+    Ok(found)
 }
 
-/// The biases of the rows so far, and the system and name of each station among them.
-#[derive(Default)]
-struct Rows {
-    found: Biases,
-    stations: HashSet<(u8, [u8; 20])>,
-}
-
-impl Rows {
+impl Biases {
     /// A line of a block: "Unknown records in the block are skipped."
     fn take(&mut self, card: &Card) -> Result<(), Fault> {
         if labels::has_label(card, SATELLITE_LABEL) {
@@ -152,10 +145,10 @@ impl Rows {
             return fault(7, 5);
         }
         let twice = |given: &Satellite| (given.system, given.number) == (system, number);
-        if self.found.satellites.iter().any(twice) {
+        if self.satellites.iter().any(twice) {
             return fault(5, 61);
         }
-        self.found.satellites.push(Satellite {
+        self.satellites.push(Satellite {
             system,
             number,
             bias,
@@ -169,10 +162,11 @@ impl Rows {
         let system = system(card)?;
         let mut name = [0; 20];
         name.copy_from_slice(&card[6..26]);
-        if !self.stations.insert((system, name)) {
+        let twice = |given: &Station| (given.system, given.name) == (system, name);
+        if self.stations.iter().any(twice) {
             return fault(5, 61);
         }
-        self.found.stations.push(Station {
+        self.stations.push(Station {
             system,
             name,
             bias,

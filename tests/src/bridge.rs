@@ -1,5 +1,5 @@
 //! The library's C functions on a machine that does not run x86-64 code: a process under the emulator, made of bridge.c
-//! and the archive, makes the calls.
+//! and the archive, makes the calls. A function that is not linked (see Cargo.toml) is answered by the second program.
 
 use crate::biases::{self, Biases};
 use crate::boundary::{Asked, Boundary, Given, Lent, Plain};
@@ -42,6 +42,9 @@ pub struct Archive;
 
 impl Boundary for Archive {
     fn read(&self, text: &[u8], lent: &mut Lent) -> u64 {
+        if !cfg!(feature = "read") {
+            return Plain.read(text, lent);
+        }
         let mut call = Call::new(READ, &[]);
         call.give(text);
         call.lend_set(lent);
@@ -49,6 +52,9 @@ impl Boundary for Archive {
     }
 
     fn needs(&self, text: &[u8], needs: &mut [u64], place: &mut [u64]) -> u64 {
+        if !cfg!(feature = "needs") {
+            return Plain.needs(text, needs, place);
+        }
         let mut call = Call::new(NEEDS, &[]);
         call.give(text);
         call.lend(needs);
@@ -57,6 +63,9 @@ impl Boundary for Archive {
     }
 
     fn write(&self, given: &Given, out: &mut [u8], count: &mut [u64]) -> u64 {
+        if !cfg!(feature = "write") {
+            return Plain.write(given, out, count);
+        }
         let mut call = Call::new(WRITE, &[]);
         call.give_set(given);
         call.lend(out);
@@ -65,6 +74,9 @@ impl Boundary for Archive {
     }
 
     fn ask(&self, given: &Given, asked: &Asked, value: &mut [i32]) -> u64 {
+        if !cfg!(feature = "ask") {
+            return Plain.ask(given, asked, value);
+        }
         let mut call = Call::new(ASK, &numbers_of(asked));
         call.give_set(given);
         call.lend(value);
@@ -72,12 +84,18 @@ impl Boundary for Archive {
     }
 
     fn tecu_delay(&self, x: i32, carrier: f64, record: &mut [f64]) -> u64 {
+        if !cfg!(feature = "tecu_delay") {
+            return Plain.tecu_delay(x, carrier, record);
+        }
         let mut call = Call::new(TECU_DELAY, &[x as u64, carrier.to_bits()]);
         call.lend(record);
         call.answer()
     }
 
     fn delay(&self, given: &Given, asked: &Asked, carrier: f64, record: &mut [f64]) -> u64 {
+        if !cfg!(feature = "delay") {
+            return Plain.delay(given, asked, carrier, record);
+        }
         let mut numbers = numbers_of(asked).to_vec();
         numbers.push(carrier.to_bits());
         let mut call = Call::new(DELAY, &numbers);
@@ -87,6 +105,9 @@ impl Boundary for Archive {
     }
 
     fn join(&self, earlier: &Given, later: &Given, lent: &mut Lent) -> u64 {
+        if !cfg!(feature = "join") {
+            return Plain.join(earlier, later, lent);
+        }
         let mut call = Call::new(JOIN, &[]);
         call.give_set(earlier);
         call.give_set(later);
@@ -95,6 +116,9 @@ impl Boundary for Archive {
     }
 
     fn moved(&self, epoch: u64, by: i64, moved: &mut [u64]) -> u64 {
+        if !cfg!(feature = "moved") {
+            return Plain.moved(epoch, by, moved);
+        }
         let mut call = Call::new(MOVED, &[epoch, by as u64]);
         call.lend(moved);
         call.answer()
@@ -110,6 +134,9 @@ impl Many for Archive {
         answers: &mut [u8],
         values: &mut [i32],
     ) -> u64 {
+        if !cfg!(feature = "ask_all") {
+            return Plain.ask_all(given, chosen, asking, answers, values);
+        }
         let mut call = Call::new(ASK_ALL, &[chosen.kind, chosen.method, chosen.layer]);
         call.give_set(given);
         call.give(&asking.lats);
@@ -123,6 +150,9 @@ impl Many for Archive {
 
 impl Explains for Archive {
     fn explain(&self, given: &Given, asked: &Asked, nodes: &mut [i64], lacking: &mut [u64]) -> u64 {
+        if !cfg!(feature = "explain") {
+            return Plain.explain(given, asked, nodes, lacking);
+        }
         let mut call = Call::new(EXPLAIN, &numbers_of(asked));
         call.give_set(given);
         call.lend(nodes);
@@ -139,6 +169,9 @@ impl Weeks for Archive {
         rows: &mut [i64],
         place: &mut [u64],
     ) -> u64 {
+        if !cfg!(feature = "week_add") {
+            return Plain.week_add(week, given, rows, place);
+        }
         let mut call = Call::new(WEEK_ADD, &[]);
         call.give_set(given);
         call.lend(week);
@@ -150,6 +183,9 @@ impl Weeks for Archive {
 
 impl Indexes for Archive {
     fn index(&self, text: &[u8], lent: &mut Kept, place: &mut [u64]) -> u64 {
+        if !cfg!(feature = "index") {
+            return Plain.index(text, lent, place);
+        }
         let mut call = Call::new(INDEX, &[]);
         call.give(text);
         call.lend(&mut lent.positions);
@@ -162,6 +198,9 @@ impl Indexes for Archive {
     }
 
     fn indexed_node(&self, text: &[u8], kept: &Kept, node: &Node, found: &mut [i32]) -> u64 {
+        if !cfg!(feature = "indexed_node") {
+            return Plain.indexed_node(text, kept, node, found);
+        }
         let mut call = Call::new(INDEXED_NODE, &place_of(node));
         call.give(text);
         call.give_index(kept);
@@ -170,6 +209,9 @@ impl Indexes for Archive {
     }
 
     fn indexed_block(&self, text: &[u8], kept: &Kept, node: &Node, bounds: &mut [u64]) -> u64 {
+        if !cfg!(feature = "indexed_block") {
+            return Plain.indexed_block(text, kept, node, bounds);
+        }
         let mut call = Call::new(INDEXED_BLOCK, &place_of(node));
         call.give(text);
         call.give_index(kept);
@@ -180,6 +222,9 @@ impl Indexes for Archive {
 
 impl Biases for Archive {
     fn biases(&self, text: &[u8], lent: &mut biases::Lent) -> u64 {
+        if !cfg!(feature = "biases") {
+            return Plain.biases(text, lent);
+        }
         let mut call = Call::new(BIASES, &[]);
         call.give(text);
         call.lend(&mut lent.satellites);
@@ -361,7 +406,7 @@ struct Bridge {
 
 impl Bridge {
     fn start() -> io::Result<Bridge> {
-        // build.rs makes it.
+        // build.rs makes it where a function is linked.
         let file = option_env!("IONEX_BRIDGE").ok_or(io::ErrorKind::NotFound)?;
         let mut child = program::command(Path::new(file))
             .stdin(Stdio::piped())

@@ -24,7 +24,7 @@ pub struct Touch {
     pub write: bool,
 }
 
-/// The linked library.
+/// The linked library; a function that is not linked is answered by the second program.
 pub struct Fenced {
     side: Cell<Side>,
     rooms: RefCell<Vec<Room>>,
@@ -208,72 +208,105 @@ fn kept_index(laid: &ffi::GivenIndex, given: &Kept) {
 
 impl Boundary for Fenced {
     fn read(&self, text: &[u8], lent: &mut Lent) -> u64 {
-        self.call(|desk| {
-            let laid = desk.lay(text);
-            let answer = desk.areas(lent, |areas, place| ffi::read(laid, areas, place));
-            kept(laid, text);
-            answer
-        })
+        linked!(
+            "read",
+            self.call(|desk| {
+                let laid = desk.lay(text);
+                let answer = desk.areas(lent, |areas, place| ffi::read(laid, areas, place));
+                kept(laid, text);
+                answer
+            }),
+            crate::boundary::Plain.read(text, lent)
+        )
     }
 
     fn needs(&self, text: &[u8], needs: &mut [u64], place: &mut [u64]) -> u64 {
-        self.call(|desk| {
-            let laid = desk.lay(text);
-            let at = desk.lay(place);
-            let answer = desk.area(needs, |needs| ffi::needs(laid, needs, at));
-            place.copy_from_slice(at);
-            kept(laid, text);
-            answer
-        })
+        linked!(
+            "needs",
+            self.call(|desk| {
+                let laid = desk.lay(text);
+                let at = desk.lay(place);
+                let answer = desk.area(needs, |needs| ffi::needs(laid, needs, at));
+                place.copy_from_slice(at);
+                kept(laid, text);
+                answer
+            }),
+            crate::boundary::Plain.needs(text, needs, place)
+        )
     }
 
     fn write(&self, given: &Given, out: &mut [u8], count: &mut [u64]) -> u64 {
-        self.call(|desk| {
-            let laid = desk.set(given);
-            let counted = desk.lay(count);
-            let answer = desk.area(out, |out| ffi::write(laid, out, counted));
-            count.copy_from_slice(counted);
-            kept_set(&laid, given);
-            answer
-        })
+        linked!(
+            "write",
+            self.call(|desk| {
+                let laid = desk.set(given);
+                let counted = desk.lay(count);
+                let answer = desk.area(out, |out| ffi::write(laid, out, counted));
+                count.copy_from_slice(counted);
+                kept_set(&laid, given);
+                answer
+            }),
+            crate::boundary::Plain.write(given, out, count)
+        )
     }
 
     fn ask(&self, given: &Given, asked: &Asked, value: &mut [i32]) -> u64 {
-        self.call(|desk| {
-            let laid = desk.set(given);
-            let question = parts::question(asked);
-            let answer = desk.area(value, |value| ffi::ask(laid, question, value));
-            kept_set(&laid, given);
-            answer
-        })
+        linked!(
+            "ask",
+            self.call(|desk| {
+                let laid = desk.set(given);
+                let question = parts::question(asked);
+                let answer = desk.area(value, |value| ffi::ask(laid, question, value));
+                kept_set(&laid, given);
+                answer
+            }),
+            crate::boundary::Plain.ask(given, asked, value)
+        )
     }
 
     fn tecu_delay(&self, x: i32, carrier: f64, record: &mut [f64]) -> u64 {
-        self.call(|desk| desk.area(record, |record| ffi::tecu_delay(x, carrier, record)))
+        linked!(
+            "tecu_delay",
+            self.call(|desk| desk.area(record, |record| ffi::tecu_delay(x, carrier, record))),
+            crate::boundary::Plain.tecu_delay(x, carrier, record)
+        )
     }
 
     fn delay(&self, given: &Given, asked: &Asked, carrier: f64, record: &mut [f64]) -> u64 {
-        self.call(|desk| {
-            let laid = desk.set(given);
-            let question = parts::question(asked);
-            let answer = desk.area(record, |record| ffi::delay(laid, question, carrier, record));
-            kept_set(&laid, given);
-            answer
-        })
+        linked!(
+            "delay",
+            self.call(|desk| {
+                let laid = desk.set(given);
+                let question = parts::question(asked);
+                let answer =
+                    desk.area(record, |record| ffi::delay(laid, question, carrier, record));
+                kept_set(&laid, given);
+                answer
+            }),
+            crate::boundary::Plain.delay(given, asked, carrier, record)
+        )
     }
 
     fn join(&self, earlier: &Given, later: &Given, lent: &mut Lent) -> u64 {
-        self.call(|desk| {
-            let (early, late) = (desk.set(earlier), desk.set(later));
-            let answer = desk.areas(lent, |areas, place| ffi::join(early, late, areas, place));
-            kept_set(&early, earlier);
-            kept_set(&late, later);
-            answer
-        })
+        linked!(
+            "join",
+            self.call(|desk| {
+                let (early, late) = (desk.set(earlier), desk.set(later));
+                let answer = desk.areas(lent, |areas, place| ffi::join(early, late, areas, place));
+                kept_set(&early, earlier);
+                kept_set(&late, later);
+                answer
+            }),
+            crate::boundary::Plain.join(earlier, later, lent)
+        )
     }
 
     fn moved(&self, epoch: u64, by: i64, moved: &mut [u64]) -> u64 {
-        self.call(|desk| desk.area(moved, |moved| ffi::moved(epoch, by, moved)))
+        linked!(
+            "moved",
+            self.call(|desk| desk.area(moved, |moved| ffi::moved(epoch, by, moved))),
+            crate::boundary::Plain.moved(epoch, by, moved)
+        )
     }
 }
 
@@ -286,38 +319,46 @@ impl Many for Fenced {
         answers: &mut [u8],
         values: &mut [i32],
     ) -> u64 {
-        self.call(|desk| {
-            let laid = desk.set(given);
-            let parts = parts::many(chosen, asking);
-            let many = ffi::Many {
-                lats: desk.lay(parts.lats),
-                lons: desk.lay(parts.lons),
-                seconds: desk.lay(parts.seconds),
-                ..parts
-            };
-            let told = desk.lay(answers);
-            let answer = desk.area(values, |values| ffi::ask_all(laid, many, told, values));
-            answers.copy_from_slice(told);
-            kept_set(&laid, given);
-            kept(many.lats, &asking.lats);
-            kept(many.lons, &asking.lons);
-            kept(many.seconds, &asking.seconds);
-            answer
-        })
+        linked!(
+            "ask_all",
+            self.call(|desk| {
+                let laid = desk.set(given);
+                let parts = parts::many(chosen, asking);
+                let many = ffi::Many {
+                    lats: desk.lay(parts.lats),
+                    lons: desk.lay(parts.lons),
+                    seconds: desk.lay(parts.seconds),
+                    ..parts
+                };
+                let told = desk.lay(answers);
+                let answer = desk.area(values, |values| ffi::ask_all(laid, many, told, values));
+                answers.copy_from_slice(told);
+                kept_set(&laid, given);
+                kept(many.lats, &asking.lats);
+                kept(many.lons, &asking.lons);
+                kept(many.seconds, &asking.seconds);
+                answer
+            }),
+            crate::boundary::Plain.ask_all(given, chosen, asking, answers, values)
+        )
     }
 }
 
 impl Explains for Fenced {
     fn explain(&self, given: &Given, asked: &Asked, nodes: &mut [i64], lacking: &mut [u64]) -> u64 {
-        self.call(|desk| {
-            let laid = desk.set(given);
-            let question = parts::question(asked);
-            let named = desk.lay(lacking);
-            let answer = desk.area(nodes, |nodes| ffi::explain(laid, question, nodes, named));
-            lacking.copy_from_slice(named);
-            kept_set(&laid, given);
-            answer
-        })
+        linked!(
+            "explain",
+            self.call(|desk| {
+                let laid = desk.set(given);
+                let question = parts::question(asked);
+                let named = desk.lay(lacking);
+                let answer = desk.area(nodes, |nodes| ffi::explain(laid, question, nodes, named));
+                lacking.copy_from_slice(named);
+                kept_set(&laid, given);
+                answer
+            }),
+            crate::boundary::Plain.explain(given, asked, nodes, lacking)
+        )
     }
 }
 
@@ -329,93 +370,113 @@ impl Weeks for Fenced {
         rows: &mut [i64],
         place: &mut [u64],
     ) -> u64 {
-        self.call(|desk| {
-            let laid = desk.set(given);
-            let (added, at) = (desk.lay(week), desk.lay(place));
-            let answer = desk.area(rows, |rows| ffi::week_add(added, laid, rows, at));
-            week.copy_from_slice(added);
-            place.copy_from_slice(at);
-            kept_set(&laid, given);
-            answer
-        })
+        linked!(
+            "week_add",
+            self.call(|desk| {
+                let laid = desk.set(given);
+                let (added, at) = (desk.lay(week), desk.lay(place));
+                let answer = desk.area(rows, |rows| ffi::week_add(added, laid, rows, at));
+                week.copy_from_slice(added);
+                place.copy_from_slice(at);
+                kept_set(&laid, given);
+                answer
+            }),
+            crate::boundary::Plain.week_add(week, given, rows, place)
+        )
     }
 }
 
 impl Indexes for Fenced {
     fn index(&self, text: &[u8], lent: &mut Kept, place: &mut [u64]) -> u64 {
-        self.call(|desk| {
-            let laid = desk.lay(text);
-            let entries = parts::entries(lent);
-            let positions = desk.lay(entries.positions);
-            let exponents = desk.lay(entries.exponents);
-            let marks = desk.lay(entries.marks);
-            let header = desk.lay(entries.header);
-            let texts = desk.lay(entries.texts);
-            let made = ffi::LentIndex {
-                positions: &mut *positions,
-                exponents: &mut *exponents,
-                marks: &mut *marks,
-                header: &mut *header,
-                texts: &mut *texts,
-            };
-            let answer = desk.area(place, |place| ffi::index(laid, made, place));
-            entries.positions.copy_from_slice(positions);
-            entries.exponents.copy_from_slice(exponents);
-            entries.marks.copy_from_slice(marks);
-            entries.header.copy_from_slice(header);
-            entries.texts.copy_from_slice(texts);
-            kept(laid, text);
-            answer
-        })
+        linked!(
+            "index",
+            self.call(|desk| {
+                let laid = desk.lay(text);
+                let entries = parts::entries(lent);
+                let positions = desk.lay(entries.positions);
+                let exponents = desk.lay(entries.exponents);
+                let marks = desk.lay(entries.marks);
+                let header = desk.lay(entries.header);
+                let texts = desk.lay(entries.texts);
+                let made = ffi::LentIndex {
+                    positions: &mut *positions,
+                    exponents: &mut *exponents,
+                    marks: &mut *marks,
+                    header: &mut *header,
+                    texts: &mut *texts,
+                };
+                let answer = desk.area(place, |place| ffi::index(laid, made, place));
+                entries.positions.copy_from_slice(positions);
+                entries.exponents.copy_from_slice(exponents);
+                entries.marks.copy_from_slice(marks);
+                entries.header.copy_from_slice(header);
+                entries.texts.copy_from_slice(texts);
+                kept(laid, text);
+                answer
+            }),
+            crate::boundary::Plain.index(text, lent, place)
+        )
     }
 
     fn indexed_node(&self, text: &[u8], index: &Kept, node: &Node, found: &mut [i32]) -> u64 {
-        self.call(|desk| {
-            let (laid, given) = (desk.lay(text), desk.index(index));
-            let node = parts::node(node);
-            let answer = desk.area(found, |found| ffi::indexed_node(laid, given, node, found));
-            kept(laid, text);
-            kept_index(&given, index);
-            answer
-        })
+        linked!(
+            "indexed_node",
+            self.call(|desk| {
+                let (laid, given) = (desk.lay(text), desk.index(index));
+                let node = parts::node(node);
+                let answer = desk.area(found, |found| ffi::indexed_node(laid, given, node, found));
+                kept(laid, text);
+                kept_index(&given, index);
+                answer
+            }),
+            crate::boundary::Plain.indexed_node(text, index, node, found)
+        )
     }
 
     fn indexed_block(&self, text: &[u8], index: &Kept, node: &Node, bounds: &mut [u64]) -> u64 {
-        self.call(|desk| {
-            let (laid, given) = (desk.lay(text), desk.index(index));
-            let node = parts::node(node);
-            let answer = desk.area(bounds, |bounds| {
-                ffi::indexed_block(laid, given, node, bounds)
-            });
-            kept(laid, text);
-            kept_index(&given, index);
-            answer
-        })
+        linked!(
+            "indexed_block",
+            self.call(|desk| {
+                let (laid, given) = (desk.lay(text), desk.index(index));
+                let node = parts::node(node);
+                let answer = desk.area(bounds, |bounds| {
+                    ffi::indexed_block(laid, given, node, bounds)
+                });
+                kept(laid, text);
+                kept_index(&given, index);
+                answer
+            }),
+            crate::boundary::Plain.indexed_block(text, index, node, bounds)
+        )
     }
 }
 
 impl Biases for Fenced {
     fn biases(&self, text: &[u8], lent: &mut biases::Lent) -> u64 {
-        self.call(|desk| {
-            let laid = desk.lay(text);
-            let (areas, place) = parts::biases(lent);
-            let satellites = desk.lay(areas.satellites);
-            let stations = desk.lay(areas.stations);
-            let names = desk.lay(areas.names);
-            let counts = desk.lay(areas.counts);
-            let filled = ffi::LentBiases {
-                satellites: &mut *satellites,
-                stations: &mut *stations,
-                names: &mut *names,
-                counts: &mut *counts,
-            };
-            let answer = desk.area(place, |place| ffi::biases(laid, filled, place));
-            areas.satellites.copy_from_slice(satellites);
-            areas.stations.copy_from_slice(stations);
-            areas.names.copy_from_slice(names);
-            areas.counts.copy_from_slice(counts);
-            kept(laid, text);
-            answer
-        })
+        linked!(
+            "biases",
+            self.call(|desk| {
+                let laid = desk.lay(text);
+                let (areas, place) = parts::biases(lent);
+                let satellites = desk.lay(areas.satellites);
+                let stations = desk.lay(areas.stations);
+                let names = desk.lay(areas.names);
+                let counts = desk.lay(areas.counts);
+                let filled = ffi::LentBiases {
+                    satellites: &mut *satellites,
+                    stations: &mut *stations,
+                    names: &mut *names,
+                    counts: &mut *counts,
+                };
+                let answer = desk.area(place, |place| ffi::biases(laid, filled, place));
+                areas.satellites.copy_from_slice(satellites);
+                areas.stations.copy_from_slice(stations);
+                areas.names.copy_from_slice(names);
+                areas.counts.copy_from_slice(counts);
+                kept(laid, text);
+                answer
+            }),
+            crate::boundary::Plain.biases(text, lent)
+        )
     }
 }

@@ -2,6 +2,7 @@
 //! every length of each area, and headers and indexes that promise more than is there. The second program says what is
 //! right. A call that touches the number past one of its areas, in a process of its own, must be seen to end it.
 
+use crate::archive::FUNCTIONS;
 use crate::biases::{self, Biases};
 use crate::boundary::{self, Asked, Boundary, Given, Lent, Plain, HEADER, NEEDS, RECORD, TEXTS};
 use crate::explains::{Explains, EXPLAINED, LACKING};
@@ -557,6 +558,9 @@ impl Guards {
     fn touches(&mut self, sample: &Sample) {
         let mut seen = 0;
         for (name, export) in EXPORTS {
+            if !FUNCTIONS.contains(&(name, true)) {
+                continue;
+            }
             self.same(name, |library| export(library, sample));
             let areas = self.fenced.areas();
             self.tally.note(areas > 0 && export(&Plain, sample) == 0);
@@ -665,12 +669,11 @@ pub fn touch(export: &str, side: &str, area: &str, how: &str) -> Option<u64> {
 #[cfg(test)]
 mod tests {
     use super::*;
-    use crate::archive::FUNCTIONS;
 
     #[test]
     fn every_export_has_a_good_call() {
         let sample = Sample::of(FILES[1]);
-        let mut names: Vec<&str> = FUNCTIONS.to_vec();
+        let mut names: Vec<&str> = FUNCTIONS.iter().map(|row| row.0).collect();
         names.sort_unstable();
         let mut exports: Vec<&str> = EXPORTS.iter().map(|row| row.0).collect();
         exports.sort_unstable();

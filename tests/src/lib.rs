@@ -11,6 +11,7 @@ pub mod boundary;
 #[cfg(not(target_arch = "x86_64"))]
 pub mod bridge;
 #[cfg(target_arch = "x86_64")]
+#[macro_use]
 pub mod c;
 pub mod calls;
 pub mod check;
@@ -18,10 +19,10 @@ pub mod damage;
 pub mod delays;
 pub mod explains;
 pub mod faults;
-#[cfg(target_arch = "x86_64")]
+#[cfg(all(target_arch = "x86_64", feature = "ionex"))]
 pub mod fenced;
 pub mod gen;
-#[cfg(target_arch = "x86_64")]
+#[cfg(all(target_arch = "x86_64", feature = "ionex"))]
 pub mod guards;
 pub mod histories;
 pub mod indexes;
@@ -30,7 +31,7 @@ pub mod joins;
 pub mod library;
 pub mod many;
 pub mod oracle;
-#[cfg(target_arch = "x86_64")]
+#[cfg(all(target_arch = "x86_64", feature = "ionex"))]
 pub mod pages;
 pub mod program;
 pub mod remarks;

@@ -1,6 +1,6 @@
 //! What is compared: functions over lent areas.
 
-use crate::archive::Archive;
+use crate::archive::{Archive, FUNCTIONS};
 use crate::boundary::{self, Boundary, Lent, HEADER, NEEDS, TEXTS};
 use crate::delays::{self, Bits};
 use crate::set::MapSet;
@@ -198,12 +198,19 @@ fn bare(answer: u64) -> Refusal {
     }
 }
 
-/// The second program, and the library.
-pub fn all() -> Vec<Box<dyn Library>> {
-    vec![Box::new(Second), judged()]
+/// The library to compare with the second program, where a function of it is linked.
+pub fn other() -> Option<Box<dyn Library>> {
+    let linked = FUNCTIONS.iter().any(|(_, linked)| *linked);
+    linked.then(|| Box::new(Behind(Archive)) as Box<dyn Library>)
 }
 
-/// The library, which the second program judges.
+/// The second program, and the library where one is linked.
+pub fn all() -> Vec<Box<dyn Library>> {
+    let second = Box::new(Second) as Box<dyn Library>;
+    std::iter::once(second).chain(other()).collect()
+}
+
+/// The library where one is linked, else the second program.
 pub fn judged() -> Box<dyn Library> {
-    Box::new(Behind(Archive))
+    other().unwrap_or(Box::new(Second))
 }

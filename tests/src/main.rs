@@ -13,8 +13,9 @@
 //! compare program FILE            an executable on every example, against the second program
 //! compare guards                  every export with its areas at forbidden pages (on x86-64)
 //! compare touch EXPORT SIDE AREA HOW   a call that such a page must end
-//! compare functions               the functions that are compared, one to a line
+//! compare linked                  the functions that are linked, one to a line
 //!
+//! A function of the library that is not linked is answered by the second program, and a line says so.
 //! The last line is `N passed, M failed`; the exit status is non-zero if M > 0.
 
 #![forbid(unsafe_code)]
@@ -35,23 +36,23 @@ fn main() -> ExitCode {
     let words: Vec<&str> = arguments.iter().map(String::as_str).collect();
     let tally = match words[..] {
         ["program", file] => program::examples(Path::new(file)),
-        #[cfg(target_arch = "x86_64")]
+        #[cfg(all(target_arch = "x86_64", feature = "ionex"))]
         ["guards"] => compare::guards::compare(),
-        #[cfg(target_arch = "x86_64")]
+        #[cfg(all(target_arch = "x86_64", feature = "ionex"))]
         ["touch", export, side, area, how] => {
             match compare::guards::touch(export, side, area, how) {
                 Some(0) => return ExitCode::SUCCESS,
                 _ => return usage(),
             }
         }
-        ["functions"] => {
-            for name in FUNCTIONS {
-                println!("{name}");
+        ["linked"] => {
+            for (name, _) in FUNCTIONS.iter().filter(|(_, linked)| *linked) {
+                println!("{}", name.trim_start_matches("ionex_"));
             }
             return ExitCode::SUCCESS;
         }
         ["delays", seed] => match seed.parse() {
-            Ok(seed) => delays::log(&Archive, seed),
+            Ok(seed) if linked() => delays::log(&Archive, seed),
             _ => return usage(),
         },
         [mode, count, seed] => {
@@ -83,16 +84,18 @@ fn usage() -> ExitCode {
     );
     eprintln!("       compare delays SEED");
     eprintln!("       compare program FILE");
-    eprintln!("       compare functions | guards");
+    eprintln!("       compare linked | guards");
+    eprintln!("libraries, boundary, delays and guards need a function that is linked");
     ExitCode::from(2)
 }
 
 fn seeded(mode: &str, count: u64, seed: u64) -> Option<Tally> {
+    say_what_is_linked();
     let library = library::judged();
     Some(match mode {
         "self-check" => check::self_check(library.as_ref(), count, seed),
-        "libraries" => check::compare(&Second, library.as_ref(), count, seed),
-        "boundary" => calls::compare(&archive::fenced(), count, seed),
+        "libraries" if linked() => check::compare(&Second, library.as_ref(), count, seed),
+        "boundary" if linked() => calls::compare(&archive::fenced(), count, seed),
         "explains" => explains::compare(&archive::fenced(), count, seed),
         "many" => many::compare(&archive::fenced(), count, seed),
         "histories" => histories::compare(&archive::fenced(), count, seed),
@@ -102,6 +105,19 @@ fn seeded(mode: &str, count: u64, seed: u64) -> Option<Tally> {
         "faults" => planted_faults(count, seed),
         _ => return None,
     })
+}
+
+/// Whether there is anything to compare with the second program.
+fn linked() -> bool {
+    FUNCTIONS.iter().any(|(_, linked)| *linked)
+}
+
+fn say_what_is_linked() {
+    for (name, linked) in FUNCTIONS {
+        if !linked {
+            println!("{name} is not linked: the second program stands in its place");
+        }
+    }
 }
 
 /// One wrong answer for each thing compared; the comparison must find it.

@@ -1,4 +1,4 @@
-//! What the C boundary promises, in so many words, by the library.
+//! What the C boundary promises, in so many words: by the library where it is linked, else by the second program.
 
 use compare::archive::Archive;
 use compare::boundary::{

@@ -1,5 +1,5 @@
 //! The figures of the scope paper that are not proved, and what it calls easy to get wrong, by the second program and
-//! by the library.
+//! by the library where it is linked.
 
 use compare::delays::L1;
 use compare::library::{self, Library, Second};

@@ -2,7 +2,9 @@
 //! wrong it reads as the second program does.
 
 use super::crowds::CHUNK;
-use super::{compare_call, counted, tell, Biases, Call, Found, Lent, SATELLITE, STATION, TITLE};
+use super::{
+    calls, compare_call, counted, tell, Biases, Call, Found, Lent, SATELLITE, STATION, TITLE,
+};
 use crate::archive::Archive;
 use crate::tally;
 use second::fields;
@@ -63,11 +65,29 @@ listed! {
     }
 }
 
-/// The seed and the difference at which the comparison with the library finds a fault, within `count` seeds.
+impl Fault {
+    /// Whether it takes thousands of stations to see it.
+    fn of_crowds(self) -> bool {
+        matches!(
+            self,
+            Fault::WithinChunk
+                | Fault::OtherChunks
+                | Fault::NextChunk
+                | Fault::LastOfChunk
+                | Fault::BehindChunk
+                | Fault::FirstChunk
+                | Fault::RepeatFirst
+        )
+    }
+}
+
+/// The seed and the difference at which the comparison with the library finds a fault, within `count` seeds. Blocks of
+/// few stations must show every fault but those of thousands.
 pub fn find(fault: Fault, count: u64, seed: u64) -> Option<(u64, String)> {
     let differs = |call: &Call| compare_call(&Archive, &Faulty(Some(fault)), call).1;
-    tally::first(count, seed, |seed| {
-        counted(seed).find_map(|(_, call)| differs(&call))
+    tally::first(count, seed, |seed| match fault.of_crowds() {
+        true => counted(seed).find_map(|(_, call)| differs(&call)),
+        false => calls(seed).iter().find_map(differs),
     })
 }
 
