@@ -13,8 +13,8 @@
  *     a text that is read, a map set that is asked or written.
  * Everything else may be anything at all: every text, number and length has an answer.
  *
- * STACK. ionex_read, ionex_needs, ionex_index and ionex_biases take less than 32 KiB, ionex_explain less than 8 KiB, each
- * other call less than 4 KiB, whatever it is given: none calls itself. tests/stack.c measures it. Nothing is allocated; of the C library memcpy and
+ * STACK. ionex_read, ionex_needs, ionex_index and ionex_biases take less than 16 KiB, each other call less than 4 KiB,
+ * whatever it is given: none calls itself. tests/stack.c measures it. Nothing is allocated; of the C library memcpy and
  * memset are called, no more.
  *
  * TIME. Every epoch is in seconds from 1900-01-01 00:00:00, in universal time (UT) as document 001 has its maps, and

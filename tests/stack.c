@@ -137,16 +137,16 @@ static struct {
     void (*call)(void);
     size_t allowed, most;
 } calls[] = {
-    {"needs", needing, 32768, 0},
-    {"biases", biasing, 32768, 0},
-    {"reading", reading, 32768, 0},
-    {"the index", indexing, 32768, 0},
+    {"needs", needing, 16384, 0},
+    {"biases", biasing, 16384, 0},
+    {"reading", reading, 16384, 0},
+    {"the index", indexing, 16384, 0},
     {"a node", pointing, 4096, 0},
     {"a block", blocking, 4096, 0},
     {"writing", writing, 4096, 0},
     {"asking", asking, 4096, 0},
     {"asking many", asking_many, 4096, 0},
-    {"explaining", explaining, 8192, 0},
+    {"explaining", explaining, 4096, 0},
     {"delay", delaying, 4096, 0},
     {"delay of TECU", multiplying, 4096, 0},
     {"joining", joining, 4096, 0},
