@@ -112,7 +112,8 @@ pub fn keep(s: State, i: usize, h: Heard) -> Stepped
     }
 }
 
-// 3A20
+// 3A20. Apart, as are the two others of texts, so that no copy of a state is cut at their places on the stack.
+#[inline(never)]
 pub fn keep_program(s: State, line: &[u8]) -> Stepped
     requires { length line.now ≤ 80 }
     ensures { told result ≡ kept s 0 (entry program (pad line.now)) }
@@ -142,6 +143,7 @@ fn beside_mapping(line: &[u8]) -> Found
 }
 
 // 2X,A4,54X
+#[inline(never)]
 pub fn keep_mapping(s: State, line: &[u8]) -> Stepped
     requires { length line.now ≤ 80 }
     ensures { told result ≡ kept s 5 (entry mapping (pad line.now)) }
@@ -162,6 +164,7 @@ pub fn keep_mapping(s: State, line: &[u8]) -> Stepped
 }
 
 // A60
+#[inline(never)]
 pub fn keep_observables(s: State, line: &[u8]) -> Stepped
     requires { length line.now ≤ 80 }
     ensures { told result ≡ kept s 7 (entry observables (pad line.now)) }
@@ -306,7 +309,7 @@ pub fn header_of(s: State, version: Version) -> Header
     }
 }
 
-// No record is missing but starred ones. Inlined, its loop would have every copy of a state cut into small pieces on the stack.
+// No record is missing but starred ones. Apart, for its loop would have each copy of a state cut into small pieces on the stack.
 #[inline(never)]
 pub fn complete(s: State) -> bool
     ensures { result ≡ truth (complete? starred (slots_of s)) }
