@@ -1,7 +1,6 @@
 // The header of a text: its version record, its records in any order, END OF HEADER.
 #![tactic(auto)]
 
-use head_state::State;
 use mapset::{Header, Texts};
 
 pub mod opening;
@@ -20,12 +19,6 @@ pub enum Headed {
 pub enum Onward {
     On(usize, u64),
     Stop(Headed),
-}
-
-#[derive(Clone, Copy)]
-pub struct Passed {
-    pub onward: Onward,
-    pub state: State,
 }
 
 // The texts are blanks on a refusal.

@@ -9,7 +9,7 @@ ghost use Rattle.head.specs.Opened.{Keeps, Passes, onward, beside, ReadsHeader};
 ghost use Rattle.mapset.specs.Lines.{no_lines};
 ghost use Rattle.mapset.specs.Said.{blank_texts};
 
-use super::{Headed, HeaderRead, Onward, Passed};
+use super::{Headed, HeaderRead, Onward};
 use head_state::{Next, State};
 use head_version::Versioned;
 use mapset::{Texts, Version};
