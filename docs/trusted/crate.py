@@ -12,7 +12,7 @@ from .sources import VARIANTS, Antt, Item, indent, words
 NUMBERS = {**dict.fromkeys(["u8", "u16", "u32", "u64", "usize"], "ℕ"), **dict.fromkeys(["i8", "i16", "i32", "i64", "isize"], "ℤ"),
            "f64": "Float", "bool": "Bool"}
 IMPLICIT = re.compile(r"\{([^{}=:]+:(?:[^{}]|\{[^{}]*\})*)\}")  # {x : A}, which may not stand within a type
-BASE = {**dict.fromkeys(["ℕ", "ℤ", "Bool", "List"], "Rattle.std.specs.Prelude"), "Float": "Rattle.std.specs.Float.Ieee"}
+BASE = {**dict.fromkeys(["ℕ", "ℤ", "Bool", "List", "Option", "Result"], "Rattle.std.specs.Prelude"), "Float": "Rattle.std.specs.Float.Ieee"}
 
 
 def label(file):
@@ -20,10 +20,31 @@ def label(file):
     return file.crate.title().replace("_", "") + file.folder.title() + file.module.replace(".", "")
 
 
+def parts(inside):
+    """What stands between commas at the outermost level."""
+    found, depth = [""], 0
+    for letter in inside:
+        depth += (letter in "<(") - (letter in ">)")
+        if letter == "," and not depth:
+            found.append("")
+        else:
+            found[-1] += letter
+    return [part.strip() for part in found if part.strip()]
+
+
 def logical(kind):
-    """A type of the code as the logic has it: lists for slices, whole numbers for machine numbers."""
+    """A type of the code as the logic has it: lists for slices, whole numbers for machine numbers, pairs for tuples."""
     part = re.match(r"&(?:'\w+ )?(?:mut )?\[(\w+)\]", kind)
-    return f"List {NUMBERS[part[1]]}" if part else NUMBERS.get(kind, kind)
+    if part:
+        return f"List {NUMBERS[part[1]]}"
+    if kind == "()":
+        return "(Unit {0})"
+    if kind.startswith("("):
+        return f"({' × '.join(logical(one) for one in parts(kind[1:-1]))})"
+    generic = re.fullmatch(r"(Option|Result)<(.*)>", kind, re.S)
+    if generic:
+        return f"({generic[1]} {' '.join(logical(one) for one in parts(generic[2]))})"
+    return NUMBERS.get(kind, kind)
 
 
 class Crate:

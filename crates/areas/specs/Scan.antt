@@ -1,9 +1,7 @@
 -- The second scan, row by row: where it stands, and what a row brings. It judges nothing, since the text is accepted.
 use Rattle.std.proofs.Math.Option.{Option, none, some}
-use Rattle.std.specs.Prelude.{List, [], ◌∷◌, ◌++◌, ℕ, zero, suc, ◌-◌, drop, ℤ, pos, negsuc, nat_abs}
+use Rattle.std.specs.Prelude.{List, [], ◌∷◌, ◌++◌, ℕ, zero, suc, ◌-◌, drop, ℤ, pos, negsuc, nat_abs, Result, Ok, Err}
 use Rattle.kit.specs.Answer.{Answer, ok, refused, pick, same}
-use Rattle.calendar.specs.declared.Taken.{Taken}
-use Rattle.calendar.specs.declared.Taken.TheVariants.{At, Wrong}
 use Rattle.mapset.specs.declared.Kind.{Kind}
 use Rattle.mapset.specs.declared.Kind.TheVariants.{Tec, Rms, Height}
 use Rattle.layout.specs.Labels.{name, Label, version, description, comment, system, exponent, aux_start, aux_end, header_end, epoch, block, file_end, head, start, end}
@@ -41,9 +39,9 @@ exponent_in r = (or_else (fields exponent r) (pos 0, tt)).0
 abbrev pub number_in : Kind → List ℕ → ℕ
 number_in k r = nat_abs (or_else (fields (start k) r) (pos 0, tt)).0
 
-unfoldable pub second_of : Taken → ℕ
-second_of (At t) = t
-second_of (Wrong c) = 0
+unfoldable pub second_of : Result ℕ ℕ → ℕ
+second_of (Ok t) = t
+second_of (Err c) = 0
 
 abbrev pub epoch_in : List ℕ → ℕ
 epoch_in r = second_of (date (or_else (fields epoch r) (pos 0, (pos 0, (pos 0, (pos 0, (pos 0, (pos 0, tt))))))))

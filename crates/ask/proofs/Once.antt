@@ -16,7 +16,7 @@ use Rattle.ask_spans.specs.Time.{epoch}
 use Rattle.ask_spans.proofs.TimeLaws.{uses_once}
 use Rattle.ask_nodes.specs.Value.{kind_of}
 use Rattle.ask_sums.specs.Mean.{Term, Valued, spread, weight, weighted}
-use Rattle.ask.specs.Ask.{Question, Told, tecu, km, refused, in_unit, Guard, stop, go, epochs, Served, Weighs, asked, Rounded, Blended, Answers, number, told}
+use Rattle.ask.specs.Ask.{Question, Told, tecu, km, refused, in_unit, Guard, stop, go, epochs, Served, Weighs, asked, Rounded, Blended, Answers, number, Asked, told}
 use Rattle.ask.specs.Sun.{in_time, unit_of, lon_at, CellAt, Cells}
 use Rattle.ask.proofs.AskLaws.{steady, has_weight}
 use Rattle.ask_cells.specs.declared.Cell.{Cell}
@@ -24,8 +24,8 @@ use Rattle.ask_spans.specs.declared.Shares.{Shares}
 use Rattle.ask_nodes.specs.declared.Weighed.{Weighed}
 use Rattle.ask.specs.declared.Why.{Why}
 use Rattle.ask.specs.declared.Why.TheVariants as W
-use Rattle.ask.specs.declared.Asked.{Asked}
-use Rattle.ask.specs.declared.Asked.TheVariants as A
+use Rattle.std.specs.Prelude.{Ok, Err}
+use Rattle.ask_nodes.specs.declared.Value.TheVariants as V
 
 -- at most one answer
 abbrev pub Once : (Told → Type 0) → Type 0
@@ -84,9 +84,9 @@ unfoldable why_of : ℕ → Why
 why_of n = pick (ℕ_discrete n 23) W.Unknown (pick (ℕ_discrete n 31) W.Unsound (pick (ℕ_discrete n 24) W.Unserved (pick (ℕ_discrete n 20) W.OutOfTime (pick (ℕ_discrete n 21) W.OutOfPlace W.NoValue))))
 
 abbrev back : Told → Asked
-back (tecu v) = A.Tecu (record { 0 = v })
-back (km v) = A.Km (record { 0 = v })
-back (refused n) = A.Refused (why_of n)
+back (tecu v) = Ok (V.Tecu (record { 0 = v }))
+back (km v) = Ok (V.Km (record { 0 = v }))
+back (refused n) = Err (why_of n)
 
 back_why : (w : Why) → why_of (number w) ≡ w
 unfolding why_of pick ℕ_discrete
@@ -101,9 +101,9 @@ pub number_once : (v w : Why) → number v ≡ number w → v ≡ w
 number_once v w e = sym (back_why v) ∙ ap why_of e ∙ back_why w
 
 back_told : (r : Asked) → back (told r) ≡ r
-back_told (A.Tecu v) = refl
-back_told (A.Km v) = refl
-back_told (A.Refused w) = ap A.Refused (back_why w)
+back_told (Ok (V.Tecu v)) = refl
+back_told (Ok (V.Km v)) = refl
+back_told (Err w) = ap Err (back_why w)
 
 pub ask_once : (q : Question) (r s : Asked) → Answers q (told r) → Answers q (told s) → r ≡ s
 ask_once q r s a b = sym (back_told r) ∙ ap back (answers_once q (told r) (told s) a b) ∙ back_told s

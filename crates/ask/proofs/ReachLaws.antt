@@ -13,7 +13,7 @@ use Rattle.kit.proofs.Parts.{parts_le, abs_parts, one_zero}
 use Rattle.kit.specs.Answer.{All}
 use Rattle.kit.proofs.AnswerLaws.{pick_no}
 use Rattle.kit.proofs.ListLaws.{all_append}
-use Rattle.mapset.specs.Grid.{latitudes, longitudes, layers, rows, columns}
+use Rattle.mapset.specs.Grid.{layers, rows, columns}
 use Rattle.mapset.specs.Areas.{Present, Nowhere, nowhere?, blocks, values, Sound}
 use Rattle.mapset.specs.declared.Kind.{Kind}
 use Rattle.mapset.specs.declared.Kind.TheVariants.{Tec as tec, Rms as rms, Height as height}

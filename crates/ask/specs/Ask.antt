@@ -1,5 +1,5 @@
 -- 01, 'The value at a place and second': what is asked, and what is answered.
-use Rattle.std.specs.Prelude.{◌≡◌, List, ℕ, ◌<◌, ℤ, take}
+use Rattle.std.specs.Prelude.{◌≡◌, List, ℕ, ◌<◌, ℤ, take, Result, Ok, Err}
 use Rattle.kit.specs.Range.{Within}
 use Rattle.mapset.specs.Grid.{layers, rows, columns}
 use Rattle.mapset.specs.Areas.{Areas, Sound}
@@ -18,8 +18,8 @@ use Rattle.ask_nodes.specs.declared.Weighed.{Weighed}
 use Rattle.ask_nodes.specs.declared.Shape.{Shape}
 use Rattle.ask.specs.declared.Why.{Why}
 use Rattle.ask.specs.declared.Why.TheVariants as W
-use Rattle.ask.specs.declared.Asked.{Asked}
-use Rattle.ask.specs.declared.Asked.TheVariants as A
+use Rattle.ask_nodes.specs.declared.Value.{Value}
+use Rattle.ask_nodes.specs.declared.Value.TheVariants as V
 
 -- a map set, and what is asked of it: place in hundredths of a degree, time in whole seconds from 1900, a layer counted from 0
 pub record Question : Type 0 where
@@ -153,10 +153,14 @@ told_number (tecu v) = 0
 told_number (km v) = 0
 told_number (refused n) = n
 
+-- a value in its unit, or why there is none
+abbrev pub Asked : Type 0
+Asked = Result Value Why
+
 abbrev pub told : Asked → Told
-told (A.Tecu v) = tecu v.0
-told (A.Km v) = km v.0
-told (A.Refused w) = refused (number w)
+told (Ok (V.Tecu v)) = tecu v.0
+told (Ok (V.Km v)) = km v.0
+told (Err w) = refused (number w)
 
 abbrev pub question : Header → FullTexts → Areas → ℕ → ℕ → ℕ → ℤ → ℤ → ℕ → Question
 question header texts areas kind method layer lat lon second =

@@ -1,5 +1,5 @@
 -- What the code says of a set that is looked at once, and of one question after that.
-use Rattle.std.specs.Prelude.{◌≡◌, List, ℕ, ◌<◌, ℤ}
+use Rattle.std.specs.Prelude.{◌≡◌, List, ℕ, ◌<◌, ℤ, Result, Ok, Err}
 use Rattle.mapset.specs.Areas.{Areas}
 use Rattle.mapset.specs.declared.Header.{Header}
 use Rattle.mapset.specs.Described.{FullTexts}
@@ -11,13 +11,12 @@ use Rattle.ask_sums.specs.Mean.{spread, terms, weight}
 use Rattle.ask_sums.specs.Sums.{mean, Summable}
 use Rattle.ask.specs.Ask.{Question, Told, Placed, Barred, Open, number, of_kind, layout, question}
 use Rattle.ask.specs.Summed.{in_told}
-use Rattle.ask.specs.declared.Gate.{Gate}
-use Rattle.ask.specs.declared.Gate.TheVariants as G
+use Rattle.ask.specs.declared.Why.{Why}
 
 -- what is told of questions that differ in layer, place and second only
-abbrev pub Gated : (ℕ → ℤ → ℤ → ℕ → Question) → Gate → Type 0
-Gated at G.Open = (layer : ℕ) (lat lon : ℤ) (second : ℕ) → Open (at layer lat lon second)
-Gated at (G.Shut w) = (layer : ℕ) (lat lon : ℤ) (second : ℕ) → Barred (at layer lat lon second) (number w)
+abbrev pub Gated : (ℕ → ℤ → ℤ → ℕ → Question) → Result (Unit {0}) Why → Type 0
+Gated at (Ok u) = (layer : ℕ) (lat lon : ℤ) (second : ℕ) → Open (at layer lat lon second)
+Gated at (Err w) = (layer : ℕ) (lat lon : ℤ) (second : ℕ) → Barred (at layer lat lon second) (number w)
 
 -- a question by its header and layout, whatever its texts: they are not looked at again
 abbrev pub Askable : Header → Shape → Areas → ℕ → ℤ → ℤ → ℕ → Type 0

@@ -1,12 +1,10 @@
 -- What the search of the maps' cells asks for, and what it answers.
-use Rattle.std.specs.Prelude.{◌≡◌, ◌⊎◌, List, ℕ, ◌+◌, ◌<◌, ◌^◌, ℤ, nat_abs, length}
+use Rattle.std.specs.Prelude.{◌≡◌, ◌⊎◌, List, ℕ, ◌+◌, ◌<◌, ◌^◌, ℤ, nat_abs, length, Option, Some, None}
 use Rattle.mapset.specs.declared.Grid.{Grid}
 use Rattle.ask_spans.specs.Time.{epoch}
 use Rattle.ask.specs.Sun.{CellAt, Cells}
 use Rattle.ask_cells.specs.declared.Cell.{Cell}
 use Rattle.ask_spans.specs.declared.Shares.{Shares}
-use Rattle.ask.specs.declared.sun.Pair.{Pair}
-use Rattle.ask.specs.declared.sun.Pair.TheVariants as P
 
 -- the grid has steps, the times are small enough, and the maps that have a share are there
 pub record CanAsk (g : Grid) (t : ℕ) (es : List ℕ) (h : Shares) : Type 0 where
@@ -17,7 +15,7 @@ pub record CanAsk (g : Grid) (t : ℕ) (es : List ℕ) (h : Shares) : Type 0 whe
   pub map : h.map < length es
   pub next : (h.late ≡ 0) ⊎ (h.map + 1 < length es)
 
--- the two cells; outside where a map has none
-abbrev pub PairFound : ℕ → Grid → ℤ → ℤ → ℕ → List ℕ → Shares → Pair → Type 0
-PairFound method g lat lon t es h (P.Of c d) = Cells method g lat lon t es h c d
-PairFound method g lat lon t es h P.Outside = (e : ℕ) × ((c : Cell) → ¬ CellAt method g lat lon t e c)
+-- the two cells; none where a map has none
+abbrev pub PairFound : ℕ → Grid → ℤ → ℤ → ℕ → List ℕ → Shares → Option (Cell × Cell) → Type 0
+PairFound method g lat lon t es h (Some p) = Cells method g lat lon t es h p.0 p.1
+PairFound method g lat lon t es h None = (e : ℕ) × ((c : Cell) → ¬ CellAt method g lat lon t e c)

@@ -9,18 +9,17 @@ ghost use Rattle.kit.specs.Truth.{truth};
 ghost use Rattle.mapset.specs.Described.{full};
 ghost use Rattle.mapset.specs.Areas.{six};
 ghost use Rattle.ask.specs.Ask.{layout, question, Answers, number, told};
-ghost use Rattle.ask.specs.Looked.{Gated, Askable, ValueAt};
+ghost use Rattle.ask.specs.Looked.{Gated, Askable, ValueAt, asked_values};
 
 use ask_nodes::Shape;
-pub use ask_nodes::{MilliKm, MilliTecu};
+pub use ask_nodes::{MilliKm, MilliTecu, Value};
 use mapset::{Header, Texts, Times, axes};
-use sun::Pair;
 
+mod mean;
 pub mod sun;
-mod value;
 
 // Why there is no value: 23, 31, 24, 20, 21 and 22.
-#[derive(Clone, Copy)]
+#[derive(Clone, Copy, PartialEq, Eq)]
 pub enum Why {
     Unknown,
     Unsound,
@@ -42,13 +41,6 @@ pub fn number_of(why: Why) -> u64
         Why::OutOfPlace => 21,
         Why::NoValue => 22,
     }
-}
-
-#[derive(Clone, Copy)]
-pub enum Asked {
-    Tecu(MilliTecu),
-    Km(MilliKm),
-    Refused(Why),
 }
 
 fn is_known(kind: u64, method: u64) -> bool
@@ -82,14 +74,18 @@ pub fn shape_of(header: Header, kind: u64, layer: u64) -> Shape
     }
 }
 
-// What is looked at once, whatever the layer, place and second.
-#[derive(Clone, Copy)]
-pub enum Gate {
-    Open,
-    Shut(Why),
+// The values of the kind that is asked for.
+pub fn values_of<'a>(s: Shape, tec: &'a [i32], rms: &'a [i32], height: &'a [i32]) -> &'a [i32]
+    ensures { result.now ≡ asked_values s tec.now rms.now height.now }
+{
+    match s.kind {
+        0 => tec,
+        1 => rms,
+        _ => height,
+    }
 }
 
-// 23, 31 and 24.
+// What is looked at once, whatever the layer, place and second: 23, 31 and 24.
 pub fn look(
     header: Header,
     texts: Texts,
@@ -102,13 +98,13 @@ pub fn look(
     marks: &[u8],
     kind: u64,
     method: u64,
-) -> Gate
+) -> Result<(), Why>
     ensures { Gated (question header (full texts descriptions.now)
         (six tec.now rms.now height.now exponents.now epochs.now marks.now)
         kind method) result }
 {
     if !is_known(kind, method) {
-        return Gate::Shut(Why::Unknown);
+        return Err(Why::Unknown);
     }
     if !sound::sound(
         header,
@@ -121,16 +117,16 @@ pub fn look(
         epochs,
         marks,
     ) {
-        return Gate::Shut(Why::Unsound);
+        return Err(Why::Unsound);
     }
     let maps = header.times.maps as usize;
     if !sun::serves(header.grid.longitudes, method, &epochs[..maps]) {
-        return Gate::Shut(Why::Unserved);
+        return Err(Why::Unserved);
     }
-    Gate::Open
+    Ok(())
 }
 
-// One question where the gate is open: 20, 21, 22, or the value. The gap is the one that the second's maps are guessed by.
+// One question where that is passed: 20, 21, 22, or the value. The gap is the one that the second's maps are guessed by.
 pub fn value_at(
     header: Header,
     s: Shape,
@@ -145,34 +141,26 @@ pub fn value_at(
     lat: i32,
     lon: i32,
     second: u64,
-) -> Asked
+) -> Result<Value, Why>
     requires { Askable header s (six tec.now rms.now height.now exponents.now epochs.now marks.now) method lat lon second }
     ensures { ValueAt header s
         (six tec.now rms.now height.now exponents.now epochs.now marks.now)
         method lat lon second (told result) }
 {
     if !in_time(header.times, second) {
-        return Asked::Refused(Why::OutOfTime);
+        return Err(Why::OutOfTime);
     }
     if !has_layer(s) {
-        return Asked::Refused(Why::OutOfPlace);
+        return Err(Why::OutOfPlace);
     }
-    let maps = header.times.maps as usize;
-    let shares = ask_spans::shares_of(&epochs[..maps], second, sun::maps_by(method), gap);
-    match sun::cells_at(
-        header.grid,
-        method,
-        lat,
-        lon,
-        second,
-        shares,
-        &epochs[..maps],
-    ) {
-        Pair::Outside => Asked::Refused(Why::OutOfPlace),
-        Pair::Of(first, other) => {
-            value::kind_value(shares, first, other, s, tec, rms, height, exponents, marks)
-        }
-    }
+    let epochs = &epochs[..header.times.maps as usize];
+    let shares = ask_spans::shares_of(epochs, second, sun::maps_by(method), gap);
+    let Some((first, other)) = sun::cells_at(header.grid, method, lat, lon, second, shares, epochs)
+    else {
+        return Err(Why::OutOfPlace);
+    };
+    let values = values_of(s, tec, rms, height);
+    mean::value_of(shares, first, other, s, values, exponents, marks)
 }
 
 pub fn ask(
@@ -191,12 +179,12 @@ pub fn ask(
     lat: i32,
     lon: i32,
     second: u64,
-) -> Asked
+) -> Result<Value, Why>
     ensures { Answers (question header (full texts descriptions.now)
         (six tec.now rms.now height.now exponents.now epochs.now marks.now)
         kind method layer lat lon second) (told result) }
 {
-    match look(
+    look(
         header,
         texts,
         descriptions,
@@ -208,22 +196,20 @@ pub fn ask(
         marks,
         kind,
         method,
-    ) {
-        Gate::Shut(why) => Asked::Refused(why),
-        Gate::Open => value_at(
-            header,
-            shape_of(header, kind, layer),
-            ask_spans::mean_gap(header.times.first, header.times.last, header.times.maps),
-            tec,
-            rms,
-            height,
-            exponents,
-            epochs,
-            marks,
-            method,
-            lat,
-            lon,
-            second,
-        ),
-    }
+    )?;
+    value_at(
+        header,
+        shape_of(header, kind, layer),
+        ask_spans::mean_gap(header.times.first, header.times.last, header.times.maps),
+        tec,
+        rms,
+        height,
+        exponents,
+        epochs,
+        marks,
+        method,
+        lat,
+        lon,
+        second,
+    )
 }

@@ -2,28 +2,19 @@
 ghost use Rattle.std.specs.Prelude.{◌≡◌, ◌<◌, ◌^◌, nat_abs};
 ghost use Rattle.kit.specs.Truth.{Says};
 ghost use Rattle.ask_cells.specs.Found.{CellFound};
-ghost use Rattle.ask_spans.specs.Spans.{Regular};
 ghost use Rattle.ask.specs.Sun.{in_time, unit_of, moved, lon_at, Serves};
 ghost use Rattle.ask.specs.Turned.{CanAsk, PairFound};
 
-use ask_cells::{Cell, Whereabouts};
+use ask_cells::Cell;
 use ask_spans::Shares;
 use mapset::{Axis, Grid};
-
-// The cells of the two maps.
-#[derive(Clone, Copy)]
-pub enum Pair {
-    Of(Cell, Cell),
-    Outside,
-}
 
 // The method that takes the same maps with the same shares, where none is turned.
 pub fn maps_by(method: u64) -> u64
     ensures { result ≡ in_time method }
 {
     match method {
-        1 => 1,
-        2 => 1,
+        1 | 2 => 1,
         _ => 0,
     }
 }
@@ -54,7 +45,7 @@ fn lon_of(method: u64, lon: i32, second: u64, epoch: u64) -> i64
 }
 
 // The cell in a map with that epoch.
-fn cell_at(g: Grid, method: u64, lat: i32, lon: i32, second: u64, epoch: u64) -> Whereabouts
+fn cell_at(g: Grid, method: u64, lat: i32, lon: i32, second: u64, epoch: u64) -> Option<Cell>
     requires { (0 < nat_abs g.latitudes.step) × (0 < nat_abs g.longitudes.step) × (second < 2 ^ 40) × (epoch < 2 ^ 40) }
     ensures { CellFound (unit_of method) g lat (lon_at method lon second epoch) result }
 {
@@ -70,32 +61,22 @@ pub fn cells_at(
     second: u64,
     shares: Shares,
     epochs: &[u64],
-) -> Pair
+) -> Option<(Cell, Cell)>
     requires { CanAsk g second epochs.now shares }
     ensures { PairFound method g lat lon second epochs.now shares result }
 {
     let map = shares.map as usize;
-    match cell_at(g, method, lat, lon, second, epochs[map]) {
-        Whereabouts::Outside => Pair::Outside,
-        Whereabouts::In(first) => {
-            if shares.late == 0 {
-                return Pair::Of(first, first);
-            }
-            if method < 2 {
-                return Pair::Of(first, first);
-            }
-            match cell_at(g, method, lat, lon, second, epochs[map + 1]) {
-                Whereabouts::Outside => Pair::Outside,
-                Whereabouts::In(other) => Pair::Of(first, other),
-            }
-        }
+    let first = cell_at(g, method, lat, lon, second, epochs[map])?;
+    if shares.late == 0 || method < 2 {
+        return Some((first, first));
     }
+    let other = cell_at(g, method, lat, lon, second, epochs[map + 1])?;
+    Some((first, other))
 }
 
 // Whether the maps can be turned, where the method asks for it: the grid goes round, DLON is at most 5.0, and no two
 // neighbouring epochs are more than 7,200 s apart.
 pub fn serves(a: Axis, method: u64, epochs: &[u64]) -> bool
-    requires { Regular epochs.now }
     ensures { Says result (Serves method a epochs.now) }
 {
     if method < 2 {
@@ -104,7 +85,7 @@ pub fn serves(a: Axis, method: u64, epochs: &[u64]) -> bool
     if !ask_cells::goes_round(a) {
         return false;
     }
-    if 50 < kit::size(a.step) {
+    if 50 < a.step.unsigned_abs() {
         return false;
     }
     ask_spans::is_close(epochs, 7200)

@@ -1,18 +1,28 @@
 -- Question after question: the answers so far, and one more.
 use mathlib.Core.Path.{◌≡◌, refl, ◌∙◌}
-use Prim.Native.Nat.{ℕ, ◌+◌, ◌≤◌, ◌<◌}
+use Prim.Native.Nat.{ℕ, ◌+◌, ◌≤◌, ◌<◌, min}
+use Rattle.kit.proofs.AnswerLaws.{pick_elim}
 use native.Mathlib.Decide.{dec_lt}
 use native.Mathlib.Omega.{arith}
 use lib.IntN.{ℤ, pos}
 use lib.ListN.{length, get_or, length-set}
 use lib.Seq.{get_or-set_same, get_or-set_other}
 use Rattle.kit.specs.Range.{lesser}
-use Rattle.kit.proofs.LesserLaws.{lesser_within}
+use Rattle.kit.proofs.LesserLaws.{lesser_is, lesser_within}
 use Rattle.ask.specs.Ask.{Told, told_number, number}
 use Rattle.ask.specs.declared.Why.{Why}
 use Rattle.ask.specs.declared.Why.TheVariants as W
 use Rattle.ask_all.specs.AskAll.{Places, Slots, count, value_or, Fills, Each}
 use Rattle.ask_all.specs.Filling.{stored}
+
+-- the shortest of the five, one after the other
+pub count_is : (p : Places) (l : Slots) → min (min (min (min (length p.lats) (length p.lons)) (length p.seconds)) (length l.answers)) (length l.values) ≡ count p l
+count_is p l =
+    let a = lesser_is (length l.answers) (length l.values) in
+    let b = lesser_is (length p.seconds) (lesser (length l.answers) (length l.values)) in
+    let c = lesser_is (length p.lons) (lesser (length p.seconds) (lesser (length l.answers) (length l.values))) in
+    let d = lesser_is (length p.lats) (lesser (length p.lons) (lesser (length p.seconds) (lesser (length l.answers) (length l.values)))) in
+    omega arith
 
 -- every question has its place in each of the five
 pub record Reaches (n : ℕ) (p : Places) (l : Slots) : Type 0 where

@@ -9,10 +9,9 @@ use lib.Seq.{ext_get_or}
 use Rattle.ask.specs.Ask.{Question, Told, refused, told_number, Answers}
 use Rattle.ask.proofs.Once.{Once, answers_once, number_once}
 use Rattle.ask.proofs.Opened.{barred_answers, barred_open, barred_once}
-use Rattle.ask_all.specs.AskAll.{Places, Slots, count, value_or, Fills, Each, AsksAll, barred, answered, told}
+use Rattle.ask_all.specs.AskAll.{Places, Slots, count, value_or, Fills, Each, AsksAll, barred, answered, AllAsked, told}
 use Rattle.ask_all.proofs.EachLaws.{number_range}
-use Rattle.ask_all.specs.declared.AllAsked.{AllAsked}
-use Rattle.ask_all.specs.declared.AllAsked.TheVariants as A
+use Rattle.std.specs.Prelude.{Ok, Err}
 
 fills_once : {R : Told → Type 0} → Once R → (v : ℤ) {n k : ℕ} {w u : ℤ} → Fills R v n w → Fills R v k u → (n ≡ k) × (w ≡ u)
 fills_once o v f g =
@@ -49,10 +48,10 @@ module _ (at : ℤ → ℤ → ℕ → Question) (p : Places) (l : Slots) where
 
 -- ---- and so for what the code returns
 told_once : (r s : AllAsked) → told r ≡ told s → r ≡ s
-told_once A.Answered A.Answered e = refl
-told_once A.Answered (A.Refused w) e = absurd (omega (arith, number_range w, e))
-told_once (A.Refused w) A.Answered e = absurd (omega (arith, number_range w, e))
-told_once (A.Refused v) (A.Refused w) e = ap A.Refused (number_once v w e)
+told_once (Ok u) (Ok v) e = refl
+told_once (Ok u) (Err w) e = absurd (omega (arith, number_range w, e))
+told_once (Err w) (Ok u) e = absurd (omega (arith, number_range w, e))
+told_once (Err v) (Err w) e = ap Err (number_once v w e)
 
 pub ask_all_once : (at : ℤ → ℤ → ℕ → Question) (p : Places) (l : Slots) (r s : AllAsked) {m m' : Slots} → AsksAll at p l (told r) m → AsksAll at p l (told s) m' → (r ≡ s) × (m ≡ m')
 ask_all_once at p l r s a b = let e = asks_all_once at p l a b in (told_once r s e.0, e.1)

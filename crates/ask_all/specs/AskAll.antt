@@ -1,9 +1,8 @@
 -- Many questions in one call: one set, kind, method and layer, and of each question its latitude, longitude and second.
-use Rattle.std.specs.Prelude.{◌≡◌, List, ℕ, ◌≤◌, ◌<◌, ℤ, pos, length, get_or}
+use Rattle.std.specs.Prelude.{◌≡◌, List, ℕ, ◌≤◌, ◌<◌, ℤ, pos, length, get_or, Result, Ok, Err}
 use Rattle.kit.specs.Range.{lesser}
 use Rattle.ask.specs.Ask.{Question, Told, tecu, km, refused, told_number, Answers, Barred, Open, number}
-use Rattle.ask_all.specs.declared.AllAsked.{AllAsked}
-use Rattle.ask_all.specs.declared.AllAsked.TheVariants.{Answered, Refused}
+use Rattle.ask.specs.declared.Why.{Why}
 
 -- the places and seconds that are asked for
 pub record Places : Type 0 where
@@ -54,6 +53,10 @@ pub data AsksAll (at : ℤ → ℤ → ℕ → Question) (p : Places) (l : Slots
   answered : ((lat lon : ℤ) (second : ℕ) → Open (at lat lon second)) → (m : Slots) → Each (λ lat lon second. Answers (at lat lon second)) (count p l) p l m → AsksAll at p l 0 m
 
 -- ---- what the code's answer tells
+-- each question has its answer, or why none has
+abbrev pub AllAsked : Type 0
+AllAsked = Result (Unit {0}) Why
+
 abbrev pub told : AllAsked → ℕ
-told Answered = 0
-told (Refused w) = number w
+told (Ok u) = 0
+told (Err w) = number w

@@ -1,7 +1,7 @@
 // Many questions in one call: the set is looked at once, and each answer is `ask`'s.
 #![tactic(auto)]
 
-ghost use Rattle.std.specs.Prelude.{◌≡◌, ◌<◌, ◌≤◌, pos, length, get_or};
+ghost use Rattle.std.specs.Prelude.{◌≡◌, ◌<◌, ◌≤◌, length};
 ghost use Rattle.mapset.specs.Described.{full};
 ghost use Rattle.mapset.specs.Areas.{six};
 ghost use Rattle.ask.specs.Ask.{question, told_number, told as told_asked};
@@ -9,54 +9,31 @@ ghost use Rattle.ask.specs.Looked.{ValueAt};
 ghost use Rattle.ask_all.specs.AskAll.{places, slots, count, value_or, Each, AsksAll, told};
 ghost use Rattle.ask_all.specs.Filling.{stored, AllAskable};
 
-use ask::{Asked, Gate, Why};
+use ask::{Value, Why};
 use ask_nodes::Shape;
 use mapset::{Header, Texts};
 
-// Each question has its answer; or why none has.
-#[derive(Clone, Copy)]
-pub enum AllAsked {
-    Answered,
-    Refused(Why),
-}
-
-// A number of question k.
-fn degrees_of(all: &[i32], k: usize) -> i32
-    requires { k < length all.now }
-    ensures { result ≡ get_or all.now k (pos 0) }
-{
-    all[k]
-}
-
-fn second_of(all: &[u64], k: usize) -> u64
-    requires { k < length all.now }
-    ensures { result ≡ get_or all.now k 0 }
-{
-    all[k]
-}
-
-fn number_in(answer: Asked) -> u8
+fn number_in(answer: Result<Value, Why>) -> u8
     ensures { result ≡ told_number (told_asked answer) }
 {
     match answer {
-        Asked::Tecu(_) => 0,
-        Asked::Km(_) => 0,
-        Asked::Refused(why) => ask::number_of(why) as u8,
+        Ok(_) => 0,
+        Err(why) => ask::number_of(why) as u8,
     }
 }
 
-fn value_in(answer: Asked, found: i32) -> i32
+fn value_in(answer: Result<Value, Why>, found: i32) -> i32
     ensures { result ≡ value_or found (told_asked answer) }
 {
     match answer {
-        Asked::Tecu(v) => v.0,
-        Asked::Km(v) => v.0,
-        Asked::Refused(_) => found,
+        Ok(Value::Tecu(v)) => v.0,
+        Ok(Value::Km(v)) => v.0,
+        Err(_) => found,
     }
 }
 
 // The answer of question k: its number, and its value, which a refusal leaves as found.
-fn put(answer: Asked, k: usize, answers: &mut [u8], values: &mut [i32])
+fn put(answer: Result<Value, Why>, k: usize, answers: &mut [u8], values: &mut [i32])
     requires { (k < length answers.old) × (k < length values.old) }
     ensures { slots answers.new values.new ≡ stored (told_asked answer) k (slots answers.old values.old) }
 {
@@ -91,28 +68,16 @@ fn answer_each(
         method) n (places lats.now lons.now seconds.now)
         (slots answers.old values.old) (slots answers.new values.new) }
 {
-    let mut k: usize = 0;
-    while k < n {
+    for k in 0..n {
         let answer = ask::value_at(
-            header,
-            s,
-            gap,
-            tec,
-            rms,
-            height,
-            exponents,
-            epochs,
-            marks,
-            method,
-            degrees_of(lats, k),
-            degrees_of(lons, k),
-            second_of(seconds, k),
+            header, s, gap, tec, rms, height, exponents, epochs, marks, method, lats[k], lons[k],
+            seconds[k],
         );
         put(answer, k, answers, values);
-        k += 1;
     }
 }
 
+// Each question has its answer; or why none has.
 pub fn ask_all(
     header: Header,
     texts: Texts,
@@ -131,13 +96,13 @@ pub fn ask_all(
     seconds: &[u64],
     answers: &mut [u8],
     values: &mut [i32],
-) -> AllAsked
+) -> Result<(), Why>
     ensures { AsksAll (question header (full texts descriptions.now)
         (six tec.now rms.now height.now exponents.now epochs.now marks.now)
         kind method layer) (places lats.now lons.now seconds.now)
         (slots answers.old values.old) (told result) (slots answers.new values.new) }
 {
-    match ask::look(
+    ask::look(
         header,
         texts,
         descriptions,
@@ -149,35 +114,30 @@ pub fn ask_all(
         marks,
         kind,
         method,
-    ) {
-        Gate::Shut(why) => AllAsked::Refused(why),
-        Gate::Open => {
-            let n = kit::lesser(
-                lats.len(),
-                kit::lesser(
-                    lons.len(),
-                    kit::lesser(seconds.len(), kit::lesser(answers.len(), values.len())),
-                ),
-            );
-            answer_each(
-                header,
-                ask::shape_of(header, kind, layer),
-                ask_spans::mean_gap(header.times.first, header.times.last, header.times.maps),
-                tec,
-                rms,
-                height,
-                exponents,
-                epochs,
-                marks,
-                method,
-                lats,
-                lons,
-                seconds,
-                n,
-                answers,
-                values,
-            );
-            AllAsked::Answered
-        }
-    }
+    )?;
+    let n = lats
+        .len()
+        .min(lons.len())
+        .min(seconds.len())
+        .min(answers.len())
+        .min(values.len());
+    answer_each(
+        header,
+        ask::shape_of(header, kind, layer),
+        ask_spans::mean_gap(header.times.first, header.times.last, header.times.maps),
+        tec,
+        rms,
+        height,
+        exponents,
+        epochs,
+        marks,
+        method,
+        lats,
+        lons,
+        seconds,
+        n,
+        answers,
+        values,
+    );
+    Ok(())
 }

@@ -1,15 +1,16 @@
 -- A place falls into one cell at most.
 use mathlib.Core.Path.{◌≡◌, refl, sym, ap, ◌∙◌}
-use mathlib.Core.Bool.{Bool, true, false}
+use mathlib.Core.Bool.{true, false}
 use mathlib.Core.Logic.{⊎_elim}
-use Prim.Native.Nat.{ℕ, ◌+◌, ◌*◌, ◌-◌, ◌/◌, ◌%◌, ◌≤◌, ◌<◌}
+use Prim.Native.Nat.{ℕ, ◌+◌, ◌*◌, ◌/◌, ◌≤◌, ◌<◌}
 use native.Mathlib.Nat.{mul-le-mul_left, lt_of_not-le, mod-lt, div-add-mod}
 use native.Mathlib.Decide.{ℕ_discrete, dec_le}
 use native.Mathlib.Omega.{arith}
 use lib.IntN.{ℤ, pos, negsuc, neg_ℤ, nat_abs, ◌+ℤ◌, ◌-ℤ◌, ◌*ℤ◌}
 use lib.Signed.{lt_z}
+use Rattle.std.specs.Int.{int_rem_euclid}
 use Rattle.kit.specs.Integer.{up, dn}
-use Rattle.kit.proofs.Parts.{add_parts, sub_parts2, scale_up, scale_dn, eq_parts, abs_parts, one_zero, neg_up, neg_dn, lt_true, below_zero, not_below_zero}
+use Rattle.kit.proofs.Parts.{add_parts, sub_parts2, scale_up, scale_dn, eq_parts, abs_parts, one_zero, neg_up, neg_dn, lt_true, not_below_zero}
 use Rattle.kit.proofs.AnswerLaws.{pick_yes, pick_no}
 use Rattle.kit.specs.Truth.{truth}
 use Rattle.mapset.specs.Grid.{nodes}
@@ -19,7 +20,7 @@ use Rattle.ask_cells.specs.Place.{Sits, along, InRow, Turned, Strip, RightOf, fi
 use Rattle.ask_cells.specs.Found.{strip?, after, Located, RowFound, ColumnFound}
 use Rattle.ask_cells.specs.declared.Cell.{Cell}
 use Rattle.ask_cells.specs.declared.Spot.{Spot}
-use Rattle.ask_cells.specs.declared.Spot.TheVariants as S
+use Rattle.std.specs.Prelude.{Option, Some, None}
 
 pub along_up : (d : ℤ) (k : ℕ) → lt_z d (pos 0) ≡ false → along d k ≡ pos k
 along_up (pos a) k e = refl
@@ -53,10 +54,10 @@ offset_size unit p o =
     ⊎_elim (λ o. omega arith) (λ o. omega arith) (one_zero z)
 
 -- ---- what is located is found
-pub row_found : (a : Axis) (lat : ℤ) (x : ℕ) (s : Spot) → lat -ℤ (pos 10 *ℤ a.first) ≡ along a.step x → Located false x (10 * nat_abs a.step) (nodes a) s → RowFound a lat s
+pub row_found : (a : Axis) (lat : ℤ) (x : ℕ) (s : Option Spot) → lat -ℤ (pos 10 *ℤ a.first) ≡ along a.step x → Located false x (10 * nat_abs a.step) (nodes a) s → RowFound a lat s
 unfolding after
-row_found a lat x (S.At i j f) e g = record { far = x; from_first = e; sits = rw g.1 at g.0 }
-row_found a lat x S.Outside e g = λ i f r. g i f (rw (along_once _ a.step x r.far e r.from_first) r.sits)
+row_found a lat x (Some s) e g = record { far = x; from_first = e; sits = rw g.1 at g.0 }
+row_found a lat x None e g = λ i f r. g i f (rw (along_once _ a.step x r.far e r.from_first) r.sits)
 
 -- ---- no second answer fits
 module _ (step n x i k f j l g : ℕ) (a : Sits step n x i k f) (b : Sits step n x j l g) where
@@ -91,29 +92,14 @@ turned_once turn x r s a b =
 pub turned_by : (turn : ℕ) (x : ℤ) (r : ℕ) (k : ℤ) → r < turn → up x + turn * dn k ≡ dn x + (r + turn * up k) → Turned turn x r
 turned_by turn x r k h e = record { below = h; turns = k; whole = eq_parts x (pos r +ℤ (pos turn *ℤ k)) (omega (arith, add_parts (pos r) (pos turn *ℤ k), scale_up turn k, scale_dn turn k)) }
 
--- ---- by quotient and remainder
-module _ (x : ℤ) (m : ℕ) (h : 0 < m) where
-  pub back_whole : lt_z x (pos 0) ≡ true → nat_abs x % m ≡ 0 → Turned m x 0
-  back_whole n z =
-      let q = nat_abs x / m in
-      let a = ap (λ (k : ℕ). m * k) (neg_up (pos q)) in
-      let b = ap (λ (k : ℕ). m * k) (neg_dn (pos q)) in
-      turned_by m x 0 (neg_ℤ (pos q)) h (omega (arith, below_zero x n, div-add-mod (nat_abs x) m))
-
-  pub back_part : lt_z x (pos 0) ≡ true → (nat_abs x % m ≡ 0 → ⊥) → Turned m x (m - nat_abs x % m)
-  back_part n z = turned_by m x _ (negsuc (nat_abs x / m)) (omega (arith, mod-lt (nat_abs x) h)) (omega (arith, below_zero x n, div-add-mod (nat_abs x) m, mod-lt (nat_abs x) h))
-
-  pub ahead : lt_z x (pos 0) ≡ false → Turned m x (nat_abs x % m)
-  ahead n = turned_by m x _ (pos (nat_abs x / m)) (mod-lt (nat_abs x) h) (omega (arith, not_below_zero x n, div-add-mod (nat_abs x) m))
+-- the remainder that is not below 0
+pub euclid : (turn : ℕ) (x : ℤ) → 0 < turn → Turned turn x (nat_abs (int_rem_euclid x (pos turn)))
+euclid turn (pos a) h = turned_by turn (pos a) _ (pos (a / turn)) (mod-lt a h) (omega (arith, div-add-mod a turn))
+euclid turn (negsuc a) h = turned_by turn (negsuc a) _ (negsuc (a / turn)) (omega (arith, mod-lt a h)) (omega (arith, div-add-mod a turn, mod-lt a h))
 
 -- every number can be brought there
 pub turned_some : (x : ℤ) (m : ℕ) → 0 < m → (r : ℕ) × Turned m x r
-turned_some x m h = by (lt_z x (pos 0)) refl (ℕ_discrete (nat_abs x % m) 0)
-  where
-    by : (b : Bool) → lt_z x (pos 0) ≡ b → Dec (nat_abs x % m ≡ 0) → (r : ℕ) × Turned m x r
-    by false e d = (nat_abs x % m, ahead x m h e)
-    by true e (yes z) = (0, back_whole x m h e z)
-    by true e (no z) = (m - nat_abs x % m, back_part x m h e z)
+turned_some x m h = (nat_abs (int_rem_euclid x (pos m)), euclid m x h)
 
 -- ---- the column to the right
 right_once : (a : Axis) (i : ℕ) {r s : ℕ} → RightOf a i r → RightOf a i s → r ≡ s
@@ -131,9 +117,9 @@ is_right a i = by (strip? a) (ℕ_discrete (i + 1) (nodes a))
     by (yes p) (no n) = rw (pick_no (ℕ_discrete (i + 1) (nodes a)) 0 (i + 1) n) (next (λ h. n h.1))
     by (no n) e = next (λ h. n h.0)
 
-pub column_found : (unit : ℕ) (a : Axis) (lon : ℤ) (x : ℕ) (s : Spot) → Turned (unit * 3600) (lon -ℤ (pos unit *ℤ a.first)) x → Located (truth (strip? a)) x (unit * nat_abs a.step) (nodes a) s → ColumnFound unit a lon s
-column_found unit a lon x (S.At i r f) e g = record { east = x; from_first = e; right = rw g.1 (is_right a i); sits = g.0 }
-column_found unit a lon x S.Outside e g =
+pub column_found : (unit : ℕ) (a : Axis) (lon : ℤ) (x : ℕ) (s : Option Spot) → Turned (unit * 3600) (lon -ℤ (pos unit *ℤ a.first)) x → Located (truth (strip? a)) x (unit * nat_abs a.step) (nodes a) s → ColumnFound unit a lon s
+column_found unit a lon x (Some s) e g = record { east = x; from_first = e; right = rw g.1 (is_right a s.node); sits = g.0 }
+column_found unit a lon x None e g =
     λ i r f c.
     let t = turned_once (unit * 3600) _ x c.east e c.from_first in
     g i f (rw (t, right_once a i (is_right a i) c.right) c.sits)

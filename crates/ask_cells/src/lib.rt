@@ -22,24 +22,12 @@ pub struct Cell {
     pub wide: u64,
 }
 
-// How far something lies in a direction.
+// A node of an axis, the one after it, and how far past the first.
 #[derive(Clone, Copy)]
-enum Way {
-    Ahead(u64),
-    Behind,
-}
-
-// A node of an axis, the one after it, and how far past it.
-#[derive(Clone, Copy)]
-enum Spot {
-    At(u64, u64, u64),
-    Outside,
-}
-
-#[derive(Clone, Copy)]
-pub enum Whereabouts {
-    In(Cell),
-    Outside,
+struct Spot {
+    node: u64,
+    next: u64,
+    past: u64,
 }
 
 // p less o tenths of a degree, each of so many units.
@@ -50,27 +38,17 @@ fn offset(p: i64, o: i32, unit: u64) -> i64
     p - (unit as i64) * (o as i64)
 }
 
-// x in the direction of d.
-fn toward(x: i64, d: i64) -> Way
-    requires { nat_abs x < 2 ^ 63 }
+// How far x lies in the direction of d, if not behind.
+fn toward(x: i64, d: i64) -> Option<u64>
     ensures { IsWay x d result }
 {
-    let m = kit::magnitude(x);
-    if m == 0 {
-        return Way::Ahead(0);
+    if x == 0 {
+        return Some(0);
     }
-    if kit::negative(x) {
-        if kit::negative(d) {
-            Way::Ahead(m)
-        } else {
-            Way::Behind
-        }
+    if (x < 0) == (d < 0) {
+        Some(x.unsigned_abs())
     } else {
-        if kit::negative(d) {
-            Way::Behind
-        } else {
-            Way::Ahead(m)
-        }
+        None
     }
 }
 
@@ -89,29 +67,26 @@ fn next_of(i: u64, n: u64, around: bool) -> u64
 }
 
 // x along n nodes that stand step apart.
-fn locate(x: u64, step: u64, n: u64, around: bool) -> Spot
+fn locate(x: u64, step: u64, n: u64, around: bool) -> Option<Spot>
     requires { 0 < step }
     ensures { Located around x step n result }
 {
-    let i = x / step;
-    let part = x % step;
-    if i < n {
-        let next = next_of(i, n, around);
-        if part == 0 {
-            return Spot::At(i, next, part);
-        }
-        if next < n {
-            return Spot::At(i, next, part);
+    let node = x / step;
+    let past = x % step;
+    if node < n {
+        let next = next_of(node, n, around);
+        if past == 0 || next < n {
+            return Some(Spot { node, next, past });
         }
     }
-    Spot::Outside
+    None
 }
 
 // Whether x + d is a full turn past o, in tenths of a degree.
 fn is_turn(x: i32, d: i32, o: i32) -> bool
     ensures { result ≡ truth (int? (x +ℤ d) (o +ℤ pos 3600)) }
 {
-    kit::magnitude(((x as i64) + (d as i64)) - ((o as i64) + 3600)) == 0
+    (x as i64) + (d as i64) == (o as i64) + 3600
 }
 
 // Whether the column after the last is the first.
@@ -130,15 +105,10 @@ pub fn goes_round(a: Axis) -> bool
 
 // x brought by whole turns into 0 ≤ r < turn.
 fn turned(x: i64, turn: u64) -> u64
-    requires { (0 < turn) × (nat_abs x < 2 ^ 63) }
+    requires { (0 < turn) × (turn < 2 ^ 63) }
     ensures { Turned turn x result }
 {
-    let r = kit::magnitude(x) % turn;
-    if kit::negative(x) {
-        if r == 0 { 0 } else { turn - r }
-    } else {
-        r
-    }
+    x.rem_euclid(turn as i64) as u64
 }
 
 // How far two nodes of an axis of degrees are apart.
@@ -146,20 +116,18 @@ fn step_of(a: Axis, unit: u64) -> u64
     requires { unit ≤ 120 }
     ensures { result ≡ unit * nat_abs a.step }
 {
-    unit * kit::size(a.step)
+    unit * (a.step.unsigned_abs() as u64)
 }
 
-fn row_of(a: Axis, lat: i32) -> Spot
+fn row_of(a: Axis, lat: i32) -> Option<Spot>
     requires { 0 < nat_abs a.step }
     ensures { RowFound a lat result }
 {
-    match toward(offset(lat as i64, a.first, 10), a.step as i64) {
-        Way::Behind => Spot::Outside,
-        Way::Ahead(x) => locate(x, step_of(a, 10), axes::nodes(a), false),
-    }
+    let x = toward(offset(lat as i64, a.first, 10), a.step as i64)?;
+    locate(x, step_of(a, 10), axes::nodes(a), false)
 }
 
-fn column_of(a: Axis, lon: i64, unit: u64) -> Spot
+fn column_of(a: Axis, lon: i64, unit: u64) -> Option<Spot>
     requires { (0 < nat_abs a.step) × (nat_abs lon < 2 ^ 60) × (0 < unit) × (unit ≤ 120) }
     ensures { ColumnFound unit a lon result }
 {
@@ -171,24 +139,20 @@ fn column_of(a: Axis, lon: i64, unit: u64) -> Spot
     )
 }
 
-// The cell of a latitude in hundredths of a degree and a longitude in units, of which a tenth of a degree has `unit`.
-pub fn cell_of(g: Grid, lat: i32, lon: i64, unit: u64) -> Whereabouts
+// The cell of a latitude in hundredths of a degree and a longitude in units, of which a tenth of a degree has `unit`; none outside the grid.
+pub fn cell_of(g: Grid, lat: i32, lon: i64, unit: u64) -> Option<Cell>
     requires { (0 < nat_abs g.latitudes.step) × (0 < nat_abs g.longitudes.step) × (nat_abs lon < 2 ^ 60) × (0 < unit) × (unit ≤ 120) }
     ensures { CellFound unit g lat lon result }
 {
-    match row_of(g.latitudes, lat) {
-        Spot::Outside => Whereabouts::Outside,
-        Spot::At(row, _next, down) => match column_of(g.longitudes, lon, unit) {
-            Spot::Outside => Whereabouts::Outside,
-            Spot::At(column, right, across) => Whereabouts::In(Cell {
-                row: row,
-                down: down,
-                tall: step_of(g.latitudes, 10),
-                column: column,
-                right: right,
-                across: across,
-                wide: step_of(g.longitudes, unit),
-            }),
-        },
-    }
+    let row = row_of(g.latitudes, lat)?;
+    let column = column_of(g.longitudes, lon, unit)?;
+    Some(Cell {
+        row: row.node,
+        down: row.past,
+        tall: step_of(g.latitudes, 10),
+        column: column.node,
+        right: column.next,
+        across: column.past,
+        wide: step_of(g.longitudes, unit),
+    })
 }

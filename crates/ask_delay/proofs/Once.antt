@@ -10,13 +10,10 @@ use Rattle.ask.proofs.Once.{answers_once, number_once}
 use Rattle.ask.specs.declared.Why.{Why}
 use Rattle.ask.specs.declared.Why.TheVariants as W
 use Rattle.delay.specs.Delay as delay
-use Rattle.delay.specs.Delay.{ToldDelay, refused, milli, Delays}
+use Rattle.delay.specs.Delay.{ToldDelay, refused, milli, Delayed, Delays}
 use Rattle.delay.proofs.DelayLaws.{delays_once, told_once}
-use Rattle.delay.specs.declared.Delayed.{Delayed}
-use Rattle.delay.specs.declared.Delayed.TheVariants as D
-use Rattle.ask_delay.specs.AskDelay.{AskDelays, no_delay, refuses, serves, told}
-use Rattle.ask_delay.specs.declared.AskedDelay.{AskedDelay}
-use Rattle.ask_delay.specs.declared.AskedDelay.TheVariants as A
+use Rattle.std.specs.Prelude.{Some, None, Ok, Err}
+use Rattle.ask_delay.specs.AskDelay.{AskDelays, no_delay, refuses, serves, AskedDelay, told}
 
 module _ (q : Question) (f : Float) where
   pub ask_delays_once : (a b : ToldDelay) → AskDelays q f a → AskDelays q f b → a ≡ b
@@ -46,14 +43,14 @@ not_twenty_five W.OutOfPlace e = let z : ◌≡◌ {A = ℕ} 25 21 = cc in absur
 not_twenty_five W.NoValue e = let z : ◌≡◌ {A = ℕ} 25 22 = cc in absurd (omega arith)
 
 no_refusal : {X : Type 0} (d : Delayed) (w : Why) → delay.told d ≡ refused (number w) → X
-no_refusal (D.Given d) w e = clash (cc)
-no_refusal D.Refused w e = not_twenty_five w e
+no_refusal (Some d) w e = clash (cc)
+no_refusal None w e = not_twenty_five w e
 
 asked_once : (r s : AskedDelay) → told r ≡ told s → r ≡ s
-asked_once (A.Answered d) (A.Answered e) p = ap A.Answered (told_once d e p)
-asked_once (A.Answered d) (A.Refused w) p = no_refusal d w p
-asked_once (A.Refused w) (A.Answered d) p = no_refusal d w (let q : delay.told d ≡ refused (number w) = cc in q)
-asked_once (A.Refused v) (A.Refused w) p = let z : number v ≡ number w = cc in ap A.Refused (number_once v w z)
+asked_once (Ok d) (Ok e) p = ap Ok (told_once d e p)
+asked_once (Ok d) (Err w) p = no_refusal d w p
+asked_once (Err w) (Ok d) p = no_refusal d w (let q : delay.told d ≡ refused (number w) = cc in q)
+asked_once (Err v) (Err w) p = let z : number v ≡ number w = cc in ap Err (number_once v w z)
 
 pub ask_delay_once : (q : Question) (f : Float) (r s : AskedDelay) → AskDelays q f (told r) → AskDelays q f (told s) → r ≡ s
 ask_delay_once q f r s a b = asked_once r s (ask_delays_once q f (told r) (told s) a b)

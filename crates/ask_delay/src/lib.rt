@@ -6,24 +6,17 @@ ghost use Rattle.mapset.specs.Areas.{six};
 ghost use Rattle.ask.specs.Ask.{question, told as told_asked};
 ghost use Rattle.ask_delay.specs.AskDelay.{AskDelays, Turned, told};
 
-use ask::{Asked, Why};
-use delay::Delayed;
+use ask::{Value, Why};
+use delay::Delay;
 use mapset::{Header, Texts};
 
-// The delay of an answer; or why there is none.
-#[derive(Clone, Copy)]
-pub enum AskedDelay {
-    Answered(Delayed),
-    Refused(Why),
-}
-
-fn turned(asked: Asked, carrier: f64) -> AskedDelay
+// The delay of an answer, none at a carrier that is refused; or why there is no answer.
+fn turned(asked: Result<Value, Why>, carrier: f64) -> Result<Option<Delay>, Why>
     ensures { Turned carrier (told_asked asked) (told result) }
 {
-    match asked {
-        Asked::Tecu(x) => AskedDelay::Answered(delay::delay_of(x, carrier)),
-        Asked::Km(_) => AskedDelay::Refused(Why::Unknown),
-        Asked::Refused(why) => AskedDelay::Refused(why),
+    match asked? {
+        Value::Tecu(x) => Ok(delay::delay_of(x, carrier)),
+        Value::Km(_) => Err(Why::Unknown),
     }
 }
 
@@ -45,13 +38,13 @@ pub fn ask_delay(
     lon: i32,
     second: u64,
     carrier: f64,
-) -> AskedDelay
+) -> Result<Option<Delay>, Why>
     ensures { AskDelays (question header (full texts descriptions.now)
         (six tec.now rms.now height.now exponents.now epochs.now marks.now)
         kind method layer lat lon second) carrier (told result) }
 {
     if kind == 2 {
-        return AskedDelay::Refused(Why::Unknown);
+        return Err(Why::Unknown);
     }
     let asked = ask::ask(
         header,

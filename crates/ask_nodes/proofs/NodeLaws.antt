@@ -3,7 +3,7 @@ use mathlib.Core.Path.{◌≡◌, refl, sym, ap, ◌∙◌}
 use mathlib.Core.Logic.{⊎_elim}
 use mathlib.Core.List.{List}
 use mathlib.Core.Option.{Option, none, some}
-use Prim.Native.Nat.{ℕ, zero, suc, ◌*◌, ◌^◌, ◌≤◌, ◌<◌}
+use Prim.Native.Nat.{ℕ, zero, suc, ◌^◌, ◌≤◌, ◌<◌}
 use native.Mathlib.Nat.{mul-le-mul}
 use native.Mathlib.Omega.{arith}
 use lib.IntN.{ℤ, pos, negsuc, nat_abs, ◌+ℤ◌, ◌*ℤ◌}
@@ -19,56 +19,61 @@ use Rattle.ask_nodes.specs.Nodes.{power_of, plain, Small}
 use Rattle.ask_nodes.specs.Units.{in_node, bare}
 use Rattle.ask_nodes.specs.declared.Shape.{Shape}
 use Rattle.ask_nodes.specs.declared.Weighed.{Weighed}
-use Rattle.ask_nodes.specs.declared.Node.TheVariants as N
+use Rattle.ask_nodes.specs.declared.Value.TheVariants as V
+use Rattle.std.specs.Prelude.{Option as Maybe, Some, None}
 
 -- ---- powers of ten
-power_small : (k : ℤ) → power_of k ≤ 1000
-power_small (pos zero) = omega arith
-power_small (pos (suc k)) = omega arith
-power_small (negsuc zero) = omega arith
-power_small (negsuc (suc zero)) = omega arith
-power_small (negsuc (suc (suc zero))) = omega arith
-power_small (negsuc (suc (suc (suc k)))) = omega arith
+some_is : {x y : ℤ} → Some x ≡ Some y → x ≡ y
+some_is {x} {y} e = ap value_or_zero e
+  where
+    value_or_zero : Maybe ℤ → ℤ
+    value_or_zero (Some z) = z
+    value_or_zero None = pos 0
 
--- no other exponent has a power
-pub power_none : (k : ℤ) → ¬ (k ≡ negsuc 2) → ¬ (k ≡ negsuc 1) → ¬ (k ≡ negsuc 0) → ¬ (k ≡ pos 0) → power_of k ≡ 0
-power_none (pos zero) a b c d = absurd (d refl)
-power_none (pos (suc k)) a b c d = refl
-power_none (negsuc zero) a b c d = absurd (c refl)
-power_none (negsuc (suc zero)) a b c d = absurd (b refl)
-power_none (negsuc (suc (suc zero))) a b c d = absurd (a refl)
-power_none (negsuc (suc (suc (suc k)))) a b c d = refl
-
-no_power : (k : ℤ) → power_of k ≡ 0 → ¬ Between (negsuc 2) (pos 0) k
-no_power (pos zero) e b = omega arith
+no_power : (k : ℤ) → power_of k ≡ None → ¬ Between (negsuc 2) (pos 0) k
+no_power (pos zero) e b = let z : ◌≡◌ {A = ℕ} 0 1 = cc in omega arith
 no_power (pos (suc k)) e b = omega (arith, parts_le (pos (suc k)) (pos 0) b.to)
-no_power (negsuc zero) e b = omega arith
-no_power (negsuc (suc zero)) e b = omega arith
-no_power (negsuc (suc (suc zero))) e b = omega arith
+no_power (negsuc zero) e b = let z : ◌≡◌ {A = ℕ} 0 1 = cc in omega arith
+no_power (negsuc (suc zero)) e b = let z : ◌≡◌ {A = ℕ} 0 1 = cc in omega arith
+no_power (negsuc (suc (suc zero))) e b = let z : ◌≡◌ {A = ℕ} 0 1 = cc in omega arith
 no_power (negsuc (suc (suc (suc k)))) e b = omega (arith, parts_le (negsuc 2) (negsuc (suc (suc (suc k)))) b.from)
 
 -- the exponents that have one, and which
-powers : (k : ℤ) → ¬ (power_of k ≡ 0) → Between (negsuc 2) (pos 0) k × (power_of k ≡ 10 ^ nat_abs (k +ℤ pos 3))
-powers (pos zero) n = (record { from = le_parts (negsuc 2) (pos 0) (omega arith); to = le_parts (pos 0) (pos 0) (omega arith) }, refl)
-powers (pos (suc k)) n = absurd (n refl)
-powers (negsuc zero) n = (record { from = le_parts (negsuc 2) (negsuc 0) (omega arith); to = le_parts (negsuc 0) (pos 0) (omega arith) }, refl)
-powers (negsuc (suc zero)) n = (record { from = le_parts (negsuc 2) (negsuc 1) (omega arith); to = le_parts (negsuc 1) (pos 0) (omega arith) }, refl)
-powers (negsuc (suc (suc zero))) n = (record { from = le_parts (negsuc 2) (negsuc 2) (omega arith); to = le_parts (negsuc 2) (pos 0) (omega arith) }, refl)
-powers (negsuc (suc (suc (suc k)))) n = absurd (n refl)
+record Powered (k p : ℤ) : Type 0 where
+  exponent : Between (negsuc 2) (pos 0) k
+  small : nat_abs p ≤ 1000
+  power : p ≡ pos (10 ^ nat_abs (k +ℤ pos 3))
+
+powered : (k p : ℤ) → power_of k ≡ Some p → Powered k p
+powered (pos zero) p e = record { exponent = record { from = le_parts (negsuc 2) (pos 0) (omega arith); to = le_parts (pos 0) (pos 0) (omega arith) }; small = rw (← some_is e) (omega arith); power = sym (some_is e) }
+powered (pos (suc k)) p e = let z : ◌≡◌ {A = ℕ} 0 1 = cc in absurd (omega arith)
+powered (negsuc zero) p e = record { exponent = record { from = le_parts (negsuc 2) (negsuc 0) (omega arith); to = le_parts (negsuc 0) (pos 0) (omega arith) }; small = rw (← some_is e) (omega arith); power = sym (some_is e) }
+powered (negsuc (suc zero)) p e = record { exponent = record { from = le_parts (negsuc 2) (negsuc 1) (omega arith); to = le_parts (negsuc 1) (pos 0) (omega arith) }; small = rw (← some_is e) (omega arith); power = sym (some_is e) }
+powered (negsuc (suc (suc zero))) p e = record { exponent = record { from = le_parts (negsuc 2) (negsuc 2) (omega arith); to = le_parts (negsuc 2) (pos 0) (omega arith) }; small = rw (← some_is e) (omega arith); power = sym (some_is e) }
+powered (negsuc (suc (suc (suc k)))) p e = let z : ◌≡◌ {A = ℕ} 0 1 = cc in absurd (omega arith)
+
+-- each of them has one
+has_power : (k : ℤ) → Between (negsuc 2) (pos 0) k → (p : ℤ) × (power_of k ≡ Some p)
+has_power (pos zero) b = (pos 1000, refl)
+has_power (pos (suc k)) b = absurd (no_power (pos (suc k)) refl b)
+has_power (negsuc zero) b = (pos 100, refl)
+has_power (negsuc (suc zero)) b = (pos 10, refl)
+has_power (negsuc (suc (suc zero))) b = (pos 1, refl)
+has_power (negsuc (suc (suc (suc k)))) b = absurd (no_power (negsuc (suc (suc (suc k)))) refl b)
 
 -- ---- a number under an exponent
 pub plain_none : (v k : ℤ) → ¬ IsValue v k → none ≡ plain v k
 unfolding plain
 plain_none v k n = sym (pick_no (is_value? v k) _ _ n)
 
-pub plain_no_power : (v k : ℤ) → power_of k ≡ 0 → none ≡ plain v k
+pub plain_no_power : (v k : ℤ) → power_of k ≡ None → none ≡ plain v k
 plain_no_power v k e = plain_none v k (λ i. no_power k e i.exponent)
 
-pub plain_some : (v k : ℤ) → Between (negsuc 9998) (pos 99999) v → ¬ (v ≡ pos 9999) → ¬ (power_of k ≡ 0) → some (pos (power_of k) *ℤ v) ≡ plain v k
+pub plain_some : (v k p : ℤ) → Between (negsuc 9998) (pos 99999) v → ¬ (v ≡ pos 9999) → power_of k ≡ Some p → some (p *ℤ v) ≡ plain v k
 unfolding plain
-plain_some v k b g n =
-    let p = powers k n in
-    ap (λ (w : ℕ). some (pos w *ℤ v)) p.1 ∙ sym (pick_yes (is_value? v k) _ _ (record { number = b; given = g; exponent = p.0 }))
+plain_some v k p b g e =
+    let q = powered k p e in
+    ap (λ (w : ℤ). some (w *ℤ v)) q.power ∙ sym (pick_yes (is_value? v k) _ _ (record { number = b; given = g; exponent = q.exponent }))
 
 number_size : (v : ℤ) → Between (negsuc 9998) (pos 99999) v → nat_abs v ≤ 99999
 number_size v b =
@@ -76,8 +81,10 @@ number_size v b =
     let h = parts_le v (pos 99999) b.to in
     ⊎_elim (λ o. omega (arith, abs_parts v)) (λ o. omega (arith, abs_parts v)) (one_zero v)
 
-pub power_size : (v k : ℤ) → Between (negsuc 9998) (pos 99999) v → nat_abs (pos (power_of k) *ℤ v) ≤ 99_999_000
-power_size v k b = omega (arith, abs_scale (power_of k) v, mul-le-mul (power_small k) (number_size v b))
+pub power_size : (v k p : ℤ) → Between (negsuc 9998) (pos 99999) v → power_of k ≡ Some p → nat_abs (p *ℤ v) ≤ 99_999_000
+power_size v k p b e =
+    let q = powered k p e in
+    rw q.power (omega (arith, abs_scale (10 ^ nat_abs (k +ℤ pos 3)) v, mul-le-mul (rw q.power at q.small) (number_size v b)))
 
 -- ---- a node of a map with a mark
 pub worth_absent : (kind : Kind) (mark : ℕ) (v k : ℤ) → ¬ Present kind mark → none ≡ worth kind mark v k
@@ -93,8 +100,8 @@ worth_present kind mark v k p =
 
 small_thousandths : (v k : ℤ) → IsValue v k → nat_abs (thousandths v k) ≤ 99_999_000
 small_thousandths v k i =
-    let n : ¬ (power_of k ≡ 0) = λ e. no_power k e i.exponent in
-    rw (← (powers k n).1) (power_size v k i.number)
+    let h = has_power k i.exponent in
+    rw (← (powered k h.0 h.1).power) (power_size v k h.0 i.number h.1)
 
 pub small_plain : (v k : ℤ) → Small (plain v k)
 unfolding plain
@@ -114,12 +121,12 @@ other_kind zero m n = absurd (m refl)
 other_kind (suc zero) m n = absurd (n refl)
 other_kind (suc (suc k)) m n = refl
 
-pub tecu_node : (kind : ℕ) (v : ℤ) → kind < 2 → N.Tecu (record { 0 = v }) ≡ in_node (kind_of kind) (some v)
+pub tecu_node : (kind : ℕ) (v : ℤ) → kind < 2 → Some (V.Tecu (record { 0 = v })) ≡ in_node (kind_of kind) (some v)
 tecu_node zero v h = refl
 tecu_node (suc zero) v h = refl
 tecu_node (suc (suc k)) v h = absurd (omega arith)
 
-pub km_node : (kind : ℕ) (v : ℤ) → 2 ≤ kind → N.Km (record { 0 = v }) ≡ in_node (kind_of kind) (some v)
+pub km_node : (kind : ℕ) (v : ℤ) → 2 ≤ kind → Some (V.Km (record { 0 = v })) ≡ in_node (kind_of kind) (some v)
 km_node zero v h = absurd (omega arith)
 km_node (suc zero) v h = absurd (omega arith)
 km_node (suc (suc k)) v h = refl

@@ -1,5 +1,5 @@
 -- What the parts of a node's value answer, and where they look.
-use Rattle.std.specs.Prelude.{List, ℕ, zero, suc, ◌*◌, ◌≤◌, ◌<◌, ℤ, pos, negsuc, nat_abs, length, get_or}
+use Rattle.std.specs.Prelude.{List, ℕ, zero, suc, ◌*◌, ◌≤◌, ◌<◌, ℤ, pos, negsuc, nat_abs, length, get_or, Option as Maybe, Some, None}
 use Rattle.std.proofs.Math.Option.{Option, none, some}
 use Rattle.kit.specs.Answer.{pick}
 use Rattle.mapset.specs.Areas.{Present}
@@ -7,14 +7,14 @@ use Rattle.ask_nodes.specs.Value.{thousandths, is_value?, kind_of, block, number
 use Rattle.ask_nodes.specs.declared.Weighed.{Weighed}
 use Rattle.ask_nodes.specs.declared.Shape.{Shape}
 
--- 10 ^ (k + 3) for k from -3 to 0, and 0 for every other k
-abbrev pub power_of : ℤ → ℕ
-power_of (pos zero) = 1000
-power_of (pos (suc k)) = 0
-power_of (negsuc zero) = 100
-power_of (negsuc (suc zero)) = 10
-power_of (negsuc (suc (suc zero))) = 1
-power_of (negsuc (suc (suc (suc k)))) = 0
+-- 10 ^ (k + 3) for k from -3 to 0
+abbrev pub power_of : ℤ → Maybe ℤ
+power_of (pos zero) = Some (pos 1000)
+power_of (pos (suc k)) = None
+power_of (negsuc zero) = Some (pos 100)
+power_of (negsuc (suc zero)) = Some (pos 10)
+power_of (negsuc (suc (suc zero))) = Some (pos 1)
+power_of (negsuc (suc (suc (suc k)))) = None
 
 -- a number under an exponent, of a map that is there
 unfoldable pub plain : ℤ → ℤ → Option ℤ

@@ -38,60 +38,53 @@ pub struct Shape {
     pub columns: u64,
 }
 
-// A node's value in its unit, or that it has none.
+// A node's value in the unit of its kind.
 #[derive(Clone, Copy)]
-pub enum Node {
+pub enum Value {
     Tecu(MilliTecu),
     Km(MilliKm),
-    Nothing,
 }
 
-// 10 to the power k + 3, or 0 where k is not from -3 to 0.
-fn power(k: i32) -> i32
-    ensures { result ≡ pos (power_of k) }
+// 10 to the power k + 3, for k from -3 to 0.
+fn power(k: i32) -> Option<i32>
+    ensures { result ≡ power_of k }
 {
     match k {
-        -3 => 1,
-        -2 => 10,
-        -1 => 100,
-        0 => 1000,
-        _ => 0,
+        -3 => Some(1),
+        -2 => Some(10),
+        -1 => Some(100),
+        0 => Some(1000),
+        _ => None,
     }
 }
 
-pub fn node_of(kind: u64, v: i32, k: i32) -> Node
+// A number under an exponent, in a map that is there; or that it is no value.
+pub fn node_of(kind: u64, v: i32, k: i32) -> Option<Value>
     ensures { result ≡ in_node (kind_of kind) (plain v k) }
 {
-    let p = power(k);
-    if p == 0 {
-        return Node::Nothing;
-    }
-    if v < -9999 {
-        return Node::Nothing;
-    }
-    if 99999 < v {
-        return Node::Nothing;
+    let p = power(k)?;
+    if v < -9999 || 99999 < v {
+        return None;
     }
     if v == 9999 {
-        return Node::Nothing;
+        return None;
     }
     if kind < 2 {
-        return Node::Tecu(MilliTecu(p * v));
+        Some(Value::Tecu(MilliTecu(p * v)))
+    } else {
+        Some(Value::Km(MilliKm(p * v)))
     }
-    Node::Km(MilliKm(p * v))
 }
 
 // The kind of a number: 0 TEC, 1 RMS, 2 height.
 pub fn kind_of(kind: u64) -> Kind
     ensures { result ≡ kind_of kind }
 {
-    if kind == 0 {
-        return Kind::Tec;
+    match kind {
+        0 => Kind::Tec,
+        1 => Kind::Rms,
+        _ => Kind::Height,
     }
-    if kind == 1 {
-        return Kind::Rms;
-    }
-    Kind::Height
 }
 
 // Whether a map's mark says that the kind's map is there.
@@ -118,13 +111,20 @@ pub fn first_exponent(s: Shape) -> u64
     mapset::blocks_before(kind_of(s.kind), blocks) as u64
 }
 
-pub fn node_at(n: Weighed, s: Shape, values: &[i32], exponents: &[i32], marks: &[u8]) -> Node
+// A node's value, or that it has none.
+pub fn node_at(
+    n: Weighed,
+    s: Shape,
+    values: &[i32],
+    exponents: &[i32],
+    marks: &[u8],
+) -> Option<Value>
     requires { Reached values.now exponents.now marks.now s n }
     ensures { result ≡ in_node (kind_of s.kind) (value s values.now exponents.now marks.now n) }
 {
     let map = n.map as usize;
     if !is_present(s.kind, marks[map]) {
-        return Node::Nothing;
+        return None;
     }
     let block = block_of(n, s);
     let number = (block * s.columns + n.column) as usize;

@@ -21,8 +21,8 @@ pub fn round_half_away(s: i64, d: u64) -> i64
     requires { (0 < d) × (d ≤ 100_000_000_000) × (nat_abs s ≤ 6_480_000_000_000_000_000) }
     ensures { result ≡ rounded s d }
 {
-    let m = round_abs(kit::magnitude(s), d);
-    kit::with_sign(kit::negative(s), m)
+    let m = round_abs(s.unsigned_abs(), d);
+    kit::with_sign(s < 0, m)
 }
 
 // t + w * v.

@@ -1,9 +1,9 @@
 // Which maps a second falls between.
 #![tactic(auto)]
 
-ghost use Rattle.std.specs.Prelude.{◌+◌, ◌≤◌, ◌<◌, length};
+ghost use Rattle.std.specs.Prelude.{◌≡◌, ◌≤◌, ◌<◌, length};
 ghost use Rattle.kit.specs.Truth.{Says};
-ghost use Rattle.ask_spans.specs.Time.{epoch, Uses, Close};
+ghost use Rattle.ask_spans.specs.Time.{epoch, alone, Uses, Close};
 ghost use Rattle.ask_spans.specs.Spans.{Regular, Before, Spanned};
 
 // The shares of a map and of the next one.
@@ -33,12 +33,8 @@ fn guess(epochs: &[u64], second: u64, gap: u64) -> usize
     if gap == 0 {
         return 0;
     }
-    let i = (second - epochs[0]) / gap;
     let last = epochs.len() - 1;
-    if (last as u64) < i {
-        return last;
-    }
-    i as usize
+    ((second - epochs[0]) / gap).min(last as u64) as usize
 }
 
 // Whether a map is the last whose epoch is not after the second.
@@ -60,25 +56,15 @@ fn is_before(epochs: &[u64], second: u64, i: usize) -> bool
 
 // The last map whose epoch is not after the second, by halves.
 fn halved(epochs: &[u64], second: u64) -> usize
-    requires { (1 ≤ length epochs.now) × (epoch epochs.now 0 ≤ second) }
+    requires { Regular epochs.now × (1 ≤ length epochs.now) × (epoch epochs.now 0 ≤ second) }
     ensures { Before epochs.now second result }
 {
-    let mut low: usize = 0;
-    let mut high = epochs.len();
-    while 1 < high - low {
-        let middle = low + (high - low) / 2;
-        if second < epochs[middle] {
-            high = middle;
-        } else {
-            low = middle;
-        }
-    }
-    low
+    epochs.partition_point(|e| *e <= second) - 1
 }
 
 // The last map whose epoch is not after the second: the map guessed by the gap, which is any number; where that is another, by halves.
 fn map_before(epochs: &[u64], second: u64, gap: u64) -> usize
-    requires { (1 ≤ length epochs.now) × (epoch epochs.now 0 ≤ second) }
+    requires { Regular epochs.now × (1 ≤ length epochs.now) × (epoch epochs.now 0 ≤ second) }
     ensures { Before epochs.now second result }
 {
     let i = guess(epochs, second, gap);
@@ -90,17 +76,22 @@ fn map_before(epochs: &[u64], second: u64, gap: u64) -> usize
 
 // Whether no two neighbouring epochs are more than limit seconds apart.
 pub fn is_close(epochs: &[u64], limit: u64) -> bool
-    requires { Regular epochs.now }
     ensures { Says result (Close limit epochs.now) }
 {
-    let mut i: usize = 0;
-    while i + 1 < epochs.len() {
-        if limit < epochs[i + 1] - epochs[i] {
-            return false;
-        }
-        i += 1;
+    epochs
+        .windows(2)
+        .all(|w| w[1].saturating_sub(w[0]) <= limit)
+}
+
+// One map alone.
+fn alone(i: usize) -> Shares
+    ensures { result ≡ alone i }
+{
+    Shares {
+        map: i as u64,
+        early: 1,
+        late: 0,
     }
-    true
 }
 
 // The shares of a second's maps, which are searched by the gap.
@@ -110,11 +101,7 @@ pub fn shares_of(epochs: &[u64], second: u64, method: u64, gap: u64) -> Shares
 {
     let i = map_before(epochs, second, gap);
     if epochs.len() - 1 <= i {
-        return Shares {
-            map: i as u64,
-            early: 1,
-            late: 0,
-        };
+        return alone(i);
     }
     let late = second - epochs[i];
     let early = epochs[i + 1] - second;
@@ -126,15 +113,7 @@ pub fn shares_of(epochs: &[u64], second: u64, method: u64, gap: u64) -> Shares
         };
     }
     if early < late {
-        return Shares {
-            map: (i + 1) as u64,
-            early: 1,
-            late: 0,
-        };
+        return alone(i + 1);
     }
-    Shares {
-        map: i as u64,
-        early: 1,
-        late: 0,
-    }
+    alone(i)
 }

@@ -25,29 +25,21 @@ use Rattle.ask_cells.specs.declared.Cell.{Cell}
 use Rattle.ask_spans.specs.declared.Shares.{Shares}
 use Rattle.ask_nodes.specs.declared.Shape.{Shape}
 use Rattle.ask_nodes.specs.declared.Weighed.{Weighed}
-use Rattle.ask_nodes.specs.declared.Node.{Node}
-use Rattle.ask_nodes.specs.declared.Node.TheVariants as N
+use Rattle.std.specs.Prelude.{Option as Maybe, Some, None}
+use Rattle.ask_nodes.specs.declared.Value.{Value}
+use Rattle.ask_nodes.specs.declared.Value.TheVariants as V
 use Rattle.ask_sums.specs.declared.Sum.{Sum}
 use Rattle.ask_sums.specs.declared.Sum.TheVariants as S
 
 -- ---- the unit taken off
-pub small_node : {n : Node} (k : Kind) (o : Option ℤ) → n ≡ in_node k o → Small o → Small (bare n)
+pub small_node : {n : Maybe Value} (k : Kind) (o : Option ℤ) → n ≡ in_node k o → Small o → Small (bare n)
 small_node k o e h = rw (ap bare e ∙ bare_node k o) h
 
--- ---- one node more
-pub add_weightless : (k : Kind) (s : Sum) (w : ℕ) (o : Option ℤ) → w ≡ 0 → s ≡ add_value k s w o
-add_weightless k s zero o e = refl
-add_weightless k s (suc w) o e = absurd (omega arith)
-
-pub add_needed : (k : Kind) (s : Sum) (w : ℕ) (o : Option ℤ) → 0 < w → add_node s w (in_node k o) ≡ add_value k s w o
-add_needed k s zero o h = absurd (omega arith)
-add_needed k s (suc w) o h = refl
-
-add_lacks : (k : Kind) (w : ℕ) (o : Option ℤ) → add_value k S.Lacks w o ≡ S.Lacks
+add_lacks : (k : Kind) (w : ℕ) (o : Option ℤ) → add_value k None w o ≡ None
 add_lacks k zero o = refl
 add_lacks k (suc w) o = refl
 
-add_none : (k : Kind) (t : ℤ) (u w : ℕ) → add_value k (in_sum k t u) (suc w) none ≡ S.Lacks
+add_none : (k : Kind) (t : ℤ) (u w : ℕ) → add_value k (in_sum k t u) (suc w) none ≡ None
 add_none tec t u w = refl
 add_none rms t u w = refl
 add_none height t u w = refl
@@ -62,26 +54,26 @@ add_some height t u w v = refl
 fits_add : (t : ℤ) (u w : ℕ) (v : ℤ) (k : ℕ) → Fits t u (w + k) → nat_abs v ≤ 99_999_000 → Fits (t +ℤ pos w *ℤ v) (u + w) k
 fits_add t u w v k h r = (omega (arith, abs_add_scaled t w v, mul-le-mul (le_refl w) r), omega arith)
 
-room_node : (s : Sum) (w : ℕ) (n : Node) (k : ℕ) → SumRoom s (w + k) → Small (bare n) → SumRoom (add_node s w n) k
-room_node S.Lacks w n k h r = omega arith
-room_node (S.Tecu t u) w N.Nothing k h r = omega arith
-room_node (S.Tecu t u) w (N.Tecu v) k h r = fits_add t u w v.0 k h r
-room_node (S.Tecu t u) w (N.Km v) k h r = omega arith
-room_node (S.Km t u) w N.Nothing k h r = omega arith
-room_node (S.Km t u) w (N.Tecu v) k h r = omega arith
-room_node (S.Km t u) w (N.Km v) k h r = fits_add t u w v.0 k h r
+room_node : (s : Maybe Sum) (w : ℕ) (n : Maybe Value) (k : ℕ) → SumRoom s (w + k) → Small (bare n) → SumRoom (add_node s w n) k
+room_node None w n k h r = omega arith
+room_node (Some (S.Tecu t)) w None k h r = omega arith
+room_node (Some (S.Tecu t)) w (Some (V.Tecu v)) k h r = fits_add t.sum t.weights w v.0 k h r
+room_node (Some (S.Tecu t)) w (Some (V.Km v)) k h r = omega arith
+room_node (Some (S.Km t)) w None k h r = omega arith
+room_node (Some (S.Km t)) w (Some (V.Tecu v)) k h r = omega arith
+room_node (Some (S.Km t)) w (Some (V.Km v)) k h r = fits_add t.sum t.weights w v.0 k h r
 
-room_add : (kind : Kind) (s : Sum) (w : ℕ) (o : Option ℤ) (k : ℕ) → SumRoom s (w + k) → Small o → SumRoom (add_value kind s w o) k
+room_add : (kind : Kind) (s : Maybe Sum) (w : ℕ) (o : Option ℤ) (k : ℕ) → SumRoom s (w + k) → Small o → SumRoom (add_value kind s w o) k
 room_add kind s zero o k h r = rw (zero-add k) at h
 room_add kind s (suc w) o k h r = room_node s (suc w) (in_node kind o) k h (rw (bare_node kind o) r)
 
-room_less : (s : Sum) (w k : ℕ) → SumRoom s (w + k) → SumRoom s w
-room_less S.Lacks w k h = omega arith
-room_less (S.Tecu t u) w k h = omega arith
-room_less (S.Km t u) w k h = omega arith
+room_less : (s : Maybe Sum) (w k : ℕ) → SumRoom s (w + k) → SumRoom s w
+room_less None w k h = omega arith
+room_less (Some (S.Tecu t)) w k h = omega arith
+room_less (Some (S.Km t)) w k h = omega arith
 
 -- ---- the whole list
-all_lacks : (k : Kind) (ts : List Term) → add_all k S.Lacks ts ≡ S.Lacks
+pub all_lacks : (k : Kind) (ts : List Term) → add_all k None ts ≡ None
 unfolding add_all
 all_lacks k [] = refl
 all_lacks k (t ∷ ts) = rw (add_lacks k t.0 t.1) (all_lacks k ts)
@@ -94,14 +86,14 @@ valued_sum k ((suc w, none) ∷ ts) a t u = absurd (⊎_elim (λ e. omega arith)
 valued_sum k ((suc w, some v) ∷ ts) a t u = rw (add_some k t u w v, ← +ℤ_assoc t (pos (suc w) *ℤ v) (weighted ts), ← add_assoc u (suc w) (weight ts)) (valued_sum k ts a.1 (t +ℤ pos (suc w) *ℤ v) (u + suc w))
 
 -- a list that has a needed node without a value lacks it, whatever the sum
-pub lacking_sum : (k : Kind) (ts : List Term) → ¬ Valued ts → (t : ℤ) (u : ℕ) → add_all k (in_sum k t u) ts ≡ S.Lacks
+pub lacking_sum : (k : Kind) (ts : List Term) → ¬ Valued ts → (t : ℤ) (u : ℕ) → add_all k (in_sum k t u) ts ≡ None
 unfolding add_all
 lacking_sum k [] n t u = absurd (n tt)
 lacking_sum k ((zero, o) ∷ ts) n t u = lacking_sum k ts (λ a. n (inl refl, a)) t u
 lacking_sum k ((suc w, none) ∷ ts) n t u = rw (add_none k t u w) (all_lacks k ts)
 lacking_sum k ((suc w, some v) ∷ ts) n t u = rw (add_some k t u w v) (lacking_sum k ts (λ a. n (inr tt, a)) (t +ℤ pos (suc w) *ℤ v) (u + suc w))
 
-room_all : (k : Kind) (s : Sum) (ts : List Term) → SumRoom s (weight ts) → All (λ (t : Term). Small t.1) ts → SumRoom (add_all k s ts) 0
+room_all : (k : Kind) (s : Maybe Sum) (ts : List Term) → SumRoom s (weight ts) → All (λ (t : Term). Small t.1) ts → SumRoom (add_all k s ts) 0
 unfolding add_all weight
 room_all k s [] h a = rw (zero-add 0) h
 room_all k s (t ∷ ts) h a = room_all k (add_value k s t.0 t.1) ts (room_add k s t.0 t.1 (weight ts) h a.0) a.1
@@ -115,15 +107,15 @@ module _ (s : Shape) (vs ks : List ℤ) (ms : List ℕ) (ns : List Weighed) (d :
   unfolding terms
   split = rw (add-one, drop-cons ns k d h) refl
 
-  pub this_room : (t : Sum) → SumRoom t (weight (terms s vs ks ms (drop k ns))) → SumRoom t this.weight
+  pub this_room : (t : Maybe Sum) → SumRoom t (weight (terms s vs ks ms (drop k ns))) → SumRoom t this.weight
   unfolding weight
   this_room t r = room_less t this.weight (weight (terms s vs ks ms (drop (k + 1) ns))) (rw split at r)
 
-  pub next_room : (t : Sum) → SumRoom t (weight (terms s vs ks ms (drop k ns))) → SumRoom (add_value (kind_of s.kind) t this.weight (value s vs ks ms this)) (weight (terms s vs ks ms (drop (k + 1) ns)))
+  pub next_room : (t : Maybe Sum) → SumRoom t (weight (terms s vs ks ms (drop k ns))) → SumRoom (add_value (kind_of s.kind) t this.weight (value s vs ks ms this)) (weight (terms s vs ks ms (drop (k + 1) ns)))
   unfolding weight
   next_room t r = room_add (kind_of s.kind) t this.weight (value s vs ks ms this) (weight (terms s vs ks ms (drop (k + 1) ns))) (rw split at r) (small_value s vs ks ms this)
 
-  pub next_sum : (t : Sum) → add_all (kind_of s.kind) (add_value (kind_of s.kind) t this.weight (value s vs ks ms this)) (terms s vs ks ms (drop (k + 1) ns)) ≡ add_all (kind_of s.kind) t (terms s vs ks ms (drop k ns))
+  pub next_sum : (t : Maybe Sum) → add_all (kind_of s.kind) (add_value (kind_of s.kind) t this.weight (value s vs ks ms this)) (terms s vs ks ms (drop (k + 1) ns)) ≡ add_all (kind_of s.kind) t (terms s vs ks ms (drop k ns))
   unfolding add_all
   next_sum t = rw split refl
 
@@ -166,18 +158,6 @@ module _ (t m : ℕ) (c : Cell) where
       at (suc (suc zero)) h = refl
       at (suc (suc (suc zero))) h = refl
       at (suc (suc (suc (suc k)))) h = absurd (omega arith)
-
-pub beside_less : (k : ℕ) → beside k < 4
-beside_less zero = omega arith
-beside_less (suc zero) = omega arith
-beside_less (suc (suc zero)) = omega arith
-beside_less (suc (suc (suc k))) = omega arith
-
-pub beside_last : (k : ℕ) → 3 ≤ k → 2 ≡ beside k
-beside_last zero h = absurd (omega arith)
-beside_last (suc zero) h = absurd (omega arith)
-beside_last (suc (suc zero)) h = absurd (omega arith)
-beside_last (suc (suc (suc k))) h = refl
 
 module _ (h : Shares) (first second : Cell) (k : ℕ) where
   pub early_node : k < 4 → get_or (spread h first second) k (corner 0 0 0 0) ≡ get_or (corners h.early h.map first) k (corner 0 0 0 0)
@@ -222,14 +202,3 @@ ready_sum k ts h w a = by (valued? ts) (room_all k (in_sum k (pos 0) 0) ts (star
 
 pub ready_terms : (s : Shape) (vs ks : List ℤ) (ms : List ℕ) (ns : List Weighed) → 0 < weight (terms s vs ks ms ns) → weight (terms s vs ks ms ns) ≤ 64_800_000_000 → Ready (add_all (kind_of s.kind) (in_sum (kind_of s.kind) (pos 0) 0) (terms s vs ks ms ns))
 ready_terms s vs ks ms ns h w = ready_sum (kind_of s.kind) (terms s vs ks ms ns) h w (small_terms s vs ks ms ns)
-
--- ---- the sum of no nodes
-pub tecu_sum : (kind : ℕ) → kind < 2 → S.Tecu (pos 0) 0 ≡ in_sum (kind_of kind) (pos 0) 0
-tecu_sum zero h = refl
-tecu_sum (suc zero) h = refl
-tecu_sum (suc (suc k)) h = absurd (omega arith)
-
-pub km_sum : (kind : ℕ) → 2 ≤ kind → S.Km (pos 0) 0 ≡ in_sum (kind_of kind) (pos 0) 0
-km_sum zero h = absurd (omega arith)
-km_sum (suc zero) h = absurd (omega arith)
-km_sum (suc (suc k)) h = refl

@@ -1,5 +1,5 @@
 -- The mean computed, and what its parts answer: the sum node by node.
-use Rattle.std.specs.Prelude.{◌≡◌, ◌⊎◌, List, [], ◌∷◌, ℕ, zero, suc, ◌+◌, ◌*◌, ◌≤◌, ◌<◌, ℤ, pos, nat_abs, ◌+ℤ◌, ◌*ℤ◌}
+use Rattle.std.specs.Prelude.{◌≡◌, ◌⊎◌, List, [], ◌∷◌, ℕ, zero, suc, ◌+◌, ◌*◌, ◌≤◌, ◌<◌, ℤ, pos, nat_abs, ◌+ℤ◌, ◌*ℤ◌, Option as Maybe, Some, None}
 use Rattle.std.proofs.Math.Option.{Option, none, some}
 use Rattle.std.proofs.Math.Decide.{ℕ_discrete}
 use Rattle.kit.specs.Answer.{All, all_dec, pick, ⊎_dec}
@@ -13,8 +13,9 @@ use Rattle.ask_cells.specs.declared.Cell.{Cell}
 use Rattle.ask_spans.specs.declared.Shares.{Shares}
 use Rattle.ask_nodes.specs.declared.Weighed.{Weighed}
 use Rattle.ask_nodes.specs.declared.Shape.{Shape}
-use Rattle.ask_nodes.specs.declared.Node.{Node}
-use Rattle.ask_nodes.specs.declared.Node.TheVariants as N
+use Rattle.ask_nodes.specs.declared.Value.{Value}
+use Rattle.ask_nodes.specs.declared.Value.TheVariants as V
+use Rattle.ask_sums.specs.declared.Total.{Total}
 use Rattle.ask_sums.specs.declared.Sum.{Sum}
 use Rattle.ask_sums.specs.declared.Sum.TheVariants as S
 
@@ -68,49 +69,56 @@ beside (suc (suc (suc k))) = 2
 
 -- ---- sums
 
--- in the kind's unit
-abbrev pub in_sum : Kind → ℤ → ℕ → Sum
-in_sum tec t u = S.Tecu t u
-in_sum rms t u = S.Tecu t u
-in_sum height t u = S.Km t u
+abbrev pub total : ℤ → ℕ → Total
+total t u = record { sum = t; weights = u }
 
--- a node more: in the same unit, else the sum has no value
-abbrev pub add_node : Sum → ℕ → Node → Sum
-add_node S.Lacks w n = S.Lacks
-add_node (S.Tecu t u) w N.Nothing = S.Lacks
-add_node (S.Tecu t u) w (N.Tecu v) = S.Tecu (t +ℤ pos w *ℤ v.0) (u + w)
-add_node (S.Tecu t u) w (N.Km v) = S.Lacks
-add_node (S.Km t u) w N.Nothing = S.Lacks
-add_node (S.Km t u) w (N.Tecu v) = S.Lacks
-add_node (S.Km t u) w (N.Km v) = S.Km (t +ℤ pos w *ℤ v.0) (u + w)
+-- in the kind's unit
+abbrev pub in_sum : Kind → ℤ → ℕ → Maybe Sum
+in_sum tec t u = Some (S.Tecu (total t u))
+in_sum rms t u = Some (S.Tecu (total t u))
+in_sum height t u = Some (S.Km (total t u))
+
+-- a value more
+abbrev pub with_value : Total → ℕ → ℤ → Total
+with_value t w v = total (t.sum +ℤ pos w *ℤ v) (t.weights + w)
+
+-- a node more: in the same unit, else there is no sum
+abbrev pub add_node : Maybe Sum → ℕ → Maybe Value → Maybe Sum
+add_node None w n = None
+add_node (Some (S.Tecu t)) w None = None
+add_node (Some (S.Tecu t)) w (Some (V.Tecu v)) = Some (S.Tecu (with_value t w v.0))
+add_node (Some (S.Tecu t)) w (Some (V.Km v)) = None
+add_node (Some (S.Km t)) w None = None
+add_node (Some (S.Km t)) w (Some (V.Tecu v)) = None
+add_node (Some (S.Km t)) w (Some (V.Km v)) = Some (S.Km (with_value t w v.0))
 
 -- a node of a kind with its weight: needed where that is not zero
-abbrev pub add_value : Kind → Sum → ℕ → Option ℤ → Sum
+abbrev pub add_value : Kind → Maybe Sum → ℕ → Option ℤ → Maybe Sum
 add_value k s zero o = s
 add_value k s (suc w) o = add_node s (suc w) (in_node k o)
 
-unfoldable pub add_all : Kind → Sum → List Term → Sum
+unfoldable pub add_all : Kind → Maybe Sum → List Term → Maybe Sum
 add_all k s [] = s
 add_all k s (t ∷ ts) = add_all k (add_value k s t.0 t.1) ts
 
 -- from nothing on
-abbrev pub sum_all : Kind → List Term → Sum
+abbrev pub sum_all : Kind → List Term → Maybe Sum
 sum_all k ts = add_all k (in_sum k (pos 0) 0) ts
 
 -- the sum is no larger than its weight allows, and there is room for the weight w
 abbrev pub Fits : ℤ → ℕ → ℕ → Type 0
 Fits t u w = (nat_abs t ≤ u * 99_999_000) × (u + w ≤ 64_800_000_000)
 
-abbrev pub SumRoom : Sum → ℕ → Type 0
-SumRoom S.Lacks w = w ≤ 64_800_000_000
-SumRoom (S.Tecu t u) w = Fits t u w
-SumRoom (S.Km t u) w = Fits t u w
+abbrev pub SumRoom : Maybe Sum → ℕ → Type 0
+SumRoom None w = w ≤ 64_800_000_000
+SumRoom (Some (S.Tecu t)) w = Fits t.sum t.weights w
+SumRoom (Some (S.Km t)) w = Fits t.sum t.weights w
 
-abbrev pub InRange : Node → Type 0
+abbrev pub InRange : Maybe Value → Type 0
 InRange n = Small (bare n)
 
 -- a sum that has weight
-abbrev pub Ready : Sum → Type 0
-Ready S.Lacks = Unit {0}
-Ready (S.Tecu t u) = Fits t u 0 × (0 < u)
-Ready (S.Km t u) = Fits t u 0 × (0 < u)
+abbrev pub Ready : Maybe Sum → Type 0
+Ready None = Unit {0}
+Ready (Some (S.Tecu t)) = Fits t.sum t.weights 0 × (0 < t.weights)
+Ready (Some (S.Km t)) = Fits t.sum t.weights 0 × (0 < t.weights)

@@ -1,76 +1,79 @@
 // The nodes that a question looks at with their weights, and the weighted sum.
 #![tactic(auto)]
 
-ghost use Rattle.std.specs.Prelude.{◌≡◌, ◌*◌, ◌≤◌, ◌<◌, pos, get_or};
+ghost use Rattle.std.specs.Prelude.{◌≡◌, ◌*◌, ◌≤◌, ◌<◌, pos, nat_abs, get_or};
 ghost use Rattle.ask_nodes.specs.Value.{corner, kind_of, value};
 ghost use Rattle.ask_sums.specs.Mean.{corners, spread, terms};
-ghost use Rattle.ask_sums.specs.Sums.{Reaches, Shared, Summable, SumRoom, InRange, four, beside, in_sum, add_node, add_value, sum_all};
+ghost use Rattle.ask_sums.specs.Sums.{Reaches, Shared, Summable, Fits, SumRoom, InRange, four, beside, in_sum, with_value, add_node, add_value, sum_all};
 
 use ask_cells::Cell;
-use ask_nodes::{Node, Shape, Weighed};
+use ask_nodes::{Shape, Value, Weighed};
 use ask_spans::Shares;
 
-// What the nodes so far come to: the weighted sum in thousandths of its unit and the sum of the weights, or that a needed node has no
-// value. A unit is never added to the other.
+// A weighted sum in thousandths of its unit, and the sum of the weights.
+#[derive(Clone, Copy)]
+pub struct Total {
+    pub sum: i64,
+    pub weights: u64,
+}
+
+// What the nodes so far come to. A unit is never added to the other.
 #[derive(Clone, Copy)]
 pub enum Sum {
-    Tecu(i64, u64),
-    Km(i64, u64),
-    Lacks,
+    Tecu(Total),
+    Km(Total),
 }
 
 // The sum of no nodes, in the kind's unit.
 fn empty(kind: u64) -> Sum
-    ensures { result ≡ in_sum (kind_of kind) (pos 0) 0 }
+    ensures { Some result ≡ in_sum (kind_of kind) (pos 0) 0 }
 {
+    let nothing = Total { sum: 0, weights: 0 };
     if kind < 2 {
-        Sum::Tecu(0, 0)
+        Sum::Tecu(nothing)
     } else {
-        Sum::Km(0, 0)
+        Sum::Km(nothing)
     }
 }
 
-fn add_tecu(total: i64, weights: u64, weight: u64, n: Node) -> Sum
-    requires { SumRoom (Sum.Tecu total weights) weight × InRange n }
-    ensures { result ≡ add_node (Sum.Tecu total weights) weight n }
+// A value more.
+fn with(t: Total, weight: u64, v: i32) -> Total
+    requires { Fits t.sum t.weights weight × (nat_abs v ≤ 99_999_000) }
+    ensures { result ≡ with_value t weight v }
 {
-    match n {
-        Node::Tecu(v) => Sum::Tecu(ask_round::mul_add(total, weight, v.0), weights + weight),
-        Node::Km(v) => Sum::Lacks,
-        Node::Nothing => Sum::Lacks,
+    Total {
+        sum: ask_round::mul_add(t.sum, weight, v),
+        weights: t.weights + weight,
     }
 }
 
-fn add_km(total: i64, weights: u64, weight: u64, n: Node) -> Sum
-    requires { SumRoom (Sum.Km total weights) weight × InRange n }
-    ensures { result ≡ add_node (Sum.Km total weights) weight n }
+// The sum with a needed node; none where that has no value in the same unit.
+fn add(sum: Sum, weight: u64, value: Option<Value>) -> Option<Sum>
+    requires { SumRoom (Some sum) weight × InRange value }
+    ensures { result ≡ add_node (Some sum) weight value }
 {
-    match n {
-        Node::Tecu(v) => Sum::Lacks,
-        Node::Km(v) => Sum::Km(ask_round::mul_add(total, weight, v.0), weights + weight),
-        Node::Nothing => Sum::Lacks,
-    }
-}
-
-// The sum with a needed node.
-fn add(sum: Sum, weight: u64, n: Node) -> Sum
-    requires { SumRoom sum weight × InRange n }
-    ensures { result ≡ add_node sum weight n }
-{
-    match sum {
-        Sum::Tecu(total, weights) => add_tecu(total, weights, weight, n),
-        Sum::Km(total, weights) => add_km(total, weights, weight, n),
-        Sum::Lacks => Sum::Lacks,
+    match (sum, value?) {
+        (Sum::Tecu(t), Value::Tecu(v)) => Some(Sum::Tecu(with(t, weight, v.0))),
+        (Sum::Tecu(_), Value::Km(_)) => None,
+        (Sum::Km(_), Value::Tecu(_)) => None,
+        (Sum::Km(t), Value::Km(v)) => Some(Sum::Km(with(t, weight, v.0))),
     }
 }
 
 // The sum with a node, which is looked at where its weight is not zero.
-fn term(sum: Sum, n: Weighed, s: Shape, values: &[i32], exponents: &[i32], marks: &[u8]) -> Sum
-    requires { SumRoom sum n.weight × Reaches values.now exponents.now marks.now s n }
-    ensures { result ≡ add_value (kind_of s.kind) sum n.weight (value s values.now exponents.now marks.now n) }
+fn term(
+    sum: Sum,
+    n: Weighed,
+    s: Shape,
+    values: &[i32],
+    exponents: &[i32],
+    marks: &[u8],
+) -> Option<Sum>
+    requires { SumRoom (Some sum) n.weight × Reaches values.now exponents.now marks.now s n }
+    ensures { result ≡ add_value (kind_of s.kind) (Some sum) n.weight (value s values.now exponents.now marks.now n) }
 {
     if n.weight == 0 {
-        return sum;
+        return Some(sum);
     }
     add(
         sum,
@@ -146,7 +149,7 @@ pub fn nth_node(shares: Shares, first: Cell, second: Cell, k: u64) -> Weighed
     corner_of(shares.late, shares.map + 1, second, k - 4)
 }
 
-// The sum over all of them.
+// The sum over all of them; none where a needed one has no value.
 pub fn sum_of(
     shares: Shares,
     first: Cell,
@@ -155,22 +158,14 @@ pub fn sum_of(
     values: &[i32],
     exponents: &[i32],
     marks: &[u8],
-) -> Sum
+) -> Option<Sum>
     requires { Summable values.now exponents.now marks.now s shares first second }
     ensures { result ≡ sum_all (kind_of s.kind) (terms s values.now exponents.now marks.now (spread shares first second)) }
 {
     let mut sum = empty(s.kind);
-    let mut k: u64 = 0;
-    while k < 8 {
-        sum = term(
-            sum,
-            nth_node(shares, first, second, k),
-            s,
-            values,
-            exponents,
-            marks,
-        );
-        k += 1;
+    for k in 0..8 {
+        let n = nth_node(shares, first, second, k);
+        sum = term(sum, n, s, values, exponents, marks)?;
     }
-    sum
+    Some(sum)
 }

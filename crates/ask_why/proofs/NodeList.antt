@@ -20,7 +20,6 @@ use Rattle.mapset.specs.declared.Kind.{Kind}
 use Rattle.mapset.specs.declared.Kind.TheVariants.{Tec as tec, Rms as rms, Height as height}
 use Rattle.ask_nodes.specs.Value.{IsValue, is_value?, thousandths, worth, kind_of, value}
 use Rattle.ask_nodes.specs.Units.{in_node}
-use Rattle.ask_nodes.specs.declared.Node.TheVariants as N
 use Rattle.ask_nodes.specs.declared.Shape.{Shape}
 use Rattle.ask_nodes.specs.declared.Weighed.{Weighed}
 use Rattle.ask_cells.specs.declared.Cell.{Cell}
@@ -34,8 +33,7 @@ use Rattle.ask_why.specs.declared.nodes.Listing.{Listing}
 use Rattle.ask_why.specs.declared.Cause.{Cause}
 use Rattle.ask_why.specs.declared.Cause.TheVariants as C
 use Rattle.ask_why.specs.declared.Lacking.{Lacking}
-use Rattle.ask_why.specs.declared.causes.First.{First}
-use Rattle.ask_why.specs.declared.causes.First.TheVariants as F
+use Rattle.std.specs.Prelude.{Option as Maybe, Some, None}
 
 -- ---- a node more
 set_next : {A : Type 0} (l : List A) (f x : A) (k : ℕ) → set (l ++ replicate (suc k) f) (length l) x ≡ (l ++ (x ∷ [])) ++ replicate k f
@@ -106,20 +104,20 @@ unfolding add
 add_count s vs ks ms l n = pick_elim (λ (x : Listing). x.count ≤ l.count + 1) (ℕ_discrete n.weight 0) (λ e. omega arith) (λ e. omega arith)
 
 module _ (s : Shape) (vs ks : List ℤ) (ms : List ℕ) (n : Weighed) where
-  pub lacks_light : n.weight ≡ 0 → lacks s vs ks ms n ≡ F.Nowhere
+  pub lacks_light : n.weight ≡ 0 → lacks s vs ks ms n ≡ None
   unfolding lacks
-  lacks_light z = pick_yes (ℕ_discrete n.weight 0) F.Nowhere (found (value s vs ks ms n) (lack_with n s.layer (cause s vs ks ms n))) z
+  lacks_light z = pick_yes (ℕ_discrete n.weight 0) None (found (value s vs ks ms n) (lack_with n s.layer (cause s vs ks ms n))) z
 
   pub lacks_by : ¬ (n.weight ≡ 0) → (o : Option ℤ) → value s vs ks ms n ≡ o → lacks s vs ks ms n ≡ found o (lack_with n s.layer (cause s vs ks ms n))
   unfolding lacks
-  lacks_by z o e = pick_no (ℕ_discrete n.weight 0) F.Nowhere (found (value s vs ks ms n) (lack_with n s.layer (cause s vs ks ms n))) z ∙ ap (λ (o : Option ℤ). found o (lack_with n s.layer (cause s vs ks ms n))) e
+  lacks_by z o e = pick_no (ℕ_discrete n.weight 0) None (found (value s vs ks ms n) (lack_with n s.layer (cause s vs ks ms n))) z ∙ ap (λ (o : Option ℤ). found o (lack_with n s.layer (cause s vs ks ms n))) e
 
 -- a node told in its unit has a value
-pub found_value : (k : Kind) (o : Option ℤ) (l : Lacking) → ¬ (in_node k o ≡ N.Nothing) → F.Nowhere ≡ found o l
+pub found_value : (k : Kind) (o : Option ℤ) (l : Lacking) → ¬ (in_node k o ≡ None) → None ≡ found o l
 found_value k none l n = absurd (n refl)
 found_value k (some v) l n = refl
 
-pub found_nothing : (k : Kind) (o : Option ℤ) (l : Lacking) → in_node k o ≡ N.Nothing → F.At l ≡ found o l
+pub found_nothing : (k : Kind) (o : Option ℤ) (l : Lacking) → in_node k o ≡ None → Some l ≡ found o l
 found_nothing k none l e = refl
 found_nothing tec (some v) l e = absurd (let z : ◌≡◌ {A = ℕ} 0 1 = cc in omega arith)
 found_nothing rms (some v) l e = absurd (let z : ◌≡◌ {A = ℕ} 0 1 = cc in omega arith)
@@ -207,16 +205,16 @@ module _ (s : Shape) (vs ks : List ℤ) (ms : List ℕ) where
     pub order : needed ns ≡ before ++ (node ∷ behind)
     pub valued : All (λ n. IsSome (value s vs ks ms n)) before
     pub lacks : value s vs ks ms node ≡ none
-    pub is : first s vs ks ms ns ≡ F.At (lack_with node s.layer (cause s vs ks ms node))
+    pub is : first s vs ks ms ns ≡ Some (lack_with node s.layer (cause s vs ks ms node))
 
   module _ (m : Weighed) (ns : List Weighed) where
     light : m.weight ≡ 0 → (needed (m ∷ ns) ≡ needed ns) × (first s vs ks ms (m ∷ ns) ≡ first s vs ks ms ns)
     unfolding needed first
-    light z = (pick_yes (ℕ_discrete m.weight 0) (needed ns) (m ∷ needed ns) z, ap (λ (f : First). or_else f (first s vs ks ms ns)) (lacks_light s vs ks ms m z))
+    light z = (pick_yes (ℕ_discrete m.weight 0) (needed ns) (m ∷ needed ns) z, ap (λ (f : Maybe Lacking). or_else f (first s vs ks ms ns)) (lacks_light s vs ks ms m z))
 
     heavy : ¬ (m.weight ≡ 0) → (o : Option ℤ) → value s vs ks ms m ≡ o → (needed (m ∷ ns) ≡ m ∷ needed ns) × (first s vs ks ms (m ∷ ns) ≡ or_else (found o (lack_with m s.layer (cause s vs ks ms m))) (first s vs ks ms ns))
     unfolding needed first
-    heavy z o e = (pick_no (ℕ_discrete m.weight 0) (needed ns) (m ∷ needed ns) z, ap (λ (f : First). or_else f (first s vs ks ms ns)) (lacks_by s vs ks ms m z o e))
+    heavy z o e = (pick_no (ℕ_discrete m.weight 0) (needed ns) (m ∷ needed ns) z, ap (λ (f : Maybe Lacking). or_else f (first s vs ks ms ns)) (lacks_by s vs ks ms m z o e))
 
     skip : m.weight ≡ 0 → NodeFound ns → NodeFound (m ∷ ns)
     skip z f = record { before = f.before; node = f.node; behind = f.behind; order = (light z).0 ∙ f.order; valued = f.valued; lacks = f.lacks; is = (light z).1 ∙ f.is }

@@ -19,11 +19,13 @@ use Rattle.ask.specs.Ask.{Question, tecu, km, refused, epochs, Answers}
 use Rattle.ask.specs.Sun.{in_time}
 use Rattle.ask.proofs.AskLaws.{steady, epoch_last}
 use Rattle.ask.proofs.Once.{weighs_once, answers_once, number_once}
-use Rattle.ask_why.specs.Explain.{needed, value_of, listed, places, cell_size, Gap, nearest, last, between, Denominator, CauseAt, FirstLacking, told, Lists, ListsNothing, Beside, Explains}
+use Rattle.ask_why.specs.Explain.{needed, value_of, listed, places, cell_size, Gap, nearest, last, between, Denominator, CauseAt, FirstLacking, told, Lists, ListsNothing, Beside, Explains, Explained}
 use Rattle.ask_why.specs.declared.Cause.{Cause}
+use Rattle.ask.specs.declared.Why.{Why}
 use Rattle.ask_why.specs.declared.Lacking.{Lacking}
-use Rattle.ask_why.specs.declared.Explained.{Explained}
-use Rattle.ask_why.specs.declared.Explained.TheVariants as E
+use Rattle.std.specs.Prelude.{Ok, Err}
+use Rattle.ask_nodes.specs.declared.Value.TheVariants as V
+use Rattle.ask_why.specs.declared.Unanswered.TheVariants as U
 use Rattle.ask_why.specs.declared.Explanation.{Explanation}
 use Rattle.ask_why.proofs.NodeList.{no_worth, cause_once}
 use Rattle.ask_why.proofs.WhyLaws.{opened}
@@ -99,22 +101,22 @@ nothing_once : (e f : Explanation) → ListsNothing e → ListsNothing f → Sam
 nothing_once e f x y = (x.count ∙ sym y.count, (x.denominator ∙ sym y.denominator, x.listed ∙ sym y.listed))
 
 both : (q : Question) (e f : Explanation) (a b : Explained) → Answers q (told a) → told a ≡ told b → Beside q e a → Beside q f b → (a ≡ b) × Same e f
-both q e f (E.Tecu v) (E.Tecu w) x p s t = (let z : v.0 ≡ w.0 = cc in λ i. E.Tecu (record { 0 = z i }), lists_once q (opened q (tecu v.0) x tt).sound e f s t)
-both q e f (E.Tecu v) (E.Km w) x p s t = absurd (let z : ◌≡◌ {A = ℕ} 0 1 = cc in omega arith)
-both q e f (E.Tecu v) (E.Lacks m) x p s t = absurd (let z : ◌≡◌ {A = ℕ} 0 1 = cc in omega arith)
-both q e f (E.Tecu v) (E.Refused w) x p s t = absurd (let z : ◌≡◌ {A = ℕ} 0 1 = cc in omega arith)
-both q e f (E.Km v) (E.Tecu w) x p s t = absurd (let z : ◌≡◌ {A = ℕ} 0 1 = cc in omega arith)
-both q e f (E.Km v) (E.Km w) x p s t = (let z : v.0 ≡ w.0 = cc in λ i. E.Km (record { 0 = z i }), lists_once q (opened q (km v.0) x tt).sound e f s t)
-both q e f (E.Km v) (E.Lacks m) x p s t = absurd (let z : ◌≡◌ {A = ℕ} 0 1 = cc in omega arith)
-both q e f (E.Km v) (E.Refused w) x p s t = absurd (let z : ◌≡◌ {A = ℕ} 0 1 = cc in omega arith)
-both q e f (E.Lacks l) (E.Tecu w) x p s t = absurd (let z : ◌≡◌ {A = ℕ} 0 1 = cc in omega arith)
-both q e f (E.Lacks l) (E.Km w) x p s t = absurd (let z : ◌≡◌ {A = ℕ} 0 1 = cc in omega arith)
-both q e f (E.Lacks l) (E.Lacks m) x p s t = (ap E.Lacks (lacking_once q (opened q (refused 22) x refl).sound l m s.0 t.0), nothing_once e f s.1 t.1)
-both q e f (E.Lacks l) (E.Refused w) x p s t = absurd (t.0 (cc))
-both q e f (E.Refused v) (E.Tecu w) x p s t = absurd (let z : ◌≡◌ {A = ℕ} 0 1 = cc in omega arith)
-both q e f (E.Refused v) (E.Km w) x p s t = absurd (let z : ◌≡◌ {A = ℕ} 0 1 = cc in omega arith)
-both q e f (E.Refused v) (E.Lacks m) x p s t = absurd (s.0 (cc))
-both q e f (E.Refused v) (E.Refused w) x p s t = (ap E.Refused (number_once v w (cc)), nothing_once e f s.1 t.1)
+both q e f (Ok (V.Tecu v)) (Ok (V.Tecu w)) x p s t = (let z : v.0 ≡ w.0 = cc in λ i. Ok (V.Tecu (record { 0 = z i })), lists_once q (opened q (tecu v.0) x tt).sound e f s t)
+both q e f (Ok (V.Tecu v)) (Ok (V.Km w)) x p s t = absurd (let z : ◌≡◌ {A = ℕ} 0 1 = cc in omega arith)
+both q e f (Ok (V.Tecu v)) (Err (U.Lacks m)) x p s t = absurd (let z : ◌≡◌ {A = ℕ} 0 1 = cc in omega arith)
+both q e f (Ok (V.Tecu v)) (Err (U.Refused w)) x p s t = absurd (let z : ◌≡◌ {A = ℕ} 0 1 = cc in omega arith)
+both q e f (Ok (V.Km v)) (Ok (V.Tecu w)) x p s t = absurd (let z : ◌≡◌ {A = ℕ} 0 1 = cc in omega arith)
+both q e f (Ok (V.Km v)) (Ok (V.Km w)) x p s t = (let z : v.0 ≡ w.0 = cc in λ i. Ok (V.Km (record { 0 = z i })), lists_once q (opened q (km v.0) x tt).sound e f s t)
+both q e f (Ok (V.Km v)) (Err (U.Lacks m)) x p s t = absurd (let z : ◌≡◌ {A = ℕ} 0 1 = cc in omega arith)
+both q e f (Ok (V.Km v)) (Err (U.Refused w)) x p s t = absurd (let z : ◌≡◌ {A = ℕ} 0 1 = cc in omega arith)
+both q e f (Err (U.Lacks l)) (Ok (V.Tecu w)) x p s t = absurd (let z : ◌≡◌ {A = ℕ} 0 1 = cc in omega arith)
+both q e f (Err (U.Lacks l)) (Ok (V.Km w)) x p s t = absurd (let z : ◌≡◌ {A = ℕ} 0 1 = cc in omega arith)
+both q e f (Err (U.Lacks l)) (Err (U.Lacks m)) x p s t = (ap (λ (l : Lacking). Err (U.Lacks l)) (lacking_once q (opened q (refused 22) x refl).sound l m s.0 t.0), nothing_once e f s.1 t.1)
+both q e f (Err (U.Lacks l)) (Err (U.Refused w)) x p s t = absurd (t.0 (cc))
+both q e f (Err (U.Refused v)) (Ok (V.Tecu w)) x p s t = absurd (let z : ◌≡◌ {A = ℕ} 0 1 = cc in omega arith)
+both q e f (Err (U.Refused v)) (Ok (V.Km w)) x p s t = absurd (let z : ◌≡◌ {A = ℕ} 0 1 = cc in omega arith)
+both q e f (Err (U.Refused v)) (Err (U.Lacks m)) x p s t = absurd (s.0 (cc))
+both q e f (Err (U.Refused v)) (Err (U.Refused w)) x p s t = (ap (λ (w : Why). Err (U.Refused w)) (number_once v w (cc)), nothing_once e f s.1 t.1)
 
 pub explain_once : (q : Question) (e f : Explanation) → Explains q e → Explains q f → e ≡ f
 explain_once q e f x y =

@@ -15,15 +15,14 @@ use Rattle.ask_cells.specs.Place.{InCell, first, next}
 use Rattle.ask_cells.specs.declared.Cell.{Cell}
 use Rattle.ask_spans.specs.Time.{shared, between}
 use Rattle.ask_nodes.specs.Value.{is_value?, worth, value}
-use Rattle.ask_nodes.specs.declared.Node.TheVariants as N
+use Rattle.std.specs.Prelude.{Some, Ok}
+use Rattle.ask_nodes.specs.declared.Value.TheVariants as V
 use Rattle.ask_sums.specs.Mean.{by_column, corners, spread}
 use Rattle.ask.specs.Ask.{tecu}
-use Rattle.ask.specs.declared.Asked.TheVariants as A
 use Rattle.ask.proofs.SunSample.{header, held, ask_at, sun_answer}
 use Rattle.ask_why.specs.Explain.{places, Explains}
 use Rattle.ask_why.specs.Parts.{add, collect}
 use Rattle.ask_why.specs.declared.Needed.{Needed}
-use Rattle.ask_why.specs.declared.Explained.TheVariants as E
 use Rattle.ask_why.proofs.WhyLaws.{opened, explains}
 
 -- a cell of the one row
@@ -50,11 +49,11 @@ moved_second = record {
 
 -- a node of row 0 and its thousandths of a TECU: 3,600 s times 500 times 3,000
 abbrev node : ℕ → ℕ → ℤ → Needed
-node map column v = record { map = map; layer = 0; row = 0; column = column; value = N.Tecu (record { 0 = v }); weight = 5_400_000_000 }
+node map column v = record { map = map; layer = 0; row = 0; column = column; value = Some (V.Tecu (record { 0 = v })); weight = 5_400_000_000 }
 
 -- 500 times 6,000 times 7,200 s; in the strip column 0 comes before column 71
 pub sun_explained : Explains (ask_at 2 (pos 34250) 3600) (record {
-  answer = E.Tecu (record { 0 = pos 25000 });
+  answer = Ok (V.Tecu (record { 0 = pos 25000 }));
   count = 4;
   denominator = 21_600_000_000;
   nodes = places (node 1 0 (pos 20000) ∷ node 1 71 (pos 10000) ∷ node 2 65 (pos 30000) ∷ node 2 66 (pos 40000) ∷ []);
@@ -62,4 +61,4 @@ pub sun_explained : Explains (ask_at 2 (pos 34250) 3600) (record {
 unfolding ask_at header cell held add collect spread corners by_column value worth is_value? between? present? pick ×_dec ⊎_dec ¬_dec dec_by le? int? ℕ_discrete dec_lt
 sun_explained =
     explains (ask_at 2 (pos 34250) 3600) (opened (ask_at 2 (pos 34250) 3600) (tecu (pos 25000)) sun_answer tt).sound (shared 0 3600 3600) (between 0 refl (omega arith) (omega arith) (omega arith))
-    (cell 71 0) (cell 65 66) (record { first_in = moved_first; second_in = inr (omega arith, moved_second) }) (A.Tecu (record { 0 = pos 25000 })) sun_answer refl
+    (cell 71 0) (cell 65 66) (record { first_in = moved_first; second_in = inr (omega arith, moved_second) }) (Ok (V.Tecu (record { 0 = pos 25000 }))) sun_answer refl

@@ -18,18 +18,18 @@ use Rattle.ask_nodes.specs.Units.{bare}
 use Rattle.ask_nodes.specs.declared.Weighed.{Weighed}
 use Rattle.ask_nodes.proofs.NodeLaws.{bare_node}
 use Rattle.ask_sums.specs.Mean.{IsSome, Valued, terms, weighted, weight}
-use Rattle.ask.specs.Ask.{Question, Told, refused, stop, go, Served, Weighs, asked, Blended, Answers}
+use Rattle.ask.specs.Ask.{Question, Told, refused, stop, go, Served, Weighs, asked, Blended, Answers, Asked}
 use Rattle.ask.specs.Ask as ask
-use Rattle.ask.specs.declared.Asked.{Asked}
 use Rattle.ask.proofs.AskLaws.{whole_weight}
 use Rattle.ask.proofs.Once.{weighs_once, answers_once}
 use Rattle.ask.proofs.Between.{thousandths_of, in_unit_of, some_once, none_some}
-use Rattle.ask_why.specs.Explain.{needed, value_of, listed, filler, FirstLacking, told, Lists, ListsNothing, Beside, Explains}
+use Rattle.ask_why.specs.Explain.{needed, value_of, listed, filler, FirstLacking, told, Lists, ListsNothing, Beside, Explains, Explained}
 use Rattle.ask_why.specs.Shown.{shown, weights, weighted_sum, Before, Rising, Among, first, later, NamesFirst}
 use Rattle.ask_why.specs.declared.Needed.{Needed}
 use Rattle.ask_why.specs.declared.Lacking.{Lacking}
-use Rattle.ask_why.specs.declared.Explained.{Explained}
-use Rattle.ask_why.specs.declared.Explained.TheVariants as E
+use Rattle.std.specs.Prelude.{Ok, Err}
+use Rattle.ask_nodes.specs.declared.Value.TheVariants as V
+use Rattle.ask_why.specs.declared.Unanswered.TheVariants as U
 use Rattle.ask_why.specs.declared.Explanation.{Explanation}
 use Rattle.ask_why.proofs.WhyLaws.{Looks, Opened, opened, length_listed, denominator_is}
 use Rattle.ask_why.proofs.Once.{denominator_once, no_value, lacks_value}
@@ -127,10 +127,10 @@ abbrev pub Given : Explanation → ℤ → Type 0
 Given e v = thousandths_of (told e.answer) ≡ some v
 
 lists_of : (q : Question) (e : Explanation) (a : Explained) (v : ℤ) → Beside q e a → thousandths_of (told a) ≡ some v → Lists q e × Looks (told a)
-lists_of q e (E.Tecu w) v b g = (b, tt)
-lists_of q e (E.Km w) v b g = (b, tt)
-lists_of q e (E.Lacks l) v b g = absurd (none_some v g)
-lists_of q e (E.Refused w) v b g = absurd (none_some v g)
+lists_of q e (Ok (V.Tecu w)) v b g = (b, tt)
+lists_of q e (Ok (V.Km w)) v b g = (b, tt)
+lists_of q e (Err (U.Lacks l)) v b g = absurd (none_some v g)
+lists_of q e (Err (U.Refused w)) v b g = absurd (none_some v g)
 
 -- the mean of the nodes
 mean_of : (q : Question) (a : Told) (v : ℤ) → Blended q a → thousandths_of a ≡ some v → (ns : List Weighed) × (Weighs q ns × (Valued (asked q ns) × Nearest (weighted (asked q ns)) (weight (asked q ns)) v))
@@ -187,22 +187,22 @@ as_asked q e r x y = answers_once q (told e.answer) (ask.told r) x.answers y
 
 -- a refusal shows no node
 nothing : (q : Question) (e : Explanation) (a : Explained) → Beside q e a → thousandths_of (told a) ≡ none → ListsNothing e
-nothing q e (E.Tecu w) b g = absurd (none_some w.0 (sym g))
-nothing q e (E.Km w) b g = absurd (none_some w.0 (sym g))
-nothing q e (E.Lacks l) b g = b.1
-nothing q e (E.Refused w) b g = b.1
+nothing q e (Ok (V.Tecu w)) b g = absurd (none_some w.0 (sym g))
+nothing q e (Ok (V.Km w)) b g = absurd (none_some w.0 (sym g))
+nothing q e (Err (U.Lacks l)) b g = b.1
+nothing q e (Err (U.Refused w)) b g = b.1
 
 pub refused_shows_nothing : (q : Question) (e : Explanation) → Explains q e → thousandths_of (told e.answer) ≡ none → ListsNothing e
 refused_shows_nothing q e x g = nothing q e e.answer x.beside g
 
 -- 22 names its node
-named : (q : Question) (e : Explanation) (a : Explained) → Beside q e a → told a ≡ refused 22 → (l : Lacking) × ((a ≡ E.Lacks l) × FirstLacking q l)
-named q e (E.Tecu w) b g = absurd (let z : ◌≡◌ {A = ℕ} 0 1 = cc in omega arith)
-named q e (E.Km w) b g = absurd (let z : ◌≡◌ {A = ℕ} 0 1 = cc in omega arith)
-named q e (E.Lacks l) b g = (l, (refl, b.0))
-named q e (E.Refused w) b g = absurd (b.0 (cc))
+named : (q : Question) (e : Explanation) (a : Explained) → Beside q e a → told a ≡ refused 22 → (l : Lacking) × ((a ≡ Err (U.Lacks l)) × FirstLacking q l)
+named q e (Ok (V.Tecu w)) b g = absurd (let z : ◌≡◌ {A = ℕ} 0 1 = cc in omega arith)
+named q e (Ok (V.Km w)) b g = absurd (let z : ◌≡◌ {A = ℕ} 0 1 = cc in omega arith)
+named q e (Err (U.Lacks l)) b g = (l, (refl, b.0))
+named q e (Err (U.Refused w)) b g = absurd (b.0 (cc))
 
-pub names_first_lacking : (q : Question) (e : Explanation) → Explains q e → told e.answer ≡ refused 22 → (l : Lacking) × ((e.answer ≡ E.Lacks l) × FirstLacking q l)
+pub names_first_lacking : (q : Question) (e : Explanation) → Explains q e → told e.answer ≡ refused 22 → (l : Lacking) × ((e.answer ≡ Err (U.Lacks l)) × FirstLacking q l)
 names_first_lacking q e x g = named q e e.answer x.beside g
 
 -- of all needed nodes, by their place and not by a list
@@ -223,7 +223,7 @@ in_between m [] c = first
 in_between m (k ∷ b) c = later (in_between m b c)
 
 pub names_first : (q : Question) (e : Explanation) → Explains q e → told e.answer ≡ refused 22 → (ns : List Weighed) → Weighs q ns
-    → (l : Lacking) × ((e.answer ≡ E.Lacks l) × NamesFirst q ns l)
+    → (l : Lacking) × ((e.answer ≡ Err (U.Lacks l)) × NamesFirst q ns l)
 names_first q e x g ns w =
     let n = names_first_lacking q e x g in
     let f : FirstLacking q n.0 = n.1.1 in

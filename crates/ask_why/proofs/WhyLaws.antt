@@ -18,22 +18,20 @@ use Rattle.ask_nodes.specs.Value.{kind_of, value}
 use Rattle.ask_nodes.specs.declared.Weighed.{Weighed}
 use Rattle.ask_sums.specs.Mean.{Valued, spread}
 use Rattle.ask_sums.proofs.SumLaws.{eight_nodes}
-use Rattle.ask.specs.Ask.{Question, Told, tecu, km, refused, in_unit, stop, go, Known, epochs, Served, InTime, Inside, Weighs, area, shape, asked, Blended, Answers, number}
+use Rattle.ask.specs.Ask.{Question, Told, tecu, km, refused, in_unit, stop, go, Known, epochs, Served, InTime, Inside, Weighs, area, shape, asked, Blended, Answers, Asked, number}
 use Rattle.ask.specs.Ask as ask
 use Rattle.ask.specs.Sun.{in_time, Cells}
 use Rattle.ask.specs.declared.Why.{Why}
 use Rattle.ask.specs.declared.Why.TheVariants as W
-use Rattle.ask.specs.declared.Asked.{Asked}
-use Rattle.ask.specs.declared.Asked.TheVariants as A
 use Rattle.ask.proofs.AskLaws.{steady, last_is, can_sum}
 use Rattle.ask.proofs.Once.{weighs_once}
 use Rattle.ask.proofs.Between.{thousandths_of, in_unit_of}
-use Rattle.ask_why.specs.Explain.{needed, listed, places, Gap, nearest, last, between, Denominator, CauseAt, Lists, Explains}
+use Rattle.ask_why.specs.Explain.{needed, listed, places, Gap, nearest, last, between, Denominator, CauseAt, Lists, Explains, Explained}
 use Rattle.ask_why.specs.Parts.{Listable, none_listed, collect, first, cause, blank, without, of_answer, denominator, with_nodes, explained_by, is_22, has_nodes}
-use Rattle.ask_why.specs.declared.causes.First.{First}
+use Rattle.ask_why.specs.declared.Lacking.{Lacking}
 use Rattle.ask_why.specs.declared.nodes.Listing.{Listing}
-use Rattle.ask_why.specs.declared.Explained.{Explained}
-use Rattle.ask_why.specs.declared.Explained.TheVariants as E
+use Rattle.std.specs.Prelude.{Option as Maybe, Ok, Err}
+use Rattle.ask_nodes.specs.declared.Value.TheVariants as V
 use Rattle.ask_why.proofs.NodeList.{collected, causes, NodeFound, find}
 
 -- ---- an answer that looked at nodes has passed all tests before
@@ -75,15 +73,14 @@ other_22 W.OutOfPlace e n = omega arith
 other_22 W.NoValue e n = let z : ◌≡◌ {A = ℕ} 0 1 = cc in omega arith
 
 pub looks : (a : Asked) → has_nodes a ≡ true → Looks (ask.told a)
-looks (A.Tecu v) e = tt
-looks (A.Km v) e = tt
-looks (A.Refused w) e = looks_22 w e
+looks (Ok (V.Tecu v)) e = tt
+looks (Ok (V.Km v)) e = tt
+looks (Err w) e = looks_22 w e
 
 -- ---- an answer that looked at none
 pub unexplained : (q : Question) (a : Asked) → Answers q (ask.told a) → has_nodes a ≡ false → Explains q (blank (of_answer a))
-unexplained q (A.Tecu v) x e = absurd (let z : ◌≡◌ {A = ℕ} 0 1 = cc in omega arith)
-unexplained q (A.Km v) x e = absurd (let z : ◌≡◌ {A = ℕ} 0 1 = cc in omega arith)
-unexplained q (A.Refused w) x e = record { answers = x; beside = (other_22 w e, record { count = refl; denominator = refl; listed = refl }) }
+unexplained q (Ok v) x e = absurd (let z : ◌≡◌ {A = ℕ} 0 1 = cc in omega arith)
+unexplained q (Err w) x e = record { answers = x; beside = (other_22 w e, record { count = refl; denominator = refl; listed = refl }) }
 
 -- ---- the denominator
 gap_of : (q : Question) → Sound q.header q.texts q.areas → (h : Shares) → Uses (epochs q) q.second (in_time q.method) h → Gap q (h.early + h.late)
@@ -97,7 +94,7 @@ gap_of q sound h (time.last i e l p) = last e (p ∙ last_is q sound i l)
 abbrev collect_of : Question → List Weighed → Listing
 collect_of q ns = collect (shape q) (area (kind_of q.kind) q.areas) q.areas.exponents q.areas.marks none_listed ns
 
-abbrev first_of : Question → List Weighed → First
+abbrev first_of : Question → List Weighed → Maybe Lacking
 first_of q ns = first (shape q) (area (kind_of q.kind) q.areas) q.areas.exponents q.areas.marks ns
 
 pub length_listed : (q : Question) (ns : List Weighed) → length (map (listed q) ns) ≡ length ns
@@ -162,8 +159,7 @@ module _ (q : Question) (sound : Sound q.header q.texts q.areas) (h : Shares) (u
       })
 
   pub explains : (a : Asked) → Answers q (ask.told a) → has_nodes a ≡ true → Explains q (explained_by a h c d (shape q) (area (kind_of q.kind) q.areas) q.areas.exponents q.areas.marks)
-  explains (A.Tecu v) y e = record { answers = y; beside = lists (E.Tecu v) }
-  explains (A.Km v) y e = record { answers = y; beside = lists (E.Km v) }
-  explains (A.Refused w) y e =
+  explains (Ok v) y e = record { answers = y; beside = lists (Ok v) }
+  explains (Err w) y e =
       let t = looks_22 w e in
       lacking (lacks_value (refused (number w)) (ap refused t) (opened q (refused (number w)) y t).blended) (rw t at y) w

@@ -1,5 +1,5 @@
 -- 02, 'Why this number?': where an answer came from.
-use Rattle.std.specs.Prelude.{◌≡◌, List, [], ◌∷◌, ◌++◌, map, ℕ, ◌+◌, ◌-◌, ◌*◌, ◌≤◌, ◌<◌, ℤ, pos, negsuc, nat_abs, length, get_or, replicate}
+use Rattle.std.specs.Prelude.{◌≡◌, List, [], ◌∷◌, ◌++◌, map, ℕ, ◌+◌, ◌-◌, ◌*◌, ◌≤◌, ◌<◌, ℤ, pos, negsuc, nat_abs, length, get_or, replicate, Result, Ok, Err, None}
 use Rattle.std.proofs.Math.Option.{Option}
 use Rattle.std.proofs.Math.Decide.{ℕ_discrete}
 use Rattle.kit.specs.Answer.{All, pick}
@@ -10,16 +10,17 @@ use Rattle.ask_spans.specs.Time.{epoch}
 use Rattle.ask_nodes.specs.Value.{kind_of, number_at, exponent_at, value}
 use Rattle.ask_nodes.specs.Units.{in_node}
 use Rattle.ask_nodes.specs.declared.Weighed.{Weighed}
-use Rattle.ask_nodes.specs.declared.Node.TheVariants as N
+use Rattle.ask_nodes.specs.declared.Value.{Value}
 use Rattle.ask_sums.specs.Mean.{IsSome}
 use Rattle.ask.specs.Sun.{in_time, unit_of}
-use Rattle.ask.specs.Ask.{Question, Told, tecu, km, refused, epochs, Weighs, area, shape, Answers, number}
+use Rattle.ask.specs.Ask as ask
+use Rattle.ask.specs.Ask.{Question, Told, refused, epochs, Weighs, area, shape, Answers, number}
 use Rattle.ask_why.specs.declared.Needed.{Needed}
 use Rattle.ask_why.specs.declared.Cause.{Cause}
 use Rattle.ask_why.specs.declared.Cause.TheVariants as C
 use Rattle.ask_why.specs.declared.Lacking.{Lacking}
-use Rattle.ask_why.specs.declared.Explained.{Explained}
-use Rattle.ask_why.specs.declared.Explained.TheVariants as E
+use Rattle.ask_why.specs.declared.Unanswered.{Unanswered}
+use Rattle.ask_why.specs.declared.Unanswered.TheVariants as U
 use Rattle.ask_why.specs.declared.Explanation.{Explanation}
 
 -- ---- each needed node, with its map, layer, row, column, value and weight
@@ -39,7 +40,7 @@ listed q n = record { map = n.map + 1; layer = q.layer; row = n.row; column = n.
 
 -- what stands in a place that no node takes
 abbrev pub filler : Needed
-filler = record { map = 0; layer = 0; row = 0; column = 0; value = N.Nothing; weight = 0 }
+filler = record { map = 0; layer = 0; row = 0; column = 0; value = None; weight = 0 }
 
 -- eight places
 abbrev pub places : List Needed → List Needed
@@ -93,11 +94,13 @@ pub record FirstLacking (q : Question) (l : Lacking) : Type 0 where
 -- ---- the answer is the question's own, and beside it stands where it came from
 
 -- thousandths of a TECU or of a kilometre, or 01's number of a refusal
+abbrev pub Explained : Type 0
+Explained = Result Value Unanswered
+
 abbrev pub told : Explained → Told
-told (E.Tecu v) = tecu v.0
-told (E.Km v) = km v.0
-told (E.Lacks l) = refused 22
-told (E.Refused w) = refused (number w)
+told (Ok v) = ask.told (Ok v)
+told (Err (U.Lacks l)) = refused 22
+told (Err (U.Refused w)) = refused (number w)
 
 pub record Lists (q : Question) (e : Explanation) : Type 0 where
   pub nodes : List Weighed
@@ -113,10 +116,9 @@ pub record ListsNothing (e : Explanation) : Type 0 where
 
 -- nodes where there is a value; 22 with its node, every other refusal alone
 abbrev pub Beside : Question → Explanation → Explained → Type 0
-Beside q e (E.Tecu v) = Lists q e
-Beside q e (E.Km v) = Lists q e
-Beside q e (E.Lacks l) = FirstLacking q l × ListsNothing e
-Beside q e (E.Refused w) = (¬ (number w ≡ 22)) × ListsNothing e
+Beside q e (Ok v) = Lists q e
+Beside q e (Err (U.Lacks l)) = FirstLacking q l × ListsNothing e
+Beside q e (Err (U.Refused w)) = (¬ (number w ≡ 22)) × ListsNothing e
 
 pub record Explains (q : Question) (e : Explanation) : Type 0 where
   pub answers : Answers q (told e.answer)

@@ -1,5 +1,5 @@
 -- What the parts of an explanation answer: the nodes one by one.
-use Rattle.std.specs.Prelude.{Bool, true, false, List, [], ◌∷◌, ℕ, ◌+◌, ◌*◌, ◌≤◌, ℤ, pos, negsuc, get_or, set, replicate}
+use Rattle.std.specs.Prelude.{Bool, true, false, List, [], ◌∷◌, ℕ, ◌+◌, ◌*◌, ◌≤◌, ℤ, pos, negsuc, get_or, set, replicate, Option as Maybe, Some, None, Ok, Err}
 use Rattle.std.proofs.Math.Option.{Option, none, some}
 use Rattle.std.proofs.Math.Decide.{ℕ_discrete}
 use Rattle.kit.specs.Answer.{pick}
@@ -12,23 +12,19 @@ use Rattle.ask_nodes.specs.Value.{kind_of, number_at, exponent_at, value}
 use Rattle.ask_nodes.specs.Units.{in_node}
 use Rattle.ask_nodes.specs.declared.Weighed.{Weighed}
 use Rattle.ask_nodes.specs.declared.Shape.{Shape}
-use Rattle.ask_nodes.specs.declared.Node.{Node}
+use Rattle.ask_nodes.specs.declared.Value.{Value}
 use Rattle.ask_sums.specs.Mean.{spread}
 use Rattle.ask_sums.specs.Sums.{Summable}
 use Rattle.ask.specs.declared.Why.{Why}
 use Rattle.ask.specs.declared.Why.TheVariants as W
-use Rattle.ask.specs.declared.Asked.{Asked}
-use Rattle.ask.specs.declared.Asked.TheVariants as A
-use Rattle.ask_why.specs.Explain.{filler}
+use Rattle.ask.specs.Ask.{Asked}
+use Rattle.ask_why.specs.Explain.{filler, Explained}
 use Rattle.ask_why.specs.declared.Needed.{Needed}
 use Rattle.ask_why.specs.declared.nodes.Listing.{Listing}
 use Rattle.ask_why.specs.declared.Cause.{Cause}
 use Rattle.ask_why.specs.declared.Cause.TheVariants as C
 use Rattle.ask_why.specs.declared.Lacking.{Lacking}
-use Rattle.ask_why.specs.declared.causes.First.{First}
-use Rattle.ask_why.specs.declared.causes.First.TheVariants as F
-use Rattle.ask_why.specs.declared.Explained.{Explained}
-use Rattle.ask_why.specs.declared.Explained.TheVariants as E
+use Rattle.ask_why.specs.declared.Unanswered.TheVariants as U
 use Rattle.ask_why.specs.declared.Explanation.{Explanation}
 
 -- two maps whose nodes can be listed
@@ -37,7 +33,7 @@ pub record Listable (values exponents : List ℤ) (marks : List ℕ) (s : Shape)
   pub span : h.early + h.late ≤ 21600
 
 -- ---- a node of a listing
-abbrev pub node_with : Weighed → ℕ → Node → Needed
+abbrev pub node_with : Weighed → ℕ → Maybe Value → Needed
 node_with n layer v = record { map = n.map + 1; layer = layer; row = n.row; column = n.column; value = v; weight = n.weight }
 
 abbrev pub put : Listing → Needed → Listing
@@ -59,13 +55,13 @@ abbrev pub lack_with : Weighed → ℕ → Cause → Lacking
 lack_with n layer c = record { map = n.map + 1; layer = layer; row = n.row; column = n.column; cause = c }
 
 -- a node that has no value is the first found
-abbrev pub found : Option ℤ → Lacking → First
-found none l = F.At l
-found (some v) l = F.Nowhere
+abbrev pub found : Option ℤ → Lacking → Maybe Lacking
+found none l = Some l
+found (some v) l = None
 
-abbrev pub or_else : First → First → First
-or_else (F.At l) f = F.At l
-or_else F.Nowhere f = f
+abbrev pub or_else : Maybe Lacking → Maybe Lacking → Maybe Lacking
+or_else (Some l) f = Some l
+or_else None f = f
 
 module _ (s : Shape) (vs ks : List ℤ) (ms : List ℕ) where
   unfoldable pub add : Listing → Weighed → Listing
@@ -79,11 +75,11 @@ module _ (s : Shape) (vs ks : List ℤ) (ms : List ℕ) where
   cause n = cause_of (kind_of s.kind) (get_or ms n.map 0) (get_or vs (number_at s n) (pos 0)) (get_or ks (exponent_at s n) (pos 0))
 
   -- where it is needed
-  unfoldable pub lacks : Weighed → First
-  lacks n = pick (ℕ_discrete n.weight 0) F.Nowhere (found (value s vs ks ms n) (lack_with n s.layer (cause n)))
+  unfoldable pub lacks : Weighed → Maybe Lacking
+  lacks n = pick (ℕ_discrete n.weight 0) None (found (value s vs ks ms n) (lack_with n s.layer (cause n)))
 
-  unfoldable pub first : List Weighed → First
-  first [] = F.Nowhere
+  unfoldable pub first : List Weighed → Maybe Lacking
+  first [] = None
   first (n ∷ ns) = or_else (lacks n) (first ns)
 
 -- ---- the explanation of an answer
@@ -94,19 +90,17 @@ blank a = record { answer = a; count = 0; denominator = 0; nodes = replicate 8 f
 abbrev pub with_nodes : Explained → ℕ → Listing → Explanation
 with_nodes a d l = record { answer = a; count = l.count; denominator = d; nodes = l.nodes }
 
-abbrev pub without : Why → First → Explanation
-without w (F.At l) = blank (E.Lacks l)
-without w F.Nowhere = blank (E.Refused w)
+abbrev pub without : Why → Maybe Lacking → Explanation
+without w (Some l) = blank (Err (U.Lacks l))
+without w None = blank (Err (U.Refused w))
 
 abbrev pub of_answer : Asked → Explained
-of_answer (A.Tecu v) = E.Tecu v
-of_answer (A.Km v) = E.Km v
-of_answer (A.Refused w) = E.Refused w
+of_answer (Ok v) = Ok v
+of_answer (Err w) = Err (U.Refused w)
 
-abbrev pub explained : Asked → ℕ → Listing → First → Explanation
-explained (A.Tecu v) d l f = with_nodes (E.Tecu v) d l
-explained (A.Km v) d l f = with_nodes (E.Km v) d l
-explained (A.Refused w) d l f = without w f
+abbrev pub explained : Asked → ℕ → Listing → Maybe Lacking → Explanation
+explained (Ok v) d l f = with_nodes (Ok v) d l
+explained (Err w) d l f = without w f
 
 abbrev pub denominator : Shares → Cell → ℕ
 denominator h c = (h.early + h.late) * (c.tall * c.wide)
@@ -125,6 +119,5 @@ is_22 W.OutOfPlace = false
 is_22 W.NoValue = true
 
 abbrev pub has_nodes : Asked → Bool
-has_nodes (A.Tecu v) = true
-has_nodes (A.Km v) = true
-has_nodes (A.Refused w) = is_22 w
+has_nodes (Ok v) = true
+has_nodes (Err w) = is_22 w

@@ -8,14 +8,8 @@ ghost use Rattle.ask_why.specs.Parts.{plain_cause, lack_with, lacks};
 
 use super::{Cause, Lacking};
 use ask_cells::Cell;
-use ask_nodes::{Node, Shape, Weighed};
+use ask_nodes::{Shape, Weighed};
 use ask_spans::Shares;
-
-#[derive(Clone, Copy)]
-pub enum First {
-    At(Lacking),
-    Nowhere,
-}
 
 // Why a number under an exponent is no value: the exponent first.
 fn cause_of(v: i32, k: i32) -> Cause
@@ -59,18 +53,17 @@ fn named(n: Weighed, layer: u64, cause: Cause) -> Lacking
     }
 }
 
-// Whether a node is needed and has no value.
-fn look(n: Weighed, s: Shape, values: &[i32], exponents: &[i32], marks: &[u8]) -> First
+// A node that is needed and has no value.
+fn look(n: Weighed, s: Shape, values: &[i32], exponents: &[i32], marks: &[u8]) -> Option<Lacking>
     requires { (n.map ≤ 1001) × Reaches values.now exponents.now marks.now s n }
     ensures { result ≡ lacks s values.now exponents.now marks.now n }
 {
     if n.weight == 0 {
-        return First::Nowhere;
+        return None;
     }
     match ask_nodes::node_at(n, s, values, exponents, marks) {
-        Node::Tecu(v) => First::Nowhere,
-        Node::Km(v) => First::Nowhere,
-        Node::Nothing => First::At(named(n, s.layer, cause_at(n, s, values, exponents, marks))),
+        Some(_) => None,
+        None => Some(named(n, s.layer, cause_at(n, s, values, exponents, marks))),
     }
 }
 
@@ -83,20 +76,15 @@ pub fn find(
     values: &[i32],
     exponents: &[i32],
     marks: &[u8],
-) -> First
+) -> Option<Lacking>
     requires { Summable values.now exponents.now marks.now s shares first second }
     ensures { result ≡ parts.first s values.now exponents.now marks.now (spread shares first second) }
 {
-    let mut k: u64 = 0;
-    while k < 8 {
+    for k in 0..8 {
         let n = ask_sums::nth_node(shares, first, second, k);
-        match look(n, s, values, exponents, marks) {
-            First::At(l) => {
-                return First::At(l);
-            }
-            First::Nowhere => {}
+        if let Some(l) = look(n, s, values, exponents, marks) {
+            return Some(l);
         }
-        k += 1;
     }
-    First::Nowhere
+    None
 }

@@ -5,19 +5,15 @@ ghost use Rattle.std.specs.Prelude.{◌≡◌, ◌+◌, ◌≤◌};
 ghost use Rattle.mapset.specs.Described.{full};
 ghost use Rattle.mapset.specs.Areas.{six};
 ghost use Rattle.ask.specs.Ask.{question};
-ghost use Rattle.ask.specs.Looked.{asked_values};
 ghost use Rattle.ask_why.specs.Explain.{Explains};
 ghost use Rattle.ask_why.specs.Parts as parts;
 ghost use Rattle.ask_why.specs.Parts.{Listable, of_answer, without, explained_by, has_nodes};
 
-use ask::sun::Pair;
-use ask::{Asked, sun};
-pub use ask::{MilliKm, MilliTecu, Why};
+use ask::sun;
+pub use ask::{MilliKm, MilliTecu, Value, Why};
 use ask_cells::Cell;
-pub use ask_nodes::Node;
 use ask_nodes::Shape;
 use ask_spans::Shares;
-use causes::First;
 use mapset::{Header, Texts};
 
 mod causes;
@@ -30,7 +26,7 @@ pub struct Needed {
     pub layer: u64,
     pub row: u64,
     pub column: u64,
-    pub value: Node,
+    pub value: Option<Value>,
     pub weight: u64,
 }
 
@@ -53,11 +49,9 @@ pub struct Lacking {
     pub cause: Cause,
 }
 
-// The answer of the question; 22 with its node.
+// Why a question has no value: 22 with its node, or another reason.
 #[derive(Clone, Copy)]
-pub enum Explained {
-    Tecu(MilliTecu),
-    Km(MilliKm),
+pub enum Unanswered {
     Lacks(Lacking),
     Refused(Why),
 }
@@ -65,14 +59,14 @@ pub enum Explained {
 // The answer, the number of nodes that were needed, the common denominator of their weights, and the nodes, behind them fillers.
 #[derive(Clone, Copy)]
 pub struct Explanation {
-    pub answer: Explained,
+    pub answer: Result<Value, Unanswered>,
     pub count: u64,
     pub denominator: u64,
     pub nodes: [Needed; 8],
 }
 
 // An answer without nodes.
-fn blank(answer: Explained) -> Explanation
+fn blank(answer: Result<Value, Unanswered>) -> Explanation
     ensures { result ≡ parts.blank answer }
 {
     Explanation {
@@ -83,37 +77,22 @@ fn blank(answer: Explained) -> Explanation
     }
 }
 
-fn answer_of(asked: Asked) -> Explained
+fn answer_of(asked: Result<Value, Why>) -> Result<Value, Unanswered>
     ensures { result ≡ of_answer asked }
 {
     match asked {
-        Asked::Tecu(v) => Explained::Tecu(v),
-        Asked::Km(v) => Explained::Km(v),
-        Asked::Refused(why) => Explained::Refused(why),
-    }
-}
-
-fn is_no_value(why: Why) -> bool
-    ensures { result ≡ parts.is_22 why }
-{
-    match why {
-        Why::Unknown => false,
-        Why::Unsound => false,
-        Why::Unserved => false,
-        Why::OutOfTime => false,
-        Why::OutOfPlace => false,
-        Why::NoValue => true,
+        Ok(value) => Ok(value),
+        Err(why) => Err(Unanswered::Refused(why)),
     }
 }
 
 // Whether nodes were looked at.
-fn looked(asked: Asked) -> bool
+fn looked(asked: Result<Value, Why>) -> bool
     ensures { result ≡ has_nodes asked }
 {
     match asked {
-        Asked::Tecu(v) => true,
-        Asked::Km(v) => true,
-        Asked::Refused(why) => is_no_value(why),
+        Ok(_) => true,
+        Err(why) => why == Why::NoValue,
     }
 }
 
@@ -125,19 +104,19 @@ fn denominator_of(shares: Shares, c: Cell) -> u64
     (shares.early + shares.late) * (c.tall * c.wide)
 }
 
-fn without(why: Why, first: First) -> Explanation
+fn without(why: Why, first: Option<Lacking>) -> Explanation
     ensures { result ≡ parts.without why first }
 {
-    let answer = match first {
-        First::At(l) => Explained::Lacks(l),
-        First::Nowhere => Explained::Refused(why),
+    let reason = match first {
+        Some(l) => Unanswered::Lacks(l),
+        None => Unanswered::Refused(why),
     };
-    blank(answer)
+    blank(Err(reason))
 }
 
 // The nodes beside an answer, in the area of its kind.
 fn explain_in(
-    asked: Asked,
+    asked: Result<Value, Why>,
     shares: Shares,
     first: Cell,
     second: Cell,
@@ -149,7 +128,7 @@ fn explain_in(
     requires { Listable values.now exponents.now marks.now s shares first second }
     ensures { result ≡ explained_by asked shares first second s values.now exponents.now marks.now }
 {
-    if let Asked::Refused(why) = asked {
+    if let Err(why) = asked {
         return without(
             why,
             causes::find(shares, first, second, s, values, exponents, marks),
@@ -160,30 +139,6 @@ fn explain_in(
         denominator_of(shares, first),
         nodes::list(shares, first, second, s, values, exponents, marks),
     )
-}
-
-fn explain_kind(
-    asked: Asked,
-    shares: Shares,
-    first: Cell,
-    second: Cell,
-    s: Shape,
-    tec: &[i32],
-    rms: &[i32],
-    height: &[i32],
-    exponents: &[i32],
-    marks: &[u8],
-) -> Explanation
-    requires { Listable (asked_values s tec.now rms.now height.now) exponents.now marks.now s shares first second }
-    ensures { result ≡ explained_by asked shares first second s (asked_values s tec.now rms.now height.now) exponents.now marks.now }
-{
-    if s.kind == 0 {
-        return explain_in(asked, shares, first, second, s, tec, exponents, marks);
-    }
-    if s.kind == 1 {
-        return explain_in(asked, shares, first, second, s, rms, exponents, marks);
-    }
-    explain_in(asked, shares, first, second, s, height, exponents, marks)
 }
 
 pub fn explain(
@@ -227,22 +182,14 @@ pub fn explain(
     if !looked(asked) {
         return blank(answer_of(asked));
     }
-    let maps = header.times.maps as usize;
     let s = ask::shape_of(header, kind, layer);
     let gap = ask_spans::mean_gap(header.times.first, header.times.last, header.times.maps);
-    let shares = ask_spans::shares_of(&epochs[..maps], second, sun::maps_by(method), gap);
-    match sun::cells_at(
-        header.grid,
-        method,
-        lat,
-        lon,
-        second,
-        shares,
-        &epochs[..maps],
-    ) {
-        Pair::Outside => blank(Explained::Refused(Why::OutOfPlace)),
-        Pair::Of(first, other) => explain_kind(
-            asked, shares, first, other, s, tec, rms, height, exponents, marks,
-        ),
-    }
+    let epochs = &epochs[..header.times.maps as usize];
+    let shares = ask_spans::shares_of(epochs, second, sun::maps_by(method), gap);
+    let Some((first, other)) = sun::cells_at(header.grid, method, lat, lon, second, shares, epochs)
+    else {
+        return blank(Err(Unanswered::Refused(Why::OutOfPlace)));
+    };
+    let values = ask::values_of(s, tec, rms, height);
+    explain_in(asked, shares, first, other, s, values, exponents, marks)
 }

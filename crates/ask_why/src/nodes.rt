@@ -6,12 +6,12 @@ ghost use Rattle.ask_why.specs.Explain as explain;
 ghost use Rattle.ask_why.specs.Parts as parts;
 ghost use Rattle.ask_why.specs.Parts.{node_with, none_listed, collect, with_nodes};
 
-use super::{Explained, Explanation, Needed};
+use super::{Explanation, Needed, Unanswered};
 use ask_cells::Cell;
-use ask_nodes::{Node, Shape, Weighed};
+use ask_nodes::{Shape, Value, Weighed};
 use ask_spans::Shares;
 
-// So many nodes, and fillers behind them.
+// So many nodes, and fillers behind them: at most eight, in fixed memory, since there is no heap.
 #[derive(Clone, Copy)]
 pub struct Listing {
     pub count: u64,
@@ -26,7 +26,7 @@ pub fn filler() -> Needed
         layer: 0,
         row: 0,
         column: 0,
-        value: Node::Nothing,
+        value: None,
         weight: 0,
     }
 }
@@ -41,7 +41,7 @@ fn empty() -> Listing
 }
 
 // A node as it is listed: maps count from 1.
-fn listed(n: Weighed, layer: u64, value: Node) -> Needed
+fn listed(n: Weighed, layer: u64, value: Option<Value>) -> Needed
     requires { n.map ≤ 1001 }
     ensures { result ≡ node_with n layer value }
 {
@@ -97,8 +97,7 @@ pub fn list(
     ensures { result ≡ collect s values.now exponents.now marks.now none_listed (spread shares first second) }
 {
     let mut l = empty();
-    let mut k: u64 = 0;
-    while k < 8 {
+    for k in 0..8 {
         add(
             &mut l,
             ask_sums::nth_node(shares, first, second, k),
@@ -107,13 +106,12 @@ pub fn list(
             exponents,
             marks,
         );
-        k += 1;
     }
     l
 }
 
 // An answer with the nodes that it came from.
-pub fn beside(answer: Explained, denominator: u64, l: Listing) -> Explanation
+pub fn beside(answer: Result<Value, Unanswered>, denominator: u64, l: Listing) -> Explanation
     ensures { result ≡ with_nodes answer denominator l }
 {
     let nodes = l.nodes;

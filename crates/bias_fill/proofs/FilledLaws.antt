@@ -1,15 +1,18 @@
 -- One row stored; and what is gathered is what is stored.
 use mathlib.Core.Path.{◌≡◌, refl, sym, ap, ◌∙◌}
-use mathlib.Core.Bool.{Bool, true, false}
-use mathlib.Core.List.{List}
-use Prim.Native.Nat.{ℕ, suc, ◌+◌, ◌-◌, ◌*◌, ◌≤◌, ◌<◌}
+use Rattle.std.specs.Prelude.{Some}
+use borrow.Rule.Slice.PartMut.{put_mid}
+use mathlib.Core.List.{List, append_assoc}
+use Prim.Native.Nat.{ℕ, ◌+◌, ◌-◌, ◌*◌, ◌≤◌}
 use native.Mathlib.Omega.{arith}
 use lib.ListN.{length, length-append}
 use lib.IntN.{ℤ}
-use lib.Seq.{sets, length-sets}
+use lib.Seq.{sets, sets-eq, length-sets, drop-drop}
 use Rattle.kit.specs.Answer.{Answer, ok, refused}
 use Rattle.kit.proofs.AnswerLaws.{Yields, y_ok, y_no, yields, bind_yields, amap_yields, yields_map}
-use Rattle.reading.specs.Feed.{Fault, on_line, Feed, over as ends, bad, row, NoRow}
+use Rattle.reading.specs.declared.Fault.{Fault}
+use Rattle.reading.specs.declared.Why.{Why}
+use Rattle.reading.specs.Feed.{on_line, Feed, over as ends, bad, row, NoRow}
 use Rattle.reading.specs.Maps.{short}
 use Rattle.biases.specs.Biases.{Biases, nothing, one_satellite, one_station}
 use Rattle.biases.specs.Read.{role, satellite_of, station_of, same_satellite?, same_station?, new_satellite, new_station, on_role, gather}
@@ -25,7 +28,7 @@ use Rattle.c_header.proofs.SetLaws.{sets_append, sets_front}
 use Rattle.bias_scan.specs.Walk.{with_satellite, with_station}
 use Rattle.bias_scan.specs.Turns.{from, Halts, OnRow}
 use Rattle.bias_fill.specs.Flat.{Lent, lent, four, three, of_satellites, of_stations, names_of, flat, in_front}
-use Rattle.bias_fill.specs.Filled.{told_role, told, one, fours, threes, named, stored, Fits, past, rest, Enough, BiasRoom, Fills, Stays, left}
+use Rattle.bias_fill.specs.Filled.{told_role, told, one, fours, threes, named, stored, Fits, past, rest, Enough, BiasRoom, Fills, Stays}
 use Rattle.bias_fill.specs.declared.Fill.{Fill}
 
 -- ---- one record more
@@ -117,7 +120,7 @@ gathered_told f g p b e = yields _ (gather_told f g p) e
 -- ---- one row
 
 module _ (t : List ℕ) (f : Fill) (l : Lent) (z : BiasRoom t f l) where
-  none_told : (x : Feed) → NoRow x → told f.place x ≡ nothing
+  none_told : (x : Feed) → NoRow x → told f.cursor.place x ≡ nothing
   unfolding told
   none_told (ends n) h = refl
   none_told (bad w) h = refl
@@ -126,19 +129,19 @@ module _ (t : List ℕ) (f : Fill) (l : Lent) (z : BiasRoom t f l) where
   nothing_left : rest t f ≡ nothing → l ≡ stored (rest t f) f.satellites f.stations l
   nothing_left e = ap (λ (b : Biases). stored b f.satellites f.stations l) (sym e)
 
-  pub halted : (k m c : ℕ) → Halts t f.at f.lines f.place k m c → l ≡ stored (rest t f) f.satellites f.stations l
-  halted k m c h = nothing_left (none_told (from t f.at f.lines) h.none)
+  pub halted : (w : Why) → Halts t f.cursor.at f.cursor.lines f.cursor.place w → l ≡ stored (rest t f) f.satellites f.stations l
+  halted w h = nothing_left (none_told (from t f.cursor.at f.cursor.lines) h.none)
 
   module _ (r : List ℕ) (next n : ℕ) where
-    told_on : (x : Role) → OnRow t f.at f.lines f.place r next n x → rest t f ≡ told_role f.place r (λ q. told q (from t next n)) x
+    told_on : (x : Role) → OnRow t f.cursor.at f.cursor.lines f.cursor.place r next n x → rest t f ≡ told_role f.cursor.place r (λ q. told q (from t next n)) x
     unfolding told
-    told_on x o = ap (told f.place) o.on ∙ rw o.is refl
+    told_on x o = ap (told f.cursor.place) o.on ∙ rw o.is refl
 
-    pub ended : OnRow t f.at f.lines f.place r next n Last → l ≡ stored (rest t f) f.satellites f.stations l
+    pub ended : OnRow t f.cursor.at f.cursor.lines f.cursor.place r next n Last → l ≡ stored (rest t f) f.satellites f.stations l
     unfolding told_role
     ended o = nothing_left (told_on Last o)
 
-    pub skipped : (q : Place) → OnRow t f.at f.lines f.place r next n (Skipped q) → Fills t f l false (past q next n f.satellites f.stations) l
+    pub skipped : (q : Place) → OnRow t f.cursor.at f.cursor.lines f.cursor.place r next n (Skipped q) → Fills t f l (Some (past q next n f.satellites f.stations)) l
     unfolding told_role
     skipped q o =
         let e = told_on (Skipped q) o in (
@@ -148,16 +151,16 @@ module _ (t : List ℕ) (f : Fill) (l : Lent) (z : BiasRoom t f l) where
         )
 
     -- the room of a row's record
-    pub satellite_fit : OnRow t f.at f.lines f.place r next n OfSatellite → 4 * f.satellites + length (fours (satellite_of r)) ≤ length l.satellites
+    pub satellite_fit : OnRow t f.cursor.at f.cursor.lines f.cursor.place r next n OfSatellite → 4 * f.satellites + length (fours (satellite_of r)) ≤ length l.satellites
     unfolding told_role
-    satellite_fit o = satellite_room (told f.place (from t next n)) f.satellites f.stations l (satellite_of r) (rw (told_on OfSatellite o) at z.fits)
+    satellite_fit o = satellite_room (told f.cursor.place (from t next n)) f.satellites f.stations l (satellite_of r) (rw (told_on OfSatellite o) at z.fits)
 
-    pub satellite_filled : OnRow t f.at f.lines f.place r next n OfSatellite → (k : ℕ) (xs : List ℤ) → k ≡ f.satellites + one (satellite_of r)
+    pub satellite_filled : OnRow t f.cursor.at f.cursor.lines f.cursor.place r next n OfSatellite → (k : ℕ) (xs : List ℤ) → k ≡ f.satellites + one (satellite_of r)
         → xs ≡ sets l.satellites (4 * f.satellites) (fours (satellite_of r))
-        → Fills t f l false (past f.place next n k f.stations) (lent xs l.stations l.names)
+        → Fills t f l (Some (past f.cursor.place next n k f.stations)) (lent xs l.stations l.names)
     unfolding told_role
     satellite_filled o k xs ek ex =
-        let b = told f.place (from t next n) in
+        let b = told f.cursor.place (from t next n) in
         let e = told_on OfSatellite o in
         let h = satellite_fits b f.satellites f.stations l (satellite_of r) (rw e at z.fits) in
         let s = satellite_stored b f.satellites f.stations l (satellite_of r) in
@@ -167,18 +170,18 @@ module _ (t : List ℕ) (f : Fill) (l : Lent) (z : BiasRoom t f l) where
           o.ahead,
         )
 
-    pub station_fit : OnRow t f.at f.lines f.place r next n OfStation
+    pub station_fit : OnRow t f.cursor.at f.cursor.lines f.cursor.place r next n OfStation
         → (3 * f.stations + length (threes (station_of r)) ≤ length l.stations) × (20 * f.stations + length (named (station_of r)) ≤ length l.names)
     unfolding told_role
-    station_fit o = station_room (told f.place (from t next n)) f.satellites f.stations l (station_of r) (rw (told_on OfStation o) at z.fits)
+    station_fit o = station_room (told f.cursor.place (from t next n)) f.satellites f.stations l (station_of r) (rw (told_on OfStation o) at z.fits)
 
-    pub station_filled : OnRow t f.at f.lines f.place r next n OfStation → length (named (station_of r)) ≡ 20 * one (station_of r)
+    pub station_filled : OnRow t f.cursor.at f.cursor.lines f.cursor.place r next n OfStation → length (named (station_of r)) ≡ 20 * one (station_of r)
         → (k : ℕ) (xs : List ℤ) (ys : List ℕ) → k ≡ f.stations + one (station_of r)
         → xs ≡ sets l.stations (3 * f.stations) (threes (station_of r)) → ys ≡ sets l.names (20 * f.stations) (named (station_of r))
-        → Fills t f l false (past f.place next n f.satellites k) (lent l.satellites xs ys)
+        → Fills t f l (Some (past f.cursor.place next n f.satellites k)) (lent l.satellites xs ys)
     unfolding told_role
     station_filled o len k xs ys ek ex ey =
-        let b = told f.place (from t next n) in
+        let b = told f.cursor.place (from t next n) in
         let e = told_on OfStation o in
         let h = station_fits b f.satellites f.stations l (station_of r) len (rw e at z.fits) in
         let s = station_stored b f.satellites f.stations l (station_of r) len in
@@ -198,14 +201,12 @@ in_front_is b l h =
 
 -- ---- from row to row
 
-pub starts : (t : List ℕ) (l : Lent) → Enough t l → Stays t l (past Outside 0 0 0 0) l false
+pub starts : (t : List ℕ) (l : Lent) → Enough t l → Stays t l (past Outside 0 0 0 0) l
 starts t l h = (record { within = omega arith; lines = omega arith; fits = h }, refl)
 
-module _ (t : List ℕ) (l₀ l l' : Lent) (f f' : Fill) (z : Stays t l₀ f l false) where
-  pub goes_on : (b : Bool) → Fills t f l b f' l' → Stays t l₀ f' l' b
-  goes_on true h = h ∙ z.1
-  goes_on false h = (h.0, h.1 ∙ z.1)
+-- ---- a part of an area, written at once
 
-  pub comes_nearer : (b : Bool) → Fills t f l b f' l' → left t f' b < suc (length t - f.at)
-  comes_nearer true h = omega arith
-  comes_nearer false h = omega (arith, h.2, h.0.within)
+pub mid_sets : {A : Type 0} (l ys xs : List A) (at k : ℕ) → k ≡ length ys → at + k ≤ length l → xs ≡ ys → put_mid at (at + k - at) l xs ≡ sets l at ys
+mid_sets l ys xs at k z h e =
+    let j : at + k - at ≡ length ys = omega arith in
+    rw (e, j, sets-eq ys l at (omega arith), drop-drop (length ys) at l, append_assoc)

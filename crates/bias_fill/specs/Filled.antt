@@ -1,9 +1,10 @@
 -- What the rows of a header give, whether or not they are at fault, and the scan that stores it.
-use Rattle.std.specs.Prelude.{◌≡◌, Bool, true, false, List, [], ℕ, suc, ◌+◌, ◌-◌, ◌*◌, ◌≤◌, ◌<◌, length, ℤ}
+use Rattle.std.specs.Prelude.{◌≡◌, List, [], ℕ, ◌+◌, ◌*◌, ◌≤◌, ◌<◌, length, ℤ, Option, Some, None}
 use Rattle.std.proofs.lemmas.List.Edits.{sets}
 use Rattle.kit.specs.Answer.{Answer, ok, refused}
 use Rattle.layout.specs.Text.{pad}
-use Rattle.reading.specs.Feed.{Fault, Feed, over as ends, bad, row}
+use Rattle.reading.specs.declared.Fault.{Fault}
+use Rattle.reading.specs.Feed.{Feed, over as ends, bad, row}
 use Rattle.biases.specs.Biases.{Biases, nothing}
 use Rattle.biases.specs.Read.{role, satellite_of, station_of}
 use Rattle.biases.specs.declared.Satellite.{Satellite}
@@ -13,7 +14,7 @@ use Rattle.biases.specs.declared.Place.TheVariants.{Outside}
 use Rattle.biases.specs.declared.Role.{Role}
 use Rattle.biases.specs.declared.Role.TheVariants.{Last, Skipped, OfSatellite, OfStation}
 use Rattle.bias_scan.specs.Walk.{with_satellite, with_station, first}
-use Rattle.bias_scan.specs.Turns.{from}
+use Rattle.bias_scan.specs.Turns.{from, cursor}
 use Rattle.bias_fill.specs.Flat.{Lent, lent, four, three, of_satellites, of_stations, names_of}
 use Rattle.bias_fill.specs.declared.Fill.{Fill}
 
@@ -91,31 +92,22 @@ Enough t l = Fits (told Outside (first t)) 0 0 l
 -- ---- where the scan stands
 
 abbrev pub past : Place → ℕ → ℕ → ℕ → ℕ → Fill
-past p next n ns nt = record { place = p; at = next; lines = n; satellites = ns; stations = nt; done = false }
-
-abbrev pub over : Fill → Fill
-over f = record { place = f.place; at = f.at; lines = f.lines; satellites = f.satellites; stations = f.stations; done = true }
+past p next n ns nt = record { cursor = cursor p next n; satellites = ns; stations = nt }
 
 -- what the rows to come give
 abbrev pub rest : List ℕ → Fill → Biases
-rest t f = told f.place (from t f.at f.lines)
+rest t f = told f.cursor.place (from t f.cursor.at f.cursor.lines)
 
 pub record BiasRoom (t : List ℕ) (f : Fill) (l : Lent) : Type 0 where
-  pub within : f.at ≤ length t
-  pub lines : f.lines ≤ f.at
+  pub within : f.cursor.at ≤ length t
+  pub lines : f.cursor.lines ≤ f.cursor.at
   pub fits : Fits (rest t f) f.satellites f.stations l
 
 -- one row more: over, with all stored; or on, with as much to come
-abbrev pub Fills : List ℕ → Fill → Lent → Bool → Fill → Lent → Type 0
-Fills t f l true f' l' = l' ≡ stored (rest t f) f.satellites f.stations l
-Fills t f l false f' l' = BiasRoom t f' l' × (stored (rest t f') f'.satellites f'.stations l' ≡ stored (rest t f) f.satellites f.stations l) × (f.at < f'.at)
+abbrev pub Fills : List ℕ → Fill → Lent → Option Fill → Lent → Type 0
+Fills t f l None l' = l' ≡ stored (rest t f) f.satellites f.stations l
+Fills t f l (Some f') l' = BiasRoom t f' l' × (stored (rest t f') f'.satellites f'.stations l' ≡ stored (rest t f) f.satellites f.stations l) × (f.cursor.at < f'.cursor.at)
 
--- of the areas l₀ at the start: over, with all stored; or on the way there
-abbrev pub Stays : List ℕ → Lent → Fill → Lent → Bool → Type 0
-Stays t l₀ f l true = l ≡ filled t l₀
-Stays t l₀ f l false = BiasRoom t f l × (stored (rest t f) f.satellites f.stations l ≡ filled t l₀)
-
--- how far it is
-abbrev pub left : List ℕ → Fill → Bool → ℕ
-left t f true = 0
-left t f false = suc (length t - f.at)
+-- of the areas l₀ at the start, on the way there
+abbrev pub Stays : List ℕ → Lent → Fill → Lent → Type 0
+Stays t l₀ f l = BiasRoom t f l × (stored (rest t f) f.satellites f.stations l ≡ filled t l₀)

@@ -1,13 +1,14 @@
 -- What a line is and says, by what the code looks at.
+use Rattle.std.specs.Prelude.{Option, Some, None}
+use Rattle.std.specs.Option.{ok_or}
 use mathlib.Core.Path.{◌≡◌, refl, sym, ap, ◌∙◌}
-use mathlib.Core.Logic.{◌⊎◌, inl, inr, ⊎_elim}
+use mathlib.Core.Logic.{◌⊎◌, inl, inr}
 use mathlib.Core.List.{List, [], ◌∷◌}
 use Prim.Native.Nat.{ℕ, ◌+◌, ◌≤◌}
-use native.Mathlib.Decide.{ℕ_discrete}
 use native.Mathlib.Omega.{arith}
 use lib.ListN.{length, take, drop}
 use lib.IntN.{ℤ}
-use Rattle.kit.specs.Answer.{Answer, ok, refused, bind, amap, same, ⊎_dec}
+use Rattle.kit.specs.Answer.{Answer, ok, refused, bind, amap, same}
 use Rattle.kit.proofs.AnswerLaws.{need_yes, need_no, pick_yes, pick_no}
 use Rattle.kit.specs.Truth.{truth}
 use Rattle.kit.proofs.TruthLaws.{tells}
@@ -15,18 +16,15 @@ use Rattle.forms.specs.Form as form
 use Rattle.forms.specs.Read.{read_field}
 use Rattle.forms.specs.Columns.{columns}
 use Rattle.forms.proofs.ColumnLaws.{columns_padded}
-use Rattle.forms.specs.declared.Field.{Field}
-use Rattle.forms.specs.declared.Field.TheVariants.{Number, Bad}
-use Rattle.forms.specs.declared.Found.{Found}
-use Rattle.forms.specs.declared.Found.TheVariants.{At, Nowhere}
 use Rattle.layout.specs.Text.{pad}
 use Rattle.layout.specs.Names.{holds}
-use Rattle.reading.specs.Feed.{Fault, fault}
+use Rattle.reading.specs.declared.Fault.{Fault}
+use Rattle.reading.specs.Feed.{fault, answer_of}
 use Rattle.reading.specs.Fields.{number, unless, blank_to}
 use Rattle.reading.proofs.LabelLaws.{held, holding, label_columns}
 use Rattle.biases.specs.Read.{system_of, satellite_meant, station_meant, satellite_of, station_of}
 use Rattle.biases.proofs.Fine.{satellite_columns, station_columns}
-use Rattle.bias_line.specs.Lines.{pair_in, pair_after, system_letter}
+use Rattle.bias_line.specs.Lines.{pair_in, pair_after}
 
 -- ---- columns that hold a name
 
@@ -45,85 +43,72 @@ module _ (line : List ℕ) (fits : length line ≤ 80) where
 
 -- ---- the letter
 
-neither : {P Q : Type 0} → ¬ P → ¬ Q → ¬ (P ⊎ Q)
-neither p q (inl x) = p x
-neither p q (inr x) = q x
-
 one_byte : {b c : ℕ} → ¬ (b ≡ c) → ¬ (b ∷ [] ≡ c ∷ [])
 one_byte n e = n (cc)
 
--- the system of a letter, or 7 at column 4
-abbrev Lettered : ℕ → Type 0
-Lettered b = (¬ (system_letter b ≡ 0) × (system_of (b ∷ []) ≡ ok (system_letter b))) ⊎ ((system_letter b ≡ 0) × (system_of (b ∷ []) ≡ refused (fault 7 4)))
+pub letter_g : (b : ℕ) → (b ≡ 71) ⊎ (b ≡ 32) → ok 71 ≡ system_of (b ∷ [])
+unfolding system_of
+letter_g b (inl e) = sym (pick_yes (same (b ∷ []) (71 ∷ [])) _ _ (ap (λ x. x ∷ []) e))
+letter_g b (inr e) =
+    sym (pick_no (same (b ∷ []) (71 ∷ [])) _ _ (one_byte (λ f. omega arith)) ∙ pick_yes (same (b ∷ []) (32 ∷ [])) _ _ (ap (λ x. x ∷ []) e))
 
-module _ (b : ℕ) where
-  is_g : (b ≡ 71) ⊎ (b ≡ 32) → system_letter b ≡ 71
-  unfolding system_letter
-  is_g e = pick_yes (⊎_dec (ℕ_discrete b 71) (ℕ_discrete b 32)) _ _ e
+pub letter_r : (b : ℕ) → b ≡ 82 → ok 82 ≡ system_of (b ∷ [])
+unfolding system_of
+letter_r b e =
+    sym (pick_no (same (b ∷ []) (71 ∷ [])) _ _ (one_byte (λ f. omega arith))
+    ∙ pick_no (same (b ∷ []) (32 ∷ [])) _ _ (one_byte (λ f. omega arith))
+    ∙ need_yes (same (b ∷ []) (82 ∷ [])) _ _ (ap (λ x. x ∷ []) e))
 
-  is_r : ¬ (b ≡ 71) → ¬ (b ≡ 32) → b ≡ 82 → system_letter b ≡ 82
-  unfolding system_letter
-  is_r p q e = pick_no (⊎_dec (ℕ_discrete b 71) (ℕ_discrete b 32)) _ _ (neither p q) ∙ pick_yes (ℕ_discrete b 82) _ _ e
+pub letter_none : (b : ℕ) → ¬ (b ≡ 71) → ¬ (b ≡ 32) → ¬ (b ≡ 82) → refused (fault 7 4) ≡ system_of (b ∷ [])
+unfolding system_of
+letter_none b p q r =
+    sym (pick_no (same (b ∷ []) (71 ∷ [])) _ _ (one_byte p)
+    ∙ pick_no (same (b ∷ []) (32 ∷ [])) _ _ (one_byte q)
+    ∙ need_no (same (b ∷ []) (82 ∷ [])) _ _ (one_byte r))
 
-  is_none : ¬ (b ≡ 71) → ¬ (b ≡ 32) → ¬ (b ≡ 82) → system_letter b ≡ 0
-  unfolding system_letter
-  is_none p q r = pick_no (⊎_dec (ℕ_discrete b 71) (ℕ_discrete b 32)) _ _ (neither p q) ∙ pick_no (ℕ_discrete b 82) _ _ r
+-- ---- one step of a record after another
 
-  lettered_by : Dec (b ≡ 71) → Dec (b ≡ 32) → Dec (b ≡ 82) → Lettered b
-  unfolding system_of
-  lettered_by (yes e) q r =
-      let k = is_g (inl e) in
-      inl (λ z. omega arith, pick_yes (same (b ∷ []) (71 ∷ [])) _ _ (ap (λ x. x ∷ []) e) ∙ ap ok (sym k))
-  lettered_by (no p) (yes e) r =
-      let k = is_g (inr e) in
-      inl (λ z. omega arith, pick_no (same (b ∷ []) (71 ∷ [])) _ _ (one_byte p) ∙ pick_yes (same (b ∷ []) (32 ∷ [])) _ _ (ap (λ x. x ∷ []) e) ∙ ap ok (sym k))
-  lettered_by (no p) (no q) (yes e) =
-      let k = is_r p q e in
-      inl (
-        λ z. omega arith,
-        pick_no (same (b ∷ []) (71 ∷ [])) _ _ (one_byte p) ∙ pick_no (same (b ∷ []) (32 ∷ [])) _ _ (one_byte q) ∙ need_yes (same (b ∷ []) (82 ∷ [])) _ _ (ap (λ x. x ∷ []) e) ∙ ap ok (sym k),
-      )
-  lettered_by (no p) (no q) (no r) =
-      inr (
-        is_none p q r,
-        pick_no (same (b ∷ []) (71 ∷ [])) _ _ (one_byte p) ∙ pick_no (same (b ∷ []) (32 ∷ [])) _ _ (one_byte q) ∙ need_no (same (b ∷ []) (82 ∷ [])) _ _ (one_byte r),
-      )
+pub number_ok_or : (f : Option ℤ) (c : ℕ) → answer_of (ok_or f (fault 6 c)) ≡ number f c ok
+unfolding number
+number_ok_or (Some x) c = refl
+number_ok_or None c = refl
 
-  lettered : Lettered b
-  lettered = lettered_by (ℕ_discrete b 71) (ℕ_discrete b 32) (ℕ_discrete b 82)
+pub number_binds : {A : Type 0} (f : Option ℤ) (c : ℕ) (k : ℤ → Answer Fault A) → number f c k ≡ bind (number f c ok) k
+unfolding number bind
+number_binds (Some x) c k = refl
+number_binds None c k = refl
 
-  pub letter_known : ¬ (system_letter b ≡ 0) → system_of (b ∷ []) ≡ ok (system_letter b)
-  letter_known n = ⊎_elim (λ h. h.1) (λ h. absurd (n h.0)) lettered
-
-  pub letter_unknown : system_letter b ≡ 0 → system_of (b ∷ []) ≡ refused (fault 7 4)
-  letter_unknown e = ⊎_elim (λ h. absurd (h.0 e)) (λ h. h.1) lettered
+pub unless_binds : {A : Type 0} (h : Option ℕ) (x : Answer Fault A) → unless h x ≡ bind {B = Unit {0}} (unless h (ok tt)) (λ u. x)
+unfolding bind
+unless_binds (Some c) x = refl
+unless_binds None x = refl
 
 -- ---- the records
 
-pair_by : {A : Type 0} (f g : Field) (a : ℕ) (h : Found) (k : ℤ → ℤ → Answer Fault A)
+pair_by : {A : Type 0} (f g : Option ℤ) (a : ℕ) (h : Option ℕ) (k : ℤ → ℤ → Answer Fault A)
     → bind {B = ℤ × (ℤ × Unit {0})} (number f (a + 1) (λ x. amap (λ vs. (x, vs)) (number g (a + 11) (λ y. amap (λ vs. (y, vs)) (unless h (ok tt)))))) (λ v. k v.0 v.1.0)
     ≡ bind (pair_in f g a h) (λ p. k p.0 p.1)
 unfolding bind amap number pair_in
-pair_by (Number x) (Number y) a (At c) k = refl
-pair_by (Number x) (Number y) a Nowhere k = refl
-pair_by (Number x) Bad a h k = refl
-pair_by Bad g a h k = refl
+pair_by (Some x) (Some y) a (Some c) k = refl
+pair_by (Some x) (Some y) a None k = refl
+pair_by (Some x) None a h k = refl
+pair_by None g a h k = refl
 
-satellite_by : {A : Type 0} (h : Found) (t : List ℕ) (i : Field) (x : Answer Fault (ℤ × (ℤ × Unit {0}))) (k : List ℕ × (ℤ × (ℤ × (ℤ × Unit {0}))) → Answer Fault A)
+satellite_by : {A : Type 0} (h : Option ℕ) (t : List ℕ) (i : Option ℤ) (x : Answer Fault (ℤ × (ℤ × Unit {0}))) (k : List ℕ × (ℤ × (ℤ × (ℤ × Unit {0}))) → Answer Fault A)
     → bind (unless h (amap (λ vs. (t, vs)) (number i 5 (λ z. amap (λ vs. (z, vs)) x)))) k ≡ unless h (number i 5 (λ z. bind x (λ v. k (t, (z, v)))))
 unfolding bind amap number
-satellite_by (At c) t i x k = refl
-satellite_by Nowhere t (Number z) (ok v) k = refl
-satellite_by Nowhere t (Number z) (refused w) k = refl
-satellite_by Nowhere t Bad x k = refl
+satellite_by (Some c) t i x k = refl
+satellite_by None t (Some z) (ok v) k = refl
+satellite_by None t (Some z) (refused w) k = refl
+satellite_by None t None x k = refl
 
-station_by : {A : Type 0} (h g : Found) (t n : List ℕ) (x : Answer Fault (ℤ × (ℤ × Unit {0}))) (k : List ℕ × (List ℕ × (ℤ × (ℤ × Unit {0}))) → Answer Fault A)
+station_by : {A : Type 0} (h g : Option ℕ) (t n : List ℕ) (x : Answer Fault (ℤ × (ℤ × Unit {0}))) (k : List ℕ × (List ℕ × (ℤ × (ℤ × Unit {0}))) → Answer Fault A)
     → bind (unless h (amap (λ vs. (t, vs)) (unless g (amap (λ vs. (n, vs)) x)))) k ≡ unless h (unless g (bind x (λ v. k (t, (n, v)))))
 unfolding bind amap
-station_by (At c) g t n x k = refl
-station_by Nowhere (At c) t n x k = refl
-station_by Nowhere Nowhere t n (ok v) k = refl
-station_by Nowhere Nowhere t n (refused w) k = refl
+station_by (Some c) g t n x k = refl
+station_by None (Some c) t n x k = refl
+station_by None None t n (ok v) k = refl
+station_by None None t n (refused w) k = refl
 
 module _ (line : List ℕ) (fits : length line ≤ 80) where
   pub satellite_is : satellite_of (pad line)

@@ -5,11 +5,14 @@ ghost use Rattle.std.specs.Prelude.{◌≡◌, [], ◌∷◌, ◌+◌, ◌≤◌
 ghost use Rattle.forms.specs.Columns.{columns};
 ghost use Rattle.layout.specs.Text.{pad};
 ghost use Rattle.biases.specs.Read as read;
-ghost use Rattle.bias_line.specs.Lines.{told_pair, told_satellite, told_station, pair_after, system_letter};
+ghost use Rattle.kit.specs.Answer.{ok};
+ghost use Rattle.reading.specs.Feed.{answer_of};
+ghost use Rattle.reading.specs.Fields.{number as field_number};
+ghost use Rattle.bias_line.specs.Lines.{pair_after};
 
 use biases::{Place, Role, Satellite, Station};
-use forms::{Field, Found};
 use head_said::content;
+use reading::Fault;
 
 // The title that opens a bias block, in columns 1 to 60, and the labels that are looked for.
 const TITLE: [u8; 60] = *b"DIFFERENTIAL CODE BIASES                                    ";
@@ -23,33 +26,6 @@ const AUX_END: [u8; 20] = *b"END OF AUX DATA     ";
 const OF_SATELLITE: [u8; 20] = *b"PRN / BIAS / RMS    ";
 
 const OF_STATION: [u8; 20] = *b"STATION / BIAS / RMS";
-
-// Two numbers, or the column where they are ill-formed.
-#[derive(Clone, Copy)]
-pub enum Pair {
-    Two(i32, i32),
-    Wrong(u64),
-}
-
-// What a satellite's record says, or its refusal with 01's number and a column.
-#[derive(Clone, Copy)]
-pub enum SatelliteSaid {
-    Given(Satellite),
-    Refused(u64, u64),
-}
-
-// What a station's record says likewise. The station stands beside it, and is blank on a refusal.
-#[derive(Clone, Copy)]
-pub enum StationSaid {
-    Given,
-    Refused(u64, u64),
-}
-
-#[derive(Clone, Copy)]
-pub struct StationRead {
-    pub said: StationSaid,
-    pub station: Station,
-}
 
 // ---- What a line is
 
@@ -115,122 +91,88 @@ pub fn role_of(place: Place, line: &[u8]) -> Role
 
 // ---- What a record says
 
-// 2F10.3 after the first a columns, and blanks up to column 60.
-fn pair_after(line: &[u8], a: usize) -> Pair
-    requires { a ≤ 40 }
-    ensures { told_pair result ≡ pair_after line.now a }
+// The number in a field; 6 at the field's column where it is ill-formed.
+fn number(field: Option<i32>, column: u64) -> Result<i32, Fault>
+    ensures { answer_of result ≡ field_number field column ok }
 {
-    match fields::thousandths_at(line, a, 10) {
-        Field::Bad => Pair::Wrong((a + 1) as u64),
-        Field::Number(x) => match fields::thousandths_at(line, a + 10, 10) {
-            Field::Bad => Pair::Wrong((a + 11) as u64),
-            Field::Number(y) => match fields::first_not_blank(line, a + 20, 60) {
-                Found::At(column) => Pair::Wrong(column as u64),
-                Found::Nowhere => Pair::Two(x, y),
-            },
-        },
-    }
+    field.ok_or(Fault { number: 6, column })
 }
 
-// The letter of a system, 0 where it is none; a blank means G.
-fn system_of(letter: u8) -> u8
-    ensures { result ≡ system_letter letter }
+// 2F10.3 after the first a columns, and blanks up to column 60.
+fn pair_after(line: &[u8], a: usize) -> Result<(i32, i32), Fault>
+    requires { a ≤ 40 }
+    ensures { answer_of result ≡ pair_after line.now a }
 {
-    if (letter == b'G') | (letter == b' ') {
-        return b'G';
+    let x = number(fields::thousandths_at(line, a, 10), (a + 1) as u64)?;
+    let y = number(fields::thousandths_at(line, a + 10, 10), (a + 11) as u64)?;
+    maps_records::blank(line, a + 20, 60)?;
+    Ok((x, y))
+}
+
+// The system of a letter; a blank means G.
+fn system_of(letter: u8) -> Result<u8, Fault>
+    ensures { answer_of result ≡ read.system_of (letter ∷ []) }
+{
+    match letter {
+        b'G' | b' ' => Ok(b'G'),
+        b'R' => Ok(b'R'),
+        _ => Err(Fault {
+            number: 7,
+            column: 4,
+        }),
     }
-    if letter == b'R' {
-        return b'R';
-    }
-    0
 }
 
 // A satellite's values: the letter, then the number.
-fn satellite_meant(letter: u8, number: i32, bias: i32, rms: i32) -> SatelliteSaid
-    ensures { told_satellite result ≡ read.satellite_meant (letter ∷ [], (number, (bias, (rms, tt)))) }
+fn satellite_meant(letter: u8, number: i32, bias: i32, rms: i32) -> Result<Satellite, Fault>
+    ensures { answer_of result ≡ read.satellite_meant (letter ∷ [], (number, (bias, (rms, tt)))) }
 {
-    let system = system_of(letter);
-    if system == 0 {
-        return SatelliteSaid::Refused(7, 4);
-    }
+    let system = system_of(letter)?;
     if !content::natural(number, 1, 99) {
-        return SatelliteSaid::Refused(7, 5);
+        return Err(Fault {
+            number: 7,
+            column: 5,
+        });
     }
-    SatelliteSaid::Given(Satellite {
-        system: system,
+    Ok(Satellite {
+        system,
         number: content::unsigned(number),
-        bias: bias,
-        rms: rms,
+        bias,
+        rms,
     })
 }
 
 // 3X,A1,I2,2F10.3,34X
-pub fn satellite(line: &[u8]) -> SatelliteSaid
+pub fn satellite(line: &[u8]) -> Result<Satellite, Fault>
     requires { length line.now ≤ 80 }
-    ensures { told_satellite result ≡ read.satellite_of (pad line.now) }
+    ensures { answer_of result ≡ read.satellite_of (pad line.now) }
 {
-    match fields::first_not_blank(line, 0, 3) {
-        Found::At(column) => SatelliteSaid::Refused(6, column as u64),
-        Found::Nowhere => match fields::int_at(line, 4, 2) {
-            Field::Bad => SatelliteSaid::Refused(6, 5),
-            Field::Number(number) => match pair_after(line, 6) {
-                Pair::Wrong(column) => SatelliteSaid::Refused(6, column),
-                Pair::Two(bias, rms) => {
-                    satellite_meant(fields::byte_at(line, 3), number, bias, rms)
-                }
-            },
-        },
-    }
-}
-
-// A blank station beside a refusal.
-fn no_station(number: u64, column: u64) -> StationRead
-    ensures { result.said ≡ StationSaid.Refused number column }
-{
-    StationRead {
-        said: StationSaid::Refused(number, column),
-        station: Station {
-            system: 0,
-            name: [b' '; 20],
-            bias: 0,
-            rms: 0,
-        },
-    }
+    maps_records::blank(line, 0, 3)?;
+    let prn = number(fields::int_at(line, 4, 2), 5)?;
+    let (bias, rms) = pair_after(line, 6)?;
+    satellite_meant(fields::byte_at(line, 3), prn, bias, rms)
 }
 
 // A station's values.
-fn station_meant(line: &[u8], bias: i32, rms: i32) -> StationRead
-    ensures { told_station result.said result.station ≡ read.station_meant (columns line.now 3 1, (columns line.now 6 20, (bias, (rms, tt)))) }
+fn station_meant(line: &[u8], bias: i32, rms: i32) -> Result<Station, Fault>
+    ensures { answer_of result ≡ read.station_meant (columns line.now 3 1, (columns line.now 6 20, (bias, (rms, tt)))) }
 {
-    let system = system_of(fields::byte_at(line, 3));
-    if system == 0 {
-        return no_station(7, 4);
-    }
-    let name = fields::text20(line, 6);
-    StationRead {
-        said: StationSaid::Given,
-        station: Station {
-            system: system,
-            name: name,
-            bias: bias,
-            rms: rms,
-        },
-    }
+    let system = system_of(fields::byte_at(line, 3))?;
+    Ok(Station {
+        system,
+        name: fields::text(line, 6),
+        bias,
+        rms,
+    })
 }
 
 // 3X,A1,2X,A20,2F10.3,14X
-pub fn station(line: &[u8]) -> StationRead
+pub fn station(line: &[u8]) -> Result<Station, Fault>
     requires { length line.now ≤ 80 }
-    ensures { told_station result.said result.station ≡ read.station_of (pad line.now) }
+    ensures { answer_of result ≡ read.station_of (pad line.now) }
 {
-    match fields::first_not_blank(line, 0, 3) {
-        Found::At(column) => no_station(6, column as u64),
-        Found::Nowhere => match fields::first_not_blank(line, 4, 6) {
-            Found::At(column) => no_station(6, column as u64),
-            Found::Nowhere => match pair_after(line, 26) {
-                Pair::Wrong(column) => no_station(6, column),
-                Pair::Two(bias, rms) => station_meant(line, bias, rms),
-            },
-        },
-    }
+    maps_records::blank(line, 0, 3)?;
+    maps_records::blank(line, 4, 6)?;
+    let (bias, rms) = pair_after(line, 26)?;
+    station_meant(line, bias, rms)
 }

@@ -1,23 +1,19 @@
 -- Stations held in order, and rows whose station no row before gave.
 use mathlib.Core.Path.{◌≡◌, refl, sym, ap, subst, ◌∙◌}
-use mathlib.Core.Logic.{inl, inr}
 use mathlib.Core.List.{List, [], ◌∷◌}
 use Prim.Native.Nat.{ℕ, zero, suc, ◌+◌, ◌-◌, ◌≤◌, ◌<◌}
 use native.Mathlib.Decide.{dec_lt}
-use native.Mathlib.Numerals.{add-one}
 use native.Mathlib.Omega.{arith}
-use lib.ListN.{length, get_or, set, take, drop, length-set, length-take, length-drop}
-use lib.Seq.{drop-cons, get_or-set_same, get_or-set_other, get_or-take, get_or-drop, take-take, drop-drop, length-take-le}
+use lib.ListN.{length, get_or, take, drop, length-take, length-drop}
+use lib.Seq.{get_or-take, get_or-drop, take-take, drop-drop, length-take-le}
 use Rattle.kit.specs.Answer.{Answer, ok, refused, All}
 use Rattle.kit.proofs.AnswerLaws.{bind_yields, Yields, y_ok, y_no, yields, pick_yes, pick_no}
 use Rattle.kit.proofs.ListLaws.{drop_take}
 use Rattle.forms.specs.Columns.{columns}
 use Rattle.forms.proofs.ColumnLaws.{columns_whole, one_column}
-use Rattle.forms.specs.declared.Found.{Found}
-use Rattle.forms.specs.declared.Found.TheVariants.{At, Nowhere}
 use Rattle.layout.specs.Text.{pad}
 use Rattle.layout.specs.Records.{Vals}
-use Rattle.reading.specs.Feed.{Fault}
+use Rattle.reading.specs.declared.Fault.{Fault}
 use Rattle.reading.specs.Fields.{unless, blank_to}
 use Rattle.biases.specs.Biases.{Biases, SameStation}
 use Rattle.biases.specs.Rules.{station_items, Letter, its_g, no_letter, its_r}
@@ -33,53 +29,26 @@ use Rattle.bias_scan.specs.Walk.{Going, first, with_satellite, with_station, aft
 use Rattle.bias_scan.proofs.WalkLaws.{walked_on, fewer_rows}
 use Rattle.bias_scan.specs.Turns.{from, OnRow, Heard, Unheard}
 use Rattle.bias_scan.proofs.TurnLaws.{after_is, station_unheard}
-use Rattle.bias_scan.specs.Held.{seed, who, id, Before, Ordered, Table, Splits, Apart, Inserted, RowGives, New, Good, Clear, Fence, Stood, Plain, Named}
-use Rattle.bias_scan.specs.declared.Compared.{Compared}
-use Rattle.bias_scan.specs.declared.Compared.TheVariants as Compared
+use Rattle.bias_scan.specs.Held.{seed, who, id, Before, Table, Splits, Apart, Inserted, RowGives, New, Good, Clear, Fence, Stood, StoodAt, Plain, Named, Peeks}
+use Rattle.bias_scan.specs.declared.Cursor.{Cursor}
+use Rattle.bias_scan.specs.declared.Slot.{Slot}
+use Rattle.std.specs.Prelude.{Option, Some, None}
+use Rattle.std.specs.Cmp.Lexicographic.{slice_cmp}
+use Rattle.std.specs.Ordering.{nat_cmp, ordering_reverse}
+use Rattle.std.specs.declared.cmp.Ordering.TheVariants.{Less, Equal, Greater}
+use Rattle.std.proofs.lemmas.Cmp.{tied_itself, nat_list_cmp_total}
 
 -- ---- in order
 
 pub unlike : (x : List ℕ) → ¬ Before x x
-unlike [] e = e
-unlike (a ∷ l) (inl h) = omega arith
-unlike (a ∷ l) (inr h) = unlike l h.1
+unlike x e = let f = tied_itself nat_list_cmp_total x in let z : Less ≡ Equal = sym e ∙ f in cc
 
 pub beyond : (x y z : List ℕ) → Before x y → Before y z → Before x z
-beyond [] [] z e f = absurd e
-beyond [] (b ∷ m) [] e f = absurd f
-beyond [] (b ∷ m) (c ∷ n) e f = tt
-beyond (a ∷ l) [] z e f = absurd e
-beyond (a ∷ l) (b ∷ m) [] e f = absurd f
-beyond (a ∷ l) (b ∷ m) (c ∷ n) (inl e) (inl f) = inl (omega arith)
-beyond (a ∷ l) (b ∷ m) (c ∷ n) (inl e) (inr f) = let q = f.0 in inl (omega arith)
-beyond (a ∷ l) (b ∷ m) (c ∷ n) (inr e) (inl f) = let q = e.0 in inl (omega arith)
-beyond (a ∷ l) (b ∷ m) (c ∷ n) (inr e) (inr f) = inr (e.0 ∙ f.0, beyond l m n e.1 f.1)
+beyond = nat_list_cmp_total.trans
 
--- one byte more in front of both
-pub head_more : (r : Compared) (a b : ℕ) (l m : List ℕ) → a ≡ b → Ordered r l m → Ordered r (a ∷ l) (b ∷ m)
-head_more Compared.Less a b l m e o = inr (e, o)
-head_more Compared.Same a b l m e o = tt
-head_more Compared.More a b l m e o = inr (sym e, o)
-
--- the first i bytes of both are the same
-pub record Agree (x y : List ℕ) (i : ℕ) : Type 0 where
-  pub so : (r : Compared) → Ordered r (drop i x) (drop i y) → Ordered r x y
-
-pub agree_first : (x y : List ℕ) → Agree x y 0
-agree_first x y = record { so = λ r o. o }
-
-module _ (x y : List ℕ) (i : ℕ) (p : i < length x) (q : i < length y) (z : Agree x y i) where
-  at_heads : (r : Compared) → Ordered r (get_or x i 0 ∷ drop (suc i) x) (get_or y i 0 ∷ drop (suc i) y) → Ordered r x y
-  at_heads r o = z.so r (subst (λ (k : List ℕ). Ordered r k (drop i y)) (sym (drop-cons x i 0 p)) (subst (λ (k : List ℕ). Ordered r (get_or x i 0 ∷ drop (suc i) x) k) (sym (drop-cons y i 0 q)) o))
-
-  pub agree_next : get_or x i 0 ≡ get_or y i 0 → Agree x y (i + 1)
-  agree_next e = record { so = λ r o. at_heads r (head_more r _ _ _ _ e (subst (λ (k : ℕ). Ordered r (drop k x) (drop k y)) (add-one i) o)) }
-
-  pub agree_less : get_or x i 0 < get_or y i 0 → Before x y
-  agree_less h = at_heads Compared.Less (inl h)
-
-  pub agree_more : get_or y i 0 < get_or x i 0 → Before y x
-  agree_more h = at_heads Compared.More (inl h)
+-- the other way round
+pub before_of : (x y : List ℕ) → Greater ≡ slice_cmp nat_cmp x y → Before y x
+before_of x y e = nat_list_cmp_total.antisymm y x ∙ ap ordering_reverse (sym e)
 
 -- ---- a table
 
@@ -190,53 +159,6 @@ table_more t l k p n s nl z y w b =
     let i = y.inside in
     grown_table t (take n l) (take (n + 1) k) p s z y (grown l k p n s (omega arith) nl w) b
 
--- ---- inserted
-
-module _ (l : List ℕ) (p n : ℕ) where
-  -- those from k on have moved
-  pub record Moving (c : List ℕ) (k : ℕ) : Type 0 where
-    pub long : length c ≡ length l
-    pub low : p ≤ k
-    pub high : k ≤ n
-    pub before : (i : ℕ) → i < k → get_or c i 0 ≡ get_or l i 0
-    pub behind : (i : ℕ) → k < i → i ≤ n → get_or c i 0 ≡ get_or l (i - 1) 0
-
-  pub moving_first : p ≤ n → Moving l n
-  moving_first h = record { long = refl; low = h; high = omega arith; before = λ i b. refl; behind = λ i a b. absurd (omega arith) }
-
-  module _ (c : List ℕ) (k : ℕ) (nl : n < length l) (z : Moving c k) where
-    pub moving_on : p < k → Moving (set c k (get_or c (k - 1) 0)) (k - 1)
-    moving_on h =
-        let zl = z.long in
-        let zh = z.high in
-        record {
-          long = length-set c k (get_or c (k - 1) 0) ∙ z.long;
-          low = omega arith;
-          high = omega arith;
-          before = λ i b. get_or-set_other c k i (get_or c (k - 1) 0) 0 (λ e. omega arith) ∙ z.before i (omega arith);
-          behind = λ i a b. by i a b (dec_lt k i);
-        }
-      where
-        by : (i : ℕ) → k - 1 < i → i ≤ n → Dec (k < i) → get_or (set c k (get_or c (k - 1) 0)) i 0 ≡ get_or l (i - 1) 0
-        by i a b (yes e) = get_or-set_other c k i (get_or c (k - 1) 0) 0 (λ f. omega arith) ∙ z.behind i e b
-        by i a b (no e) =
-            let f : k ≡ i = omega arith in
-            let zl = z.long in
-            let zh = z.high in
-            subst (λ (j : ℕ). get_or (set c k (get_or c (k - 1) 0)) j 0 ≡ get_or l (j - 1) 0) f (get_or-set_same c k (get_or c (k - 1) 0) 0 (omega arith) ∙ z.before (k - 1) (omega arith))
-
-    pub moving_end : (o : ℕ) → k ≤ p → Inserted l (set c p o) p n o
-    moving_end o h =
-        let zl = z.long in
-        let zh = z.high in
-        let zw = z.low in
-        record {
-          long = length-set c p o ∙ z.long;
-          before = λ i b. get_or-set_other c p i o 0 (λ e. omega arith) ∙ z.before i (omega arith);
-          here = get_or-set_same c p o 0 (omega arith);
-          behind = λ i a b. get_or-set_other c p i o 0 (λ e. omega arith) ∙ z.behind i (omega arith) b;
-        }
-
 -- ---- a letter's system
 
 pub seed_r : (b : ℕ) → b ≡ 82 → 82 ≡ seed b
@@ -254,9 +176,9 @@ letter_seed {b = b} its_r e = sym (seed_r b (let k : 82 ≡ b = cc in sym k))
 
 -- ---- a station's record has its station's sum
 
-unless_yields : {Q : Station → Type 0} (h : Found) (x : Answer Fault Station) → Yields Q x → Yields Q (unless h x)
-unless_yields (At c) x y = y_no
-unless_yields Nowhere x y = y
+unless_yields : {Q : Station → Type 0} (h : Option ℕ) (x : Answer Fault Station) → Yields Q x → Yields Q (unless h x)
+unless_yields (Some c) x y = y_no
+unless_yields None x y = y
 
 abbrev Tells : List ℕ → List ℕ → Station → Type 0
 Tells l n s = Letter s.system l × (s.name ≡ n)
@@ -319,8 +241,8 @@ module _ (t : List ℕ) (j at n : ℕ) (p : Place) (z : Stood t j at n p) where
         rest = ap (λ (w : Going). w.rest) one_on ∙ o.rest g;
       }
 
-  pub stood_named : (next m h : ℕ) → Named t at n p next m h → Stood t (j + 1) next m p
-  stood_named next m h o =
+  pub stood_named : (q : Place) (next m h : ℕ) → Named t at n p q next m h → Stood t (j + 1) next m q
+  stood_named q next m h o =
       record {
         within = o.within;
         lines = o.passed;
@@ -340,32 +262,32 @@ module _ (t : List ℕ) (j at n : ℕ) (p : Place) (z : Stood t j at n p) where
         new = λ i a b y e h. subst (λ (k : List Station). All (λ x. ¬ SameStation y x) k) (sym (plain_stations q next m o)) (f.new i (omega arith) b y e h);
       }
 
-  named_given : (next m h : ℕ) (o : Named t at n p next m h) → (walked (j + 1) (first t)).given ≡ with_station o.said g
-  named_given next m h o = ap (λ (w : Going). w.given) one_on ∙ o.given g
+  named_given : (q : Place) (next m h : ℕ) (o : Named t at n p q next m h) → (walked (j + 1) (first t)).given ≡ with_station o.said g
+  named_given q next m h o = ap (λ (w : Going). w.given) one_on ∙ o.given g
 
-  named_who : (next m o : ℕ) → Named t at n p next m o → (y : Station) → RowGives t j y → id t o ≡ who y
-  named_who next m o z y e = z.whose y (said_is y g z.said (ap (λ (b : Biases). b.stations) (sym (named_given next m o z)) ∙ e))
+  named_who : (q : Place) (next m o : ℕ) → Named t at n p q next m o → (y : Station) → RowGives t j y → id t o ≡ who y
+  named_who q next m o z y e = z.whose y (said_is y g z.said (ap (λ (b : Biases). b.stations) (sym (named_given q next m o z)) ∙ e))
 
   unheard_by : (o : ℕ) (y : Station) → ¬ (id t o ≡ who y) → (a : Answer Fault Station) → ((x : Station) → a ≡ ok x → id t o ≡ who x) → ¬ Heard y a
   unheard_by o y d (ok x) s e = d (s x refl ∙ sym (same_who y x e))
   unheard_by o y d (refused w) s e = e
 
-  pub fence_named : (next m o : ℕ) → Named t at n p next m o → (lim : ℕ) (l k : List ℕ) (q c : ℕ) → c < length l → Table t (take c l) → Splits t (take c l) o q → Inserted l k q c o
+  pub fence_named : (pl : Place) (next m o : ℕ) → Named t at n p pl next m o → (lim : ℕ) (l k : List ℕ) (q c : ℕ) → c < length l → Table t (take c l) → Splits t (take c l) o q → Inserted l k q c o
       → Fence t j lim (take c l) → Fence t (j + 1) lim (take (c + 1) k)
-  fence_named next m o z lim l k q c cl tb sp ins f =
+  fence_named pl next m o z lim l k q c cl tb sp ins f =
       let a : length (take c l) ≡ c = length-take-le c l (omega arith) in
       let si = sp.inside in
       let w = grown l k q c o (omega arith) cl ins in
       record {
         new = λ i a b y e v.
-            subst (λ (k : Biases). Unheard y k) (sym (named_given next m o z))
+            subst (λ (k : Biases). Unheard y k) (sym (named_given pl next m o z))
             (station_unheard y z.said g (unheard_by o y (grown_here t (take c l) (take (c + 1) k) q o tb sp w (who y) v) z.said z.whose) (f.new i (omega arith) b y e (grown_apart t (take c l) (take (c + 1) k) q o tb sp w (who y) v)));
       }
 
-  pub named_new : (next m o : ℕ) → Named t at n p next m o → (b l : ℕ) (s : List ℕ) (q : ℕ) → Fence t b l s → b ≤ j → j < l → Splits t s o q
+  pub named_new : (pl : Place) (next m o : ℕ) → Named t at n p pl next m o → (b l : ℕ) (s : List ℕ) (q : ℕ) → Fence t b l s → b ≤ j → j < l → Splits t s o q
       → (k : ℕ) → k ≤ j → k ≤ b → (y : Station) → RowGives t j y → Unheard y (walked k (first t)).given
-  named_new next m o z b l s q f bj jl sp k kj kb y e =
-      fewer_rows y k (first t) b kb (f.new j bj jl y e (subst (λ (v : List ℕ). Apart t s v) (named_who next m o z y e) (splits_apart t s o q sp)))
+  named_new pl next m o z b l s q f bj jl sp k kj kb y e =
+      fewer_rows y k (first t) b kb (f.new j bj jl y e (subst (λ (v : List ℕ). Apart t s v) (named_who pl next m o z y e) (splits_apart t s o q sp)))
 
 -- ---- what a row is
 
@@ -401,7 +323,7 @@ module _ (t : List ℕ) (at n : ℕ) (p : Place) (r : List ℕ) (next m : ℕ) w
         same = λ g. ap (λ (w : Going). w.given.stations) (e g) ∙ satellite_same _ g;
       }
 
-  pub station_named : OnRow t at n p r next m OfStation → (o : ℕ) → ((y : Station) → station_of r ≡ ok y → id t o ≡ who y) → o + 26 ≤ length t → Named t at n p next m o
+  pub station_named : OnRow t at n p r next m OfStation → (o : ℕ) → ((y : Station) → station_of r ≡ ok y → id t o ≡ who y) → o + 26 ≤ length t → Named t at n p p next m o
   unfolding after_role
   station_named z h s w =
       let e = after_is t at n p r next m OfStation z in
@@ -457,3 +379,18 @@ module _ (t : List ℕ) where
 
   pub fence_none : (b l : ℕ) → Clear t b l → Fence t b l []
   fence_none b l z = record { new = λ j a h y e w. z.new j b h a (omega arith) y e }
+
+-- ---- a row that was passed
+
+module _ (t : List ℕ) (j at n : ℕ) (p : Place) (z : Stood t j at n p) (l : List ℕ) (q : Cursor) where
+  pub peeked_stood : (s : Option Slot) → Peeks t at n p l q s → StoodAt t (j + 1) q
+  peeked_stood None o = stood_plain t j at n p z q.place q.at q.lines o
+  peeked_stood (Some s) o = stood_named t j at n p z q.place q.at q.lines s.start o.0
+
+  pub peeked_new : (lim : ℕ) → Fence t j lim l → j < lim → (s : Option Slot) → Peeks t at n p l q s → New t j
+  peeked_new lim f h None o = plain_new t j at n p z q.place q.at q.lines o
+  peeked_new lim f h (Some s) o = record { new = named_new t j at n p z q.place q.at q.lines s.start o.0 j lim l s.index f (omega arith) h o.1 j (omega arith) (omega arith) }
+
+  pub peeked_clear : (b lim : ℕ) → Fence t b lim l → b ≤ j → j < lim → Clear t b j → (s : Option Slot) → Peeks t at n p l q s → Clear t b (j + 1)
+  peeked_clear b lim f h g c None o = clear_on t b j c (new_before t j (plain_new t j at n p z q.place q.at q.lines o) b)
+  peeked_clear b lim f h g c (Some s) o = clear_on t b j c (named_new t j at n p z q.place q.at q.lines s.start o.0 b lim l s.index f h g o.1)

@@ -6,7 +6,9 @@ use native.Mathlib.Omega.{arith}
 use lib.ListN.{length, set, replicate}
 use Rattle.kit.specs.Answer.{Answer, ok, refused, bind, amap, All, all_dec, ¬_dec}
 use Rattle.kit.proofs.AnswerLaws.{need_yes, need_no}
-use Rattle.reading.specs.Feed.{Fault, fault, why, on_line, Feed}
+use Rattle.reading.specs.declared.Fault.{Fault}
+use Rattle.reading.specs.declared.Why.{Why}
+use Rattle.reading.specs.Feed.{fault, why, on_line, Feed}
 use Rattle.biases.specs.Biases.{Biases, nothing, one_satellite, one_station, SameSatellite, SameStation}
 use Rattle.biases.specs.Read.{satellite_of, station_of, same_satellite?, same_station?, new, new_satellite, new_station, on_role, gather}
 use Rattle.biases.specs.declared.Satellite.{Satellite}
@@ -18,7 +20,7 @@ use Rattle.biases.specs.declared.Role.TheVariants.{Last, Skipped, OfSatellite, O
 use Rattle.bias_scan.specs.Walk.{Going, going, first, with_satellite, with_station, after_role, walked, backwards, joined, onto}
 use Rattle.bias_scan.proofs.WalkLaws.{row_gather, walked_on}
 use Rattle.bias_scan.specs.Marks.{spot, marked}
-use Rattle.bias_scan.specs.Turns.{from, Halts, OnRow}
+use Rattle.bias_scan.specs.Turns.{from, cursor, Halts, OnRow}
 use Rattle.bias_scan.specs.Held.{Good}
 use Rattle.bias_scan.proofs.TurnLaws.{after_is}
 use Rattle.bias_scan.specs.Judged.{given, Stands, past_row, past_satellite, past_station, Gives}
@@ -45,19 +47,19 @@ module _ (t : List ℕ) (s : Scan) (z : Stands t s) where
   abbrev g : Biases
   g = given t s
 
-  pub halted : (k l c : ℕ) → Halts t s.at s.lines s.place k l c → gather nothing Outside (first t) ≡ refused (why k l c)
+  pub halted : (w : Why) → Halts t s.cursor.at s.cursor.lines s.cursor.place w → gather nothing Outside (first t) ≡ refused w
   unfolding amap
-  halted k l c h = z.same ∙ ap (onto g) (h.refuses g)
+  halted w h = z.same ∙ ap (onto g) (h.refuses g)
 
   module _ (r : List ℕ) (next m : ℕ) where
-    gathers : (x : Role) → OnRow t s.at s.lines s.place r next m x
-        → gather nothing Outside (first t) ≡ onto g (on_role g s.place m r (λ h q. gather h q (from t next m)) x)
-    gathers x o = z.same ∙ ap (λ (f : Feed). onto g (gather g s.place f)) o.on ∙ ap (onto g) (row_gather s.place g m r (from t next m) x o.is)
+    gathers : (x : Role) → OnRow t s.cursor.at s.cursor.lines s.cursor.place r next m x
+        → gather nothing Outside (first t) ≡ onto g (on_role g s.cursor.place m r (λ h q. gather h q (from t next m)) x)
+    gathers x o = z.same ∙ ap (λ (f : Feed). onto g (gather g s.cursor.place f)) o.on ∙ ap (onto g) (row_gather s.cursor.place g m r (from t next m) x o.is)
 
-    walks : (x : Role) → OnRow t s.at s.lines s.place r next m x → walked (s.rows + 1) (first t) ≡ after_role s.place g m r (from t next m) x
-    walks x o = walked_on s.rows (first t) s.place (from t s.at s.lines) z.place z.rest ∙ after_is t s.at s.lines s.place r next m x o g
+    walks : (x : Role) → OnRow t s.cursor.at s.cursor.lines s.cursor.place r next m x → walked (s.rows + 1) (first t) ≡ after_role s.cursor.place g m r (from t next m) x
+    walks x o = walked_on s.rows (first t) s.cursor.place (from t s.cursor.at s.cursor.lines) z.place z.rest ∙ after_is t s.cursor.at s.cursor.lines s.cursor.place r next m x o g
 
-    pub ended : OnRow t s.at s.lines s.place r next m Last → Gives t s.satellites s.stations
+    pub ended : OnRow t s.cursor.at s.cursor.lines s.cursor.place r next m Last → Gives t s.satellites s.stations
     unfolding on_role amap
     ended o =
         let b : Biases = joined g nothing in
@@ -71,16 +73,16 @@ module _ (t : List ℕ) (s : Scan) (z : Stands t s) where
         }
 
     -- a scan that stands one row on, with what that row gave
-    moved : (x : Role) (s' : Scan) (g' : Biases) → OnRow t s.at s.lines s.place r next m x → s'.rows ≡ s.rows + 1 → s'.at ≡ next → s'.lines ≡ m
-        → after_role s.place g m r (from t next m) x ≡ going s'.place g' (from t next m)
+    moved : (x : Role) (s' : Scan) (g' : Biases) → OnRow t s.cursor.at s.cursor.lines s.cursor.place r next m x → s'.rows ≡ s.rows + 1 → s'.cursor.at ≡ next → s'.cursor.lines ≡ m
+        → after_role s.cursor.place g m r (from t next m) x ≡ going s'.cursor.place g' (from t next m)
         → s'.satellites ≡ length g'.satellites → s'.stations ≡ length g'.stations → 4 * s'.satellites ≤ next → 20 * s'.stations ≤ next
         → s'.marks ≡ marked g'.satellites
-        → onto g (on_role g s.place m r (λ h q. gather h q (from t next m)) x) ≡ onto g' (gather g' s'.place (from t next m))
+        → onto g (on_role g s.cursor.place m r (λ h q. gather h q (from t next m)) x) ≡ onto g' (gather g' s'.cursor.place (from t next m))
         → Stands t s'
     moved x s' g' o er ea el e cs ct f w mk sm =
-        let k : walked s'.rows (first t) ≡ going s'.place g' (from t next m) = ap (λ (i : ℕ). walked i (first t)) er ∙ walks x o ∙ e in
+        let k : walked s'.rows (first t) ≡ going s'.cursor.place g' (from t next m) = ap (λ (i : ℕ). walked i (first t)) er ∙ walks x o ∙ e in
         let kg : given t s' ≡ g' = ap (λ (v : Going). v.given) k in
-        let there : from t next m ≡ from t s'.at s'.lines = λ i. from t (sym ea i) (sym el i) in
+        let there : from t next m ≡ from t s'.cursor.at s'.cursor.lines = λ i. from t (sym ea i) (sym el i) in
         record {
           within = omega (arith, o.within);
           lines = omega (arith, o.passed);
@@ -92,17 +94,17 @@ module _ (t : List ℕ) (s : Scan) (z : Stands t s) where
           fours = omega arith;
           twenties = omega arith;
           marks = mk ∙ ap (λ (b : Biases). marked b.satellites) (sym kg);
-          same = gathers x o ∙ sm ∙ (λ i. onto (sym kg i) (gather (sym kg i) s'.place (there i)));
+          same = gathers x o ∙ sm ∙ (λ i. onto (sym kg i) (gather (sym kg i) s'.cursor.place (there i)));
         }
 
-    pub skipped : (q : Place) → OnRow t s.at s.lines s.place r next m (Skipped q) → Stands t (past_row s q next m)
+    pub skipped : (q : Place) → OnRow t s.cursor.at s.cursor.lines s.cursor.place r next m (Skipped q) → Stands t (past_row s (cursor q next m))
     unfolding after_role on_role
     skipped q o =
-        moved (Skipped q) (past_row s q next m) g o refl refl refl refl
+        moved (Skipped q) (past_row s (cursor q next m)) g o refl refl refl refl
         z.satellites z.stations (omega (arith, z.fours, o.ahead)) (omega (arith, z.twenties, o.ahead)) z.marks refl
 
     -- ---- a satellite's row
-    module _ (o : OnRow t s.at s.lines s.place r next m OfSatellite) where
+    module _ (o : OnRow t s.cursor.at s.cursor.lines s.cursor.place r next m OfSatellite) where
       pub satellite_refused : (k c : ℕ) → refused (fault k c) ≡ satellite_of r → gather nothing Outside (first t) ≡ refused (why k m c)
       unfolding on_role new_satellite bind on_line amap
       satellite_refused k c e = gathers OfSatellite o ∙ rw (← e) refl
@@ -112,16 +114,16 @@ module _ (t : List ℕ) (s : Scan) (z : Stands t s) where
         unfolding on_role new_satellite new bind on_line amap
         satellite_twice n = gathers OfSatellite o ∙ rw (← e, need_no (all_dec (λ y. ¬_dec (same_satellite? x y)) g.satellites) (fault 5 61) (ok x) n) refl
 
-        pub satellite_new : All (λ y. ¬ SameSatellite x y) g.satellites → s.at + 61 ≤ next → Stands t (past_satellite s (spot x) next m)
+        pub satellite_new : All (λ y. ¬ SameSatellite x y) g.satellites → s.cursor.at + 61 ≤ next → Stands t (past_satellite s (spot x) (cursor s.cursor.place next m))
         unfolding after_role with_satellite on_role new_satellite new bind on_line marked
         satellite_new a l =
-            moved OfSatellite (past_satellite s (spot x) next m)
-            (one_satellite x g) o refl refl refl (ap (λ (v : Answer Fault Satellite). going s.place (with_satellite v g) (from t next m)) (sym e))
+            moved OfSatellite (past_satellite s (spot x) (cursor s.cursor.place next m))
+            (one_satellite x g) o refl refl refl (ap (λ (v : Answer Fault Satellite). going s.cursor.place (with_satellite v g) (from t next m)) (sym e))
             (let c = z.satellites in omega arith) z.stations (omega (arith, z.fours)) (omega (arith, z.twenties)) (ap (λ (l : List ℕ). set l (spot x) 1) z.marks)
-            (rw (← e, need_yes (all_dec (λ y. ¬_dec (same_satellite? x y)) g.satellites) (fault 5 61) (ok x) a) (onto_satellite x g (gather (one_satellite x g) s.place (from t next m))))
+            (rw (← e, need_yes (all_dec (λ y. ¬_dec (same_satellite? x y)) g.satellites) (fault 5 61) (ok x) a) (onto_satellite x g (gather (one_satellite x g) s.cursor.place (from t next m))))
 
     -- ---- a station's row
-    module _ (o : OnRow t s.at s.lines s.place r next m OfStation) where
+    module _ (o : OnRow t s.cursor.at s.cursor.lines s.cursor.place r next m OfStation) where
       pub station_refused : (k c : ℕ) → refused (fault k c) ≡ station_of r → gather nothing Outside (first t) ≡ refused (why k m c)
       unfolding on_role new_station bind on_line amap
       station_refused k c e = gathers OfStation o ∙ rw (← e) refl
@@ -137,13 +139,13 @@ module _ (t : List ℕ) (s : Scan) (z : Stands t s) where
         station_good k q h =
             (q.new s.rows h).new x (ap (λ (v : Going). v.given.stations) (walks OfStation o) ∙ ap (λ (v : Answer Fault Station). (with_station v g).stations) (sym e))
 
-        pub station_new : All (λ y. ¬ SameStation x y) g.stations → s.at + 61 ≤ next → Stands t (past_station s next m)
+        pub station_new : All (λ y. ¬ SameStation x y) g.stations → s.cursor.at + 61 ≤ next → Stands t (past_station s (cursor s.cursor.place next m))
         unfolding after_role with_station on_role new_station new bind on_line
         station_new a l =
-            moved OfStation (past_station s next m)
-            (one_station x g) o refl refl refl (ap (λ (v : Answer Fault Station). going s.place (with_station v g) (from t next m)) (sym e))
+            moved OfStation (past_station s (cursor s.cursor.place next m))
+            (one_station x g) o refl refl refl (ap (λ (v : Answer Fault Station). going s.cursor.place (with_station v g) (from t next m)) (sym e))
             z.satellites (let c = z.stations in omega arith) (omega (arith, z.fours)) (omega (arith, z.twenties)) z.marks
-            (rw (← e, need_yes (all_dec (λ y. ¬_dec (same_station? x y)) g.stations) (fault 5 61) (ok x) a) (onto_station x g (gather (one_station x g) s.place (from t next m))))
+            (rw (← e, need_yes (all_dec (λ y. ¬_dec (same_station? x y)) g.stations) (fault 5 61) (ok x) a) (onto_station x g (gather (one_station x g) s.cursor.place (from t next m))))
 
 -- ---- where the scan starts
 
@@ -152,7 +154,7 @@ unfolding amap
 onto_nothing (ok b) = refl
 onto_nothing (refused w) = refl
 
-pub stands_first : (t : List ℕ) → Stands t (record { place = Outside; at = 0; lines = 0; rows = 0; satellites = 0; stations = 0; marks = replicate 198 0 })
+pub stands_first : (t : List ℕ) → Stands t (record { cursor = cursor Outside 0 0; rows = 0; satellites = 0; stations = 0; marks = replicate 198 0 })
 unfolding walked marked
 stands_first t =
     record {

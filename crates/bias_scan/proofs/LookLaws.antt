@@ -1,4 +1,5 @@
 -- A station looked for among the rows passed.
+use Rattle.std.specs.Prelude.{Option, Some, None}
 use mathlib.Core.Path.{◌≡◌, refl, sym, ap, subst, ◌∙◌}
 use mathlib.Core.Bool.{true, false}
 use mathlib.Core.List.{List}
@@ -8,12 +9,10 @@ use lib.ListN.{length}
 use Rattle.kit.specs.Answer.{Answer, ok, refused}
 use Rattle.kit.proofs.AnswerLaws.{bind_yields, Yields, y_ok, y_no, yields}
 use Rattle.forms.specs.Columns.{columns}
-use Rattle.forms.specs.declared.Found.{Found}
-use Rattle.forms.specs.declared.Found.TheVariants.{At, Nowhere}
 use Rattle.layout.specs.Text.{pad}
 use Rattle.layout.specs.Names.{holds}
 use Rattle.layout.specs.Records.{Vals}
-use Rattle.reading.specs.Feed.{Fault}
+use Rattle.reading.specs.declared.Fault.{Fault}
 use Rattle.reading.proofs.LabelLaws.{held, holding}
 use Rattle.reading.specs.Fields.{unless, blank_to}
 use Rattle.biases.specs.Biases.{Biases}
@@ -30,9 +29,9 @@ use Rattle.bias_scan.specs.Turns.{from, Heard, Unheard, Past, Twice, Still}
 
 -- ---- a station's name stands in columns 7 to 26
 
-unless_yields : {Q : Station → Type 0} (h : Found) (x : Answer Fault Station) → Yields Q x → Yields Q (unless h x)
-unless_yields (At c) x y = y_no
-unless_yields Nowhere x y = y
+unless_yields : {Q : Station → Type 0} (h : Option ℕ) (x : Answer Fault Station) → Yields Q x → Yields Q (unless h x)
+unless_yields (Some c) x y = y_no
+unless_yields None x y = y
 
 meant_name : (v : Vals station_items) → Yields (λ s. s.name ≡ v.1.0) (station_meant v)
 unfolding station_meant

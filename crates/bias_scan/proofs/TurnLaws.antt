@@ -10,7 +10,9 @@ use Rattle.kit.specs.Answer.{Answer, ok, refused}
 use Rattle.forms.specs.Columns.{columns}
 use Rattle.forms.proofs.ColumnLaws.{columns_first}
 use Rattle.layout.specs.Text.{pad}
-use Rattle.reading.specs.Feed.{Fault, why, Feed, over, bad, row, split, feed, NoRow}
+use Rattle.reading.specs.declared.Fault.{Fault}
+use Rattle.reading.specs.declared.Why.{Why}
+use Rattle.reading.specs.Feed.{why, Feed, over, bad, row, split, feed, NoRow}
 use Rattle.reading.specs.Maps.{short}
 use Rattle.reading.proofs.LabelLaws.{label_columns}
 use Rattle.read_lines.specs.Leads.{LeadsRow, after_all}
@@ -29,7 +31,7 @@ use Rattle.bias_scan.specs.Turns.{from, Halts, OnRow, OnLine, Heard, Unheard, Pa
 -- ---- no row
 
 module _ (t : List ℕ) (at n : ℕ) (p : Place) where
-  pub halts_over : (m l : ℕ) → from t at n ≡ over (suc m) → l ≡ after_all m → Halts t at n p 10 l 0
+  pub halts_over : (m l : ℕ) → from t at n ≡ over (suc m) → l ≡ after_all m → Halts t at n p (why 10 l 0)
   unfolding gather short after
   halts_over m l e f =
       record {
@@ -38,9 +40,9 @@ module _ (t : List ℕ) (at n : ℕ) (p : Place) where
         stays = λ g. ap (λ (x : Feed). after p g x) e ∙ ap (λ (x : Feed). going p g x) (sym e);
       }
 
-  pub halts_bad : (k l c : ℕ) → from t at n ≡ bad (why k l c) → Halts t at n p k l c
+  pub halts_bad : (w : Why) → from t at n ≡ bad w → Halts t at n p w
   unfolding gather after
-  halts_bad k l c e =
+  halts_bad w e =
       record {
         none = subst NoRow (sym e) tt;
         refuses = λ g. ap (gather g p) e;

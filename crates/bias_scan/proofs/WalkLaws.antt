@@ -5,7 +5,8 @@ use Prim.Native.Nat.{ℕ, zero, suc, ◌+◌, ◌-◌, ◌≤◌}
 use native.Mathlib.Numerals.{add-one}
 use native.Mathlib.Omega.{arith}
 use Rattle.kit.specs.Answer.{Answer, ok, refused, All}
-use Rattle.reading.specs.Feed.{Fault, Feed, over, bad, row}
+use Rattle.reading.specs.declared.Fault.{Fault}
+use Rattle.reading.specs.Feed.{Feed, over, bad, row}
 use Rattle.biases.specs.Biases.{Biases, SameStation}
 use Rattle.biases.specs.Read.{role, satellite_of, station_of, on_role, gather}
 use Rattle.biases.specs.declared.Satellite.{Satellite}

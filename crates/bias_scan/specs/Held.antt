@@ -1,20 +1,20 @@
 -- Rows whose station no row before gave, found among stations held in order.
-use Rattle.std.specs.Prelude.{◌≡◌, ◌⊎◌, List, [], ◌∷◌, ℕ, ◌+◌, ◌-◌, ◌≤◌, ◌<◌, length, get_or, take, drop}
+use Rattle.std.specs.Prelude.{◌≡◌, List, ◌∷◌, ℕ, ◌+◌, ◌-◌, ◌≤◌, ◌<◌, length, get_or, take, drop, Option, Some, None}
+use Rattle.std.specs.Cmp.Lexicographic.{slice_cmp}
+use Rattle.std.specs.Ordering.{nat_cmp}
+use Rattle.std.specs.declared.cmp.Ordering.TheVariants.{Less}
 use Rattle.std.proofs.Math.Decide.{ℕ_discrete}
 use Rattle.kit.specs.Answer.{Answer, ok, pick}
-use Rattle.reading.specs.Feed.{Fault}
+use Rattle.reading.specs.declared.Fault.{Fault}
 use Rattle.biases.specs.Biases.{Biases}
 use Rattle.biases.specs.declared.Station.{Station}
 use Rattle.biases.specs.declared.Place.{Place}
 use Rattle.bias_scan.specs.Walk.{first, with_station, after, walked}
 use Rattle.bias_scan.specs.Turns.{from, Unheard}
 use Rattle.bias_scan.specs.declared.Search.{Search}
-use Rattle.bias_scan.specs.declared.Compared.{Compared}
-use Rattle.bias_scan.specs.declared.Compared.TheVariants as Compared
-use Rattle.bias_scan.specs.declared.Placed.{Placed}
-use Rattle.bias_scan.specs.declared.Placed.TheVariants as Placed
+use Rattle.bias_scan.specs.declared.Cursor.{Cursor}
+use Rattle.bias_scan.specs.declared.Slot.{Slot}
 use Rattle.bias_scan.specs.declared.Peeked.{Peeked}
-use Rattle.bias_scan.specs.declared.Peeked.TheVariants as Peeked
 
 -- ---- the system and the name of a station, in order
 
@@ -30,15 +30,7 @@ abbrev pub id : List ℕ → ℕ → List ℕ
 id t o = seed (get_or t (o + 3) 0) ∷ take 20 (drop (o + 6) t)
 
 abbrev pub Before : List ℕ → List ℕ → Type 0
-Before [] [] = ⊥
-Before [] (b ∷ m) = Unit {0}
-Before (a ∷ l) [] = ⊥
-Before (a ∷ l) (b ∷ m) = (a < b) ⊎ ((a ≡ b) × Before l m)
-
-abbrev pub Ordered : Compared → List ℕ → List ℕ → Type 0
-Ordered Compared.Less x y = Before x y
-Ordered Compared.Same x y = Unit {0}
-Ordered Compared.More x y = Before y x
+Before x y = slice_cmp nat_cmp x y ≡ Less
 
 -- records that start at these places, in order
 pub record Table (t : List ℕ) (l : List ℕ) : Type 0 where
@@ -50,9 +42,9 @@ pub record Splits (t : List ℕ) (l : List ℕ) (s p : ℕ) : Type 0 where
   pub low : (i : ℕ) → i < p → Before (id t (get_or l i 0)) (id t s)
   pub high : (i : ℕ) → p ≤ i → i < length l → Before (id t s) (id t (get_or l i 0))
 
-abbrev pub Places : List ℕ → List ℕ → ℕ → Placed → Type 0
-Places t l s Placed.Taken = Unit {0}
-Places t l s (Placed.At p) = Splits t l s p
+abbrev pub Places : List ℕ → List ℕ → ℕ → Option ℕ → Type 0
+Places t l s None = Unit {0}
+Places t l s (Some p) = Splits t l s p
 
 -- none of these is w
 pub record Apart (t : List ℕ) (l w : List ℕ) : Type 0 where
@@ -93,9 +85,12 @@ pub record Stood (t : List ℕ) (j at n : ℕ) (p : Place) : Type 0 where
   pub place : (walked j (first t)).place ≡ p
   pub rest : (walked j (first t)).rest ≡ from t at n
 
+abbrev pub StoodAt : List ℕ → ℕ → Cursor → Type 0
+StoodAt t j c = Stood t j c.at c.lines c.place
+
 -- the first rows of r are all new; where as many stations as there is room for were held, up to its limit none of theirs comes again
 pub record Chunked (t : List ℕ) (s r : Search) : Type 0 where
-  pub stood : Stood t r.rows r.at r.lines r.place
+  pub stood : StoodAt t r.rows r.cursor
   pub good : Good t r.rows
   pub bound : r.rows ≤ r.limit
   pub clear : 2048 ≤ r.count → Clear t r.rows r.limit
@@ -113,18 +108,22 @@ pub record Plain (t : List ℕ) (at n : ℕ) (p : Place) (q : Place) (next m : �
   pub same : (g : Biases) → (after p g (from t at n)).given.stations ≡ g.stations
 
 -- one row on, which gives none, or that of the record at o
-pub record Named (t : List ℕ) (at n : ℕ) (p : Place) (next m o : ℕ) : Type 0 where
+pub record Named (t : List ℕ) (at n : ℕ) (p q : Place) (next m o : ℕ) : Type 0 where
   pub ahead : at < next
   pub within : next ≤ length t
   pub passed : m ≤ next
-  pub place : (g : Biases) → (after p g (from t at n)).place ≡ p
+  pub place : (g : Biases) → (after p g (from t at n)).place ≡ q
   pub rest : (g : Biases) → (after p g (from t at n)).rest ≡ from t next m
   pub said : Answer Fault Station
   pub given : (g : Biases) → (after p g (from t at n)).given ≡ with_station said g
   pub whose : (y : Station) → said ≡ ok y → id t o ≡ who y
   pub whole : o + 26 ≤ length t
 
-abbrev pub Passed : List ℕ → ℕ → ℕ → Place → List ℕ → Peeked → Type 0
-Passed t at n p l Peeked.Done = Unit {0}
-Passed t at n p l (Peeked.Other q next m) = Plain t at n p q next m
-Passed t at n p l (Peeked.Station next m o k) = Named t at n p next m o × Splits t l o k
+-- the row is passed, with its station, if it gives one
+abbrev pub Peeks : List ℕ → ℕ → ℕ → Place → List ℕ → Cursor → Option Slot → Type 0
+Peeks t at n p l q None = Plain t at n p q.place q.at q.lines
+Peeks t at n p l q (Some s) = Named t at n p q.place q.at q.lines s.start × Splits t l s.start s.index
+
+abbrev pub Passed : List ℕ → ℕ → ℕ → Place → List ℕ → Option Peeked → Type 0
+Passed t at n p l None = Unit {0}
+Passed t at n p l (Some r) = Peeks t at n p l r.next r.slot

@@ -1,8 +1,10 @@
 -- What the next row of a text is, by what the code hands back.
-use Rattle.std.specs.Prelude.{◌≡◌, List, ℕ, suc, ◌+◌, ◌-◌, ◌≤◌, ◌<◌, length, take, drop}
+use Rattle.std.specs.Prelude.{◌≡◌, List, ℕ, suc, ◌+◌, ◌-◌, ◌≤◌, ◌<◌, length, take, drop, Result, Ok, Err}
 use Rattle.kit.specs.Answer.{Answer, ok, refused, All}
 use Rattle.layout.specs.Text.{pad}
-use Rattle.reading.specs.Feed.{Fault, why, Feed, row, split, feed, NoRow}
+use Rattle.reading.specs.declared.Fault.{Fault}
+use Rattle.reading.specs.declared.Why.{Why}
+use Rattle.reading.specs.Feed.{Feed, row, split, feed, NoRow}
 use Rattle.biases.specs.Biases.{Biases, SameStation}
 use Rattle.biases.specs.Read.{role, same_station?, gather}
 use Rattle.biases.specs.declared.Station.{Station}
@@ -10,19 +12,21 @@ use Rattle.biases.specs.declared.Place.{Place}
 use Rattle.biases.specs.declared.Role.{Role}
 use Rattle.biases.specs.declared.Role.TheVariants.{Last, Skipped, OfSatellite, OfStation}
 use Rattle.bias_scan.specs.Walk.{going, after}
+use Rattle.bias_scan.specs.declared.Cursor.{Cursor}
 use Rattle.bias_scan.specs.declared.Turn.{Turn}
-use Rattle.bias_scan.specs.declared.Turn.TheVariants as Turn
 use Rattle.bias_scan.specs.declared.Looked.{Looked}
-use Rattle.bias_scan.specs.declared.Looked.TheVariants as Looked
 
 -- the rows from a line's start on, after n lines
 abbrev pub from : List ℕ → ℕ → ℕ → Feed
 from t at n = feed (suc n) (split (drop at t))
 
+abbrev pub cursor : Place → ℕ → ℕ → Cursor
+cursor p at n = record { place = p; at = at; lines = n }
+
 -- no row comes: whatever was given before, it is refused so, and stays
-pub record Halts (t : List ℕ) (at n : ℕ) (p : Place) (k l c : ℕ) : Type 0 where
+pub record Halts (t : List ℕ) (at n : ℕ) (p : Place) (w : Why) : Type 0 where
   pub none : NoRow (from t at n)
-  pub refuses : (g : Biases) → gather g p (from t at n) ≡ refused (why k l c)
+  pub refuses : (g : Biases) → gather g p (from t at n) ≡ refused w
   pub stays : (g : Biases) → after p g (from t at n) ≡ going p g (from t at n)
 
 -- a row that is x, on line m; the next line starts at next
@@ -41,12 +45,12 @@ pub record OnLine (t : List ℕ) (at n : ℕ) (p : Place) (start end next m : �
   pub whole : end ≤ length t
   pub long : at + 61 ≤ next
 
-abbrev pub Turns : List ℕ → ℕ → ℕ → Place → Turn → Type 0
-Turns t at n p (Turn.Stop k l c) = Halts t at n p k l c
-Turns t at n p Turn.Last = (r : List ℕ) × (next : ℕ) × (m : ℕ) × OnRow t at n p r next m Last
-Turns t at n p (Turn.Skip q next m) = (r : List ℕ) × OnRow t at n p r next m (Skipped q)
-Turns t at n p (Turn.Satellite start end next m) = OnLine t at n p start end next m OfSatellite
-Turns t at n p (Turn.Station start end next m) = OnLine t at n p start end next m OfStation
+abbrev pub Turns : List ℕ → ℕ → ℕ → Place → Result Turn Why → Type 0
+Turns t at n p (Err w) = Halts t at n p w
+Turns t at n p (Ok Turn.Last) = (r : List ℕ) × (next : ℕ) × (m : ℕ) × OnRow t at n p r next m Last
+Turns t at n p (Ok (Turn.Skip q)) = (r : List ℕ) × OnRow t at n p r q.at q.lines (Skipped q.place)
+Turns t at n p (Ok (Turn.Satellite r)) = OnLine t at n p r.start r.end r.next r.lines OfSatellite
+Turns t at n p (Ok (Turn.Station r)) = OnLine t at n p r.start r.end r.next r.lines OfStation
 
 -- ---- a station looked for
 
@@ -80,4 +84,4 @@ pub record Still (t : List ℕ) (at n : ℕ) (p : Place) : Type 0 where
 abbrev pub Looks : List ℕ → ℕ → ℕ → Place → Station → Looked → Type 0
 Looks t at n p x Looked.Same = Twice t at n p x
 Looks t at n p x Looked.Nothing = Still t at n p
-Looks t at n p x (Looked.Other q next m) = Past t at n p x q next m
+Looks t at n p x (Looked.Other q) = Past t at n p x q.place q.at q.lines

@@ -1,7 +1,9 @@
 -- What the first rows of a header give, whether or not they are at fault.
 use Rattle.std.specs.Prelude.{List, [], ◌∷◌, ℕ, zero, suc}
 use Rattle.kit.specs.Answer.{Answer, ok, refused, amap}
-use Rattle.reading.specs.Feed.{Fault, Why, Feed, over, bad, row, split, feed}
+use Rattle.reading.specs.declared.Fault.{Fault}
+use Rattle.reading.specs.declared.Why.{Why}
+use Rattle.reading.specs.Feed.{Feed, over, bad, row, split, feed}
 use Rattle.biases.specs.Biases.{Biases, nothing, one_satellite, one_station}
 use Rattle.biases.specs.Read.{role, satellite_of, station_of}
 use Rattle.biases.specs.declared.Satellite.{Satellite}

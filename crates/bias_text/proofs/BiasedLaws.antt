@@ -7,7 +7,7 @@ use native.Mathlib.Omega.{arith}
 use lib.ListN.{length}
 use Rattle.kit.specs.Answer.{ok, refused, bind}
 use Rattle.kit.specs.Range.{Within}
-use Rattle.reading.specs.Feed.{why}
+use Rattle.reading.specs.declared.Why.{Why}
 use Rattle.reading.specs.Read.{read}
 use Rattle.read_needs.specs.Needs.{first_short}
 use Rattle.read_needs.proofs.ShortLaws.{all_long}
@@ -28,25 +28,25 @@ use Rattle.bias_text.proofs.Numbers.{bias_number, fours_length, threes_length, n
 -- ---- the answer
 
 module _ (t : List ℕ) (l : Lent) where
-  pub maps_refused : (k n c : ℕ) → read t ≡ refused (why k n c) → outcome t l ≡ record { told = because (at_place k n c); areas = l }
+  pub maps_refused : (w : Why) → read t ≡ refused w → record { told = because (at_place w.number w.line w.column); areas = l } ≡ outcome t l
   unfolding outcome_of biases bind
-  maps_refused k n c e = rw e refl
+  maps_refused w e = rw e refl
 
-  pub maps_number : (k n c : ℕ) → read t ≡ refused (why k n c) → Within 1 10 k
+  pub maps_number : (w : Why) → read t ≡ refused w → Within 1 10 w.number
   unfolding biases bind
-  maps_number k n c e = bias_number t (why k n c) (rw e refl)
+  maps_number w e = bias_number t w (rw e refl)
 
   module _ (m : Maps t) where
     is_gather : biases t ≡ gather nothing Outside (first t)
     unfolding biases bind
     is_gather = rw m.reads refl
 
-    pub biases_refuse : (k n c : ℕ) → gather nothing Outside (first t) ≡ refused (why k n c) → outcome t l ≡ record { told = because (at_place k n c); areas = l }
+    pub biases_refuse : (w : Why) → gather nothing Outside (first t) ≡ refused w → record { told = because (at_place w.number w.line w.column); areas = l } ≡ outcome t l
     unfolding outcome_of
-    biases_refuse k n c e = ap (λ x. outcome_of x l) (is_gather ∙ e)
+    biases_refuse w e = sym (ap (λ x. outcome_of x l) (is_gather ∙ e))
 
-    pub biases_number : (k n c : ℕ) → gather nothing Outside (first t) ≡ refused (why k n c) → Within 1 10 k
-    biases_number k n c e = bias_number t (why k n c) (is_gather ∙ e)
+    pub biases_number : (w : Why) → gather nothing Outside (first t) ≡ refused w → Within 1 10 w.number
+    biases_number w e = bias_number t w (is_gather ∙ e)
 
     module _ (ns nt : ℕ) (g : Gives t ns nt) where
       abbrev b : Biases

@@ -1,4 +1,5 @@
 -- A refusal of the biases has one of 01's numbers; what is needed, by how many are given.
+use Rattle.std.specs.Prelude.{Option, Some, None}
 use mathlib.Core.Path.{◌≡◌, refl, sym, ap, ◌∙◌}
 use mathlib.Core.Logic.{⊎_elim}
 use mathlib.Core.List.{List, [], ◌∷◌}
@@ -10,10 +11,10 @@ use Rattle.kit.specs.Answer.{Answer, ok, refused, amap, need, All}
 use Rattle.kit.specs.Range.{Within}
 use Rattle.forms.specs.Form as form
 use Rattle.forms.specs.Read.{read_field}
-use Rattle.forms.specs.declared.Field.{Field}
-use Rattle.forms.specs.declared.Field.TheVariants.{Number, Bad}
 use Rattle.layout.specs.Records.{Item, I, F, D, X, A, U}
-use Rattle.reading.specs.Feed.{Fault, fault, Why, Feed}
+use Rattle.reading.specs.declared.Fault.{Fault}
+use Rattle.reading.specs.declared.Why.{Why}
+use Rattle.reading.specs.Feed.{fault, Feed}
 use Rattle.reading.specs.Fields.{number, blanks, blank, scan}
 use Rattle.read_judge.proofs.JudgeLaws.{one_to_ten}
 use Rattle.biases.specs.Biases.{Biases}
@@ -30,10 +31,10 @@ use Rattle.bias_fill.specs.Flat.{four, three, of_satellites, of_stations, names_
 
 -- ---- an ill-formed field is 6
 
-number_six : {B : Type 0} (o : Field) (c : ℕ) (f : ℤ → Answer Fault B) (e : Fault) → ((z : ℤ) → f z ≡ refused e → e.number ≡ 6) → number o c f ≡ refused e → e.number ≡ 6
+number_six : {B : Type 0} (o : Option ℤ) (c : ℕ) (f : ℤ → Answer Fault B) (e : Fault) → ((z : ℤ) → f z ≡ refused e → e.number ≡ 6) → number o c f ≡ refused e → e.number ≡ 6
 unfolding number
-number_six (Number z) c f e h q = h z q
-number_six Bad c f e h q = let g : fault 6 c ≡ e = cc in sym (ap (λ (w : Fault). w.number) g)
+number_six (Some z) c f e h q = h z q
+number_six None c f e h q = let g : fault 6 c ≡ e = cc in sym (ap (λ (w : Fault). w.number) g)
 
 amap_six : {B C : Type 0} (g : B → C) (x : Answer Fault B) (e : Fault) → amap g x ≡ refused e → x ≡ refused e
 unfolding amap

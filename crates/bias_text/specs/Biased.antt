@@ -1,9 +1,9 @@
 -- 02, Ask 7: what is answered of a text and three lent areas, and what is left in them.
-use Rattle.std.specs.Prelude.{◌≡◌, List, [], ◌∷◌, ℕ, length}
+use Rattle.std.specs.Prelude.{◌≡◌, List, [], ◌∷◌, ℕ, length, Result, Ok, Err}
 use Rattle.std.proofs.Math.Option.{Option, none, some}
 use Rattle.kit.specs.Answer.{Answer, ok, refused}
 use Rattle.mapset.specs.MapSet.{MapSet}
-use Rattle.reading.specs.Feed.{Why}
+use Rattle.reading.specs.declared.Why.{Why}
 use Rattle.reading.specs.Read.{read}
 use Rattle.read_needs.specs.Needs.{first_short}
 use Rattle.read_outcome.specs.Outcome as maps
@@ -11,8 +11,8 @@ use Rattle.read_outcome.specs.Outcome.{at_place, eleven, told_reason}
 use Rattle.biases.specs.Biases.{Biases}
 use Rattle.biases.specs.Read.{biases}
 use Rattle.bias_fill.specs.Flat.{Lent, flat, in_front}
-use Rattle.bias_text.specs.declared.Biased.{Biased}
-use Rattle.bias_text.specs.declared.Biased.TheVariants.{Given, Refused}
+use Rattle.bias_scan.specs.declared.Counts.{Counts}
+use Rattle.read_outcome.specs.declared.Reason.{Reason}
 
 -- ---- the answer: how many satellites and stations; or why not: 01's number with line and column, or 11 with the area and its need
 pub data ToldBiases : Type 0 where
@@ -44,12 +44,12 @@ outcome t l = outcome_of (biases t) l
 
 -- ---- what the code's answer tells
 
-abbrev pub told : Biased → ToldBiases
-told (Given a b) = given a b
-told (Refused w) = because (told_reason w)
+abbrev pub told : Result Counts Reason → ToldBiases
+told (Ok c) = given c.satellites c.stations
+told (Err w) = because (told_reason w)
 
 -- what the code hands back, with the areas as it leaves them
-abbrev pub comes : Biased → Lent → Outcome
+abbrev pub comes : Result Counts Reason → Lent → Outcome
 comes r l = record { told = told r; areas = l }
 
 -- the text's maps are accepted

@@ -8,7 +8,8 @@ use Rattle.kit.specs.Answer.{ok, refused, bind, amap}
 use Rattle.kit.proofs.AnswerLaws.{Yields, y_ok, y_no, yields, bind_yields, amap_yields, yields_map}
 use Rattle.mapset.specs.MapSet.{MapSet}
 use Rattle.layout.specs.Layout as layout
-use Rattle.reading.specs.Feed.{Why, on_line, Feed, feed, split}
+use Rattle.reading.specs.declared.Why.{Why}
+use Rattle.reading.specs.Feed.{on_line, Feed, feed, split}
 use Rattle.reading.specs.Read.{read}
 use Rattle.reading.proofs.LineLaws.{Carries, c_over, c_row, carries, clean, split_of, Sized, sized}
 use Rattle.reading.proofs.MapLaws.{on_line_yields}

@@ -16,7 +16,9 @@ use Rattle.layout.specs.Records.{Vals}
 use Rattle.layout.specs.Labels.{Label, version, description, comment, system, exponent, aux_start, aux_end, head, name, layout as layout_of, Rec}
 use Rattle.layout.specs.Layout as layout
 use Rattle.layout.specs.Layout.{Slots, Lines, Mode, plain, aux, Heads, h_description, h_comment, h_exponent, h_field, h_system, h_aux, h_skip, h_back, h_end, rows_of}
-use Rattle.reading.specs.Feed.{Fault, fault, Why, why, on_line, Feed, row, feed, split}
+use Rattle.reading.specs.declared.Fault.{Fault}
+use Rattle.reading.specs.declared.Why.{Why}
+use Rattle.reading.specs.Feed.{fault, why, on_line, Feed, row, feed, split}
 use Rattle.reading.specs.Fields.{scan}
 use Rattle.reading.specs.Read.{read}
 use Rattle.reading.proofs.LineLaws.{Carries, c_row, carries, clean, split_of, Sized, sized}

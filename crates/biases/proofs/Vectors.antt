@@ -7,7 +7,8 @@ use Prim.Native.String.{String}
 use Rattle.kit.specs.Answer.{Answer, ok, refused}
 use Rattle.mapset.specs.MapSet.{MapSet}
 use Rattle.layout.specs.Labels.{bytes}
-use Rattle.reading.specs.Feed.{Why, why}
+use Rattle.reading.specs.declared.Why.{Why}
+use Rattle.reading.specs.Feed.{why}
 use Rattle.reading.proofs.Vectors.{whole_reading}
 use Rattle.layout.specs.Samples.{lines, mix_line, one_map_lines, pair_axes, pair_map}
 use Rattle.biases.specs.Biases.{Biases}

@@ -3,7 +3,9 @@ use Rattle.std.specs.Prelude.{◌≡◌, List, ℕ, take}
 use Rattle.kit.specs.Answer.{All, refused}
 use Rattle.kit.specs.Range.{Natural}
 use Rattle.layout.specs.Records.{Vals}
-use Rattle.reading.specs.Feed.{Fault, fault, Why, why, Feed, row}
+use Rattle.reading.specs.declared.Fault.{Fault}
+use Rattle.reading.specs.declared.Why.{Why}
+use Rattle.reading.specs.Feed.{fault, why, Feed, row}
 use Rattle.reading.specs.Fields.{scan}
 use Rattle.biases.specs.Biases.{Biases, one_satellite, one_station, SameSatellite, SameStation}
 use Rattle.biases.specs.Rules.{of_satellite, of_station, satellite_items, station_items, Row, Letter, SatelliteRow, StationRow, Stands}

@@ -5,7 +5,9 @@ use Rattle.kit.specs.Answer.{Answer, ok, refused, need, bind, amap, pick, same, 
 use Rattle.kit.specs.Range.{natural?}
 use Rattle.layout.specs.Records.{Vals}
 use Rattle.layout.specs.Labels.{name, aux_start, aux_end, header_end}
-use Rattle.reading.specs.Feed.{Fault, fault, Why, on_line, Feed, over, bad, row, split, feed}
+use Rattle.reading.specs.declared.Fault.{Fault}
+use Rattle.reading.specs.declared.Why.{Why}
+use Rattle.reading.specs.Feed.{fault, on_line, Feed, over, bad, row, split, feed}
 use Rattle.reading.specs.Fields.{scan}
 use Rattle.reading.specs.Maps.{short}
 use Rattle.reading.specs.Read.{read}

@@ -20,8 +20,8 @@ use Rattle.join.proofs.JoinedFormed.{joined_formed}
 use Rattle.join.specs.Into.{Lent, lent_of, meaning, Why, with_room, lent_join, join_into}
 use Rattle.join.proofs.IntoExactly.{LentJoins, not_valid, not_alike, not_met, too_many, given, lent_exactly}
 use Rattle.join_areas.specs.Joined.{comes, came}
-use Rattle.join_areas.specs.declared.Joining.{Joining}
-use Rattle.join_areas.specs.declared.Joining.TheVariants.{Done, Refused}
+use Rattle.std.specs.Prelude.{Result, Ok, Err}
+use Rattle.join_areas.specs.declared.Refusal.{Refusal}
 use Rattle.kit.specs.Range.{lesser}
 use Rattle.kit.proofs.LesserLaws.{lesser_within}
 use Rattle.c_answers.specs.Own.{too_short, shortest}
@@ -62,10 +62,10 @@ module _ (x y : Lent) (l : Areas) where
       subst (λ (h : Header). (h.times.first < 9223372036854775808) × (h.times.last < 9223372036854775808)) (roomy (joined (meaning x) (meaning y)) l _ e)
       (in_years (joined (meaning x) (meaning y)) (joined_formed (meaning x) (meaning y) j.join))
 
-  pub small_epochs : (r : Joining) (t : FullTexts) (l' : Areas) → comes r t l' ≡ came (join_into x y l) l → Small r
+  pub small_epochs : (r : Result Header Refusal) (t : FullTexts) (l' : Areas) → comes r t l' ≡ came (join_into x y l) l → Small r
   unfolding join_into
-  small_epochs (Done h) t l' e = years (lent_join x y) (lent_exactly x y) (sym (ap (λ o. o.told) e))
-  small_epochs (Refused w) t l' e = tt
+  small_epochs (Ok h) t l' e = years (lent_join x y) (lent_exactly x y) (sym (ap (λ o. o.told) e))
+  small_epochs (Err w) t l' e = tt
 
 -- ---- the areas of the call's own, and the answer
 module _ (f : List ℤ) (s : List ℕ) (a : Areas) (g : List ℤ) (t : List ℕ) (b l : Areas) (h : List ℤ) (x p : List ℕ) where
@@ -76,16 +76,16 @@ module _ (f : List ℤ) (s : List ℕ) (a : Areas) (g : List ℤ) (t : List ℕ)
   unfolding join_crossed
   join_short e q = ap (λ k. crossed k l h x p) e ∙ sym (unless_short _ (λ k. crossed k l h x p) (omega (arith, e, q)))
 
-  module _ (n : own ≡ 0) (r : Joining) (l' : Areas)
+  module _ (n : own ≡ 0) (r : Result Header Refusal) (l' : Areas)
       (e : comes r (texts_of t) l' ≡ came (join_into (lent_of (header_of f) (texts_of s) a) (lent_of (header_of g) (texts_of t) b) l) l) where
     is_crossed : crosses (comes r (texts_of t) l') h x p ≡ join_crossed f s a g t b l h x p
     unfolding join_crossed
     is_crossed = ap (λ o. crosses o h x p) e ∙ sym (unless_none _ (λ k. crossed k l h x p) n)
 
-    by_answer : (r : Joining) → crossed (answer_number r) l' (front (answer_header r) h) (front (answer_texts r (texts_of t)) x) (front (answer_place r) p) ≡ crosses (comes r (texts_of t) l') h x p
+    by_answer : (r : Result Header Refusal) → crossed (answer_number r) l' (front (answer_header r) h) (front (answer_texts r (texts_of t)) x) (front (answer_place r) p) ≡ crosses (comes r (texts_of t) l') h x p
     unfolding crosses
-    by_answer (Done h) = refl
-    by_answer (Refused w) = refl
+    by_answer (Ok h) = refl
+    by_answer (Err w) = refl
 
     pub join_answer : {k : ℕ} {h' : List ℤ} {x' p' : List ℕ} → k ≡ answer_number r → h' ≡ front (answer_header r) h
         → x' ≡ front (answer_texts r (texts_of t)) x → p' ≡ front (answer_place r) p → crossed k l' h' x' p' ≡ join_crossed f s a g t b l h x p

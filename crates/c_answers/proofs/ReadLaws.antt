@@ -5,6 +5,7 @@ use Prim.Native.Nat.{ℕ, ◌≤◌, ◌<◌}
 use native.Mathlib.Omega.{arith}
 use lib.IntN.{ℤ}
 use lib.ListN.{length}
+use Rattle.std.specs.Prelude.{Result, Ok, Err}
 use Rattle.kit.specs.Answer.{Answer, ok, refused}
 use mathlib.Core.Option.{Option, none, some}
 use Rattle.mapset.specs.declared.Header.{Header}
@@ -12,7 +13,7 @@ use Rattle.mapset.specs.Described.{FullTexts}
 use Rattle.mapset.specs.Header.{Stand, stand_some, contents, says, a_epoch}
 use Rattle.mapset.specs.MapSet.{MapSet}
 use Rattle.mapset.specs.Areas.{Areas}
-use Rattle.reading.specs.Feed.{Why}
+use Rattle.reading.specs.declared.Why.{Why}
 use Rattle.reading.specs.Read.{read}
 use Rattle.reading.proofs.Exact.{made_read}
 use Rattle.areas.specs.Formed.{Formed}
@@ -24,8 +25,6 @@ use Rattle.c_answers.proofs.OwnLaws.{unless_none, unless_short}
 use Rattle.c_answers.specs.ReadExported.{told_header, told_texts, Small, crossed, crosses, read_crossed}
 use Rattle.read_outcome.specs.declared.Reason.{Reason}
 use Rattle.read_outcome.specs.declared.Reason.TheVariants.{LongLine, BadByte, NotIonex, UnknownLabel, Misplaced, IllFormed, OutOfRange, Disagrees, Missing, EndsEarly, AreaTooShort}
-use Rattle.read_outcome.specs.declared.Reading.{Reading}
-use Rattle.read_outcome.specs.declared.Reading.TheVariants.{Accepted, Refused}
 use Rattle.read_outcome.specs.declared.ReadOut.{ReadOut}
 
 -- ---- the epochs of an accepted header are small
@@ -55,11 +54,11 @@ module _ (t : List ℕ) (l : Areas) (r : ReadOut) (l' : Areas) (e : comes r l' �
   pub small_epochs : Small r.answer
   small_epochs = by r.answer refl
     where
-      by : (a : Reading) → r.answer ≡ a → Small a
-      by (Accepted h) q =
+      by : (a : Result Header Reason) → r.answer ≡ a → Small a
+      by (Ok h) q =
           let f = from_read t l (read t) refl (sym (ap (λ o. o.told) e) ∙ ap told q) in
           rw f.header at (in_years f.set (made_formed (made_read t f.reads)))
-      by (Refused w) q = tt
+      by (Err w) q = tt
 
 -- ---- the areas of the call's own, and the answer
 

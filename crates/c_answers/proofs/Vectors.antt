@@ -13,7 +13,8 @@ use Rattle.mapset.specs.Samples.{given_count, given_system, absent_system}
 use Rattle.read_outcome.specs.Outcome.{at_place, eleven}
 use Rattle.read_outcome.specs.Outcome as R
 use Rattle.write_text.specs.Write.{told}
-use Rattle.write_text.specs.declared.Written.TheVariants as W
+use Rattle.std.specs.Prelude.{Err}
+use Rattle.write_text.specs.declared.Unwritten.TheVariants as W
 use Rattle.join.specs.Into.{because, short}
 use Rattle.c_header.specs.Numbers.{numbers}
 use Rattle.c_answers.specs.Own.{too_short}
@@ -25,7 +26,7 @@ use Rattle.c_answers.specs.NeedsExported.{listed}
 -- 11 with its area and need, 30 with its bytes, 31 with nothing, 7 for an epoch; else the number with line and column
 pub numbers_told : (a n k l c : ℕ) (w : Refusal)
     → (R.told_number (eleven a n) ≡ 11) × (R.told_place (eleven a n) ≡ a ∷ n ∷ []) × (R.told_number (at_place k l c) ≡ k) × (R.told_place (at_place k l c) ≡ l ∷ c ∷ [])
-    × (E.told_number (told (W.Short n)) ≡ 30) × (E.told_count (told (W.Short n)) ≡ n ∷ []) × (E.told_number (told W.Unsound) ≡ 31) × (E.told_count (told W.Unsound) ≡ [])
+    × (E.told_number (told (Err (W.Short n))) ≡ 30) × (E.told_count (told (Err (W.Short n))) ≡ n ∷ []) × (E.told_number (told (Err W.Unsound)) ≡ 31) × (E.told_count (told (Err W.Unsound)) ≡ [])
     × (J.why_number (because k) ≡ k) × (J.why_number (short a n) ≡ 11) × (J.why_place (short a n) ≡ a ∷ n ∷ []) × (M.told_number (refused w) ≡ 7)
 numbers_told a n k l c w = (refl, refl, refl, refl, refl, refl, refl, refl, refl, refl, refl, refl)
 

@@ -1,13 +1,13 @@
 -- Joining as it crosses to other languages: a number, the six areas, and three areas of the call's own.
-use Rattle.std.specs.Prelude.{List, [], ◌∷◌, ℕ, ◌<◌, ℤ, length}
+use Rattle.std.specs.Prelude.{Result, Ok, Err, List, [], ◌∷◌, ℕ, ◌<◌, ℤ, length}
 use Rattle.kit.specs.Answer.{Answer, ok, refused}
 use Rattle.kit.specs.Lists.{front}
+use Rattle.mapset.specs.declared.Header.{Header}
 use Rattle.mapset.specs.Described.{FullTexts}
 use Rattle.mapset.specs.Areas.{Areas}
 use Rattle.join.specs.Into.{Lent, lent_of, Why, because, short, join_into}
 use Rattle.join_areas.specs.Joined.{told_why, Outcome, came}
-use Rattle.join_areas.specs.declared.Joining.{Joining}
-use Rattle.join_areas.specs.declared.Joining.TheVariants.{Done, Refused}
+use Rattle.join_areas.specs.declared.Refusal.{Refusal}
 use Rattle.c_header.specs.Numbers.{numbers, text_bytes}
 use Rattle.c_given.specs.Given.{header_of, texts_of}
 use Rattle.c_answers.specs.Own.{too_short, shortest, unless}
@@ -50,23 +50,23 @@ join_crossed f s a g t b l h x p =
     (crosses (came (join_into (lent_of (header_of f) (texts_of s) a) (lent_of (header_of g) (texts_of t) b) l) l) h x p) (λ k. crossed k l h x p)
 
 -- ---- of the code's answer, with the later texts
-abbrev pub answer_number : Joining → ℕ
-answer_number (Done h) = 0
-answer_number (Refused w) = why_number (told_why w)
+abbrev pub answer_number : Result Header Refusal → ℕ
+answer_number (Ok h) = 0
+answer_number (Err w) = why_number (told_why w)
 
-abbrev pub answer_header : Joining → List ℤ
-answer_header (Done h) = numbers h
-answer_header (Refused w) = []
+abbrev pub answer_header : Result Header Refusal → List ℤ
+answer_header (Ok h) = numbers h
+answer_header (Err w) = []
 
-abbrev pub answer_texts : Joining → FullTexts → List ℕ
-answer_texts (Done h) t = text_bytes t
-answer_texts (Refused w) t = []
+abbrev pub answer_texts : Result Header Refusal → FullTexts → List ℕ
+answer_texts (Ok h) t = text_bytes t
+answer_texts (Err w) t = []
 
-abbrev pub answer_place : Joining → List ℕ
-answer_place (Done h) = []
-answer_place (Refused w) = why_place (told_why w)
+abbrev pub answer_place : Result Header Refusal → List ℕ
+answer_place (Ok h) = []
+answer_place (Err w) = why_place (told_why w)
 
 -- the epochs of a joined header are numbers of 63 bits
-abbrev pub Small : Joining → Type 0
-Small (Done h) = (h.times.first < 9223372036854775808) × (h.times.last < 9223372036854775808)
-Small (Refused w) = Unit {0}
+abbrev pub Small : Result Header Refusal → Type 0
+Small (Ok h) = (h.times.first < 9223372036854775808) × (h.times.last < 9223372036854775808)
+Small (Err w) = Unit {0}

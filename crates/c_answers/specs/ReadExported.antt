@@ -1,11 +1,11 @@
 -- Reading as it crosses to other languages: a number, the six areas, and three areas of the call's own.
-use Rattle.std.specs.Prelude.{List, [], ℕ, ◌<◌, ℤ, length}
+use Rattle.std.specs.Prelude.{List, [], ℕ, ◌<◌, ℤ, length, Result, Ok, Err}
 use Rattle.mapset.specs.Described.{FullTexts}
 use Rattle.mapset.specs.Areas.{Areas}
 use Rattle.kit.specs.Lists.{front}
 use Rattle.read_outcome.specs.Outcome.{ToldReading, accepted, at_place, eleven, Outcome, outcome, told_number, told_place}
-use Rattle.read_outcome.specs.declared.Reading.{Reading}
-use Rattle.read_outcome.specs.declared.Reading.TheVariants.{Accepted, Refused}
+use Rattle.mapset.specs.declared.Header.{Header}
+use Rattle.read_outcome.specs.declared.Reason.{Reason}
 use Rattle.c_header.specs.Numbers.{numbers, text_bytes}
 use Rattle.c_answers.specs.Own.{too_short, unless}
 
@@ -21,9 +21,9 @@ told_texts (at_place k l c) x = []
 told_texts (eleven a n) x = []
 
 -- the epochs of an accepted header are numbers of 63 bits
-abbrev pub Small : Reading → Type 0
-Small (Accepted h) = (h.times.first < 9223372036854775808) × (h.times.last < 9223372036854775808)
-Small (Refused w) = Unit {0}
+abbrev pub Small : Result Header Reason → Type 0
+Small (Ok h) = (h.times.first < 9223372036854775808) × (h.times.last < 9223372036854775808)
+Small (Err w) = Unit {0}
 
 -- the number answered, and what is then in the areas
 pub record Crossed : Type 0 where

@@ -22,16 +22,14 @@ ghost use Rattle.c_answers.specs.DelayExported.{told_number as delay_number, tol
 ghost use Rattle.c_answers.specs.MoveExported.{told_number as move_number, told_moved};
 ghost use Rattle.c_answers.specs.JoinExported.{why_number, why_place, answer_number, answer_header, answer_texts, answer_place, Small as SmallJoined};
 
-use ask::Asked;
-use ask_all::AllAsked;
-use ask_delay::AskedDelay;
-use calendar::When;
-use delay::{Delay, Delayed};
-use join_areas::{Joining, Refusal};
-use mapset::Texts;
+use ask::Value;
+use delay::Delay;
+use join_areas::Refusal;
+use mapset::{Header, Texts};
 use read_needs::Elements;
-use read_outcome::{Measured, ReadOut, Reading, Reason};
-use write_text::Written;
+use read_outcome::{ReadOut, Reason};
+use reading::Why;
+use write_text::Unwritten;
 
 // ---- The areas of a call's own
 
@@ -66,7 +64,7 @@ pub fn too_short_two(header: usize, texts: usize, a: usize, m: usize, b: usize, 
 pub fn shortest(a: usize, b: usize, c: usize) -> usize
     ensures { result ≡ own.shortest a b c }
 {
-    kit::lesser(a, kit::lesser(b, c))
+    a.min(b.min(c))
 }
 
 // ---- Reading
@@ -89,17 +87,13 @@ pub fn put_reading(r: ReadOut, header: &mut [i64], texts: &mut [u8], place: &mut
         × ((texts.new ≡ front (told_texts (told_read r.answer) (texts_in r)) texts.old)
         × (place.new ≡ front (told_place (told_read r.answer)) place.old))) }
 {
-    let answer = r.answer;
-    let x = r.texts;
-    let d = r.descriptions;
-    let lines = d.bytes;
-    match answer {
-        Reading::Accepted(h) => {
+    match r.answer {
+        Ok(h) => {
             c_header::put_header(header, h);
-            c_header::put_texts(texts, x, &lines);
+            c_header::put_texts(texts, r.texts, &r.descriptions.bytes);
             0
         }
-        Reading::Refused(reason) => put_refusal(reason, place),
+        Err(reason) => put_refusal(reason, place),
     }
 }
 
@@ -118,18 +112,21 @@ fn put_elements(out: &mut [u64], n: Elements)
 }
 
 // What a text needs crosses: its number; the six needs, or the place.
-pub fn put_needs(measured: Measured, needs: &mut [u64], place: &mut [u64]) -> u64
+pub fn put_needs(measured: Result<Elements, Why>, needs: &mut [u64], place: &mut [u64]) -> u64
     requires { (6 ≤ length needs.old) × (2 ≤ length place.old) }
     ensures { (result ≡ needs_number measured)
         × ((needs.new ≡ front (told_needs measured) needs.old)
         × (place.new ≡ front (needs_place measured) place.old)) }
 {
     match measured {
-        Measured::Needs(n) => {
+        Ok(n) => {
             put_elements(needs, n);
             0
         }
-        Measured::Refused(reason) => put_refusal(reason, place),
+        Err(why) => {
+            c_header::put_pair(place, why.line, why.column);
+            why.number
+        }
     }
 }
 
@@ -143,20 +140,20 @@ fn put_count(out: &mut [u64], n: u64)
 }
 
 // An answer crosses: its number, and the bytes written or needed.
-pub fn put_written(answer: Written, count: &mut [u64]) -> u64
+pub fn put_written(answer: Result<u64, Unwritten>, count: &mut [u64]) -> u64
     requires { 1 ≤ length count.old }
     ensures { (result ≡ write_number (told_written answer)) × (count.new ≡ front (told_count (told_written answer)) count.old) }
 {
     match answer {
-        Written::Bytes(n) => {
+        Ok(n) => {
             put_count(count, n);
             0
         }
-        Written::Short(n) => {
+        Err(Unwritten::Short(n)) => {
             put_count(count, n);
             30
         }
-        Written::Unsound => 31,
+        Err(Unwritten::Unsound) => 31,
     }
 }
 
@@ -170,30 +167,30 @@ fn put_value(out: &mut [i32], v: i32)
 }
 
 // An answer crosses: its number, and its value if it has one.
-pub fn put_answer(answer: Asked, out: &mut [i32]) -> u64
+pub fn put_answer(answer: Result<Value, ask::Why>, out: &mut [i32]) -> u64
     requires { 1 ≤ length out.old }
     ensures { (result ≡ ask_number (told_asked answer)) × (out.new ≡ front (told_value (told_asked answer)) out.old) }
 {
     match answer {
-        Asked::Tecu(v) => {
+        Ok(Value::Tecu(v)) => {
             put_value(out, v.0);
             0
         }
-        Asked::Km(v) => {
+        Ok(Value::Km(v)) => {
             put_value(out, v.0);
             0
         }
-        Asked::Refused(why) => ask::number_of(why),
+        Err(why) => ask::number_of(why),
     }
 }
 
 // Many questions cross: 0, or the number that refuses them all.
-pub fn all_number(answer: AllAsked) -> u64
+pub fn all_number(answer: Result<(), ask::Why>) -> u64
     ensures { result ≡ told_all answer }
 {
     match answer {
-        AllAsked::Answered => 0,
-        AllAsked::Refused(why) => ask::number_of(why),
+        Ok(()) => 0,
+        Err(why) => ask::number_of(why),
     }
 }
 
@@ -209,43 +206,43 @@ fn put_record(out: &mut [f64], d: Delay)
 }
 
 // A delay crosses: its number, and the record if there is one.
-pub fn put_delay(delayed: Delayed, out: &mut [f64]) -> u64
+pub fn put_delay(delayed: Option<Delay>, out: &mut [f64]) -> u64
     requires { 3 ≤ length out.old }
     ensures { (result ≡ delay_number (told_delay delayed)) × (out.new ≡ front (told_record (told_delay delayed)) out.old) }
 {
     match delayed {
-        Delayed::Given(d) => {
+        Some(d) => {
             put_record(out, d);
             0
         }
-        Delayed::Refused => 25,
+        None => 25,
     }
 }
 
 // The delay of a question crosses.
-pub fn put_asked_delay(answer: AskedDelay, out: &mut [f64]) -> u64
+pub fn put_asked_delay(answer: Result<Option<Delay>, ask::Why>, out: &mut [f64]) -> u64
     requires { 3 ≤ length out.old }
     ensures { (result ≡ delay_number (told_asked_delay answer)) × (out.new ≡ front (told_record (told_asked_delay answer)) out.old) }
 {
     match answer {
-        AskedDelay::Answered(d) => put_delay(d, out),
-        AskedDelay::Refused(why) => ask::number_of(why),
+        Ok(d) => put_delay(d, out),
+        Err(why) => ask::number_of(why),
     }
 }
 
 // ---- Moving an epoch
 
 // An epoch moved crosses: its number, and the epoch if there is one.
-pub fn put_moved(when: When, out: &mut [u64]) -> u64
+pub fn put_moved(when: Option<u64>, out: &mut [u64]) -> u64
     requires { 1 ≤ length out.old }
     ensures { (result ≡ move_number (told_when when)) × (out.new ≡ front (told_moved (told_when when)) out.old) }
 {
     match when {
-        When::At(t) => {
+        Some(t) => {
             out[0] = t;
             0
         }
-        When::Refused => 7,
+        None => 7,
     }
 }
 
@@ -269,7 +266,7 @@ fn put_why(why: Refusal, place: &mut [u64]) -> u64
 
 // Two sets joined cross: the number; the header record and the later set's texts, or the place.
 pub fn put_joined(
-    r: Joining,
+    r: Result<Header, Refusal>,
     x: Texts,
     descriptions: &[u8],
     header: &mut [i64],
@@ -283,11 +280,11 @@ pub fn put_joined(
         × (place.new ≡ front (answer_place r) place.old))) }
 {
     match r {
-        Joining::Done(h) => {
+        Ok(h) => {
             c_header::put_header(header, h);
             c_header::put_texts(texts, x, descriptions);
             0
         }
-        Joining::Refused(why) => put_why(why, place),
+        Err(why) => put_why(why, place),
     }
 }

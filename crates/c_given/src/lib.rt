@@ -15,24 +15,20 @@ pub const END: usize = 1324;
 pub fn held(x: i64, high: u64) -> u64
     ensures { result ≡ bounded high x }
 {
-    if kit::negative(x) {
+    if x < 0 {
         return high;
     }
-    let m = x as u64;
-    if high < m {
-        return high;
-    }
-    m
+    high.min(x as u64)
 }
 
 fn on_axis(x: i64) -> i32
     ensures { result ≡ axis_number x }
 {
-    if kit::wide::less(x, -2147483647) {
-        return 2147483647;
+    if x < -2147483647 {
+        return i32::MAX;
     }
-    if kit::wide::less(2147483647, x) {
-        return 2147483647;
+    if 2147483647 < x {
+        return i32::MAX;
     }
     x as i32
 }
@@ -40,31 +36,28 @@ fn on_axis(x: i64) -> i32
 fn stands(x: i64) -> bool
     ensures { result ≡ stands_of x }
 {
-    if kit::wide::less(x, 0) {
-        return true;
-    }
-    kit::wide::less(0, x)
+    x != 0
 }
 
 fn count_at(n: &[i64], i: usize) -> u32
     requires { i + 1 ≤ length n.now }
     ensures { result ≡ count_at n.now i }
 {
-    held(n[i], 4294967295) as u32
+    held(n[i], u32::MAX as u64) as u32
 }
 
 fn second_at(n: &[i64], i: usize) -> u64
     requires { i + 1 ≤ length n.now }
     ensures { result ≡ bounded 18446744073709551615 (nth n.now i) }
 {
-    held(n[i], 18446744073709551615)
+    held(n[i], u64::MAX)
 }
 
 fn kind_at(n: &[i64], i: usize) -> u8
     requires { i + 1 ≤ length n.now }
     ensures { result ≡ bounded 255 (nth n.now i) }
 {
-    held(n[i], 255) as u8
+    held(n[i], u8::MAX as u64) as u8
 }
 
 fn version_in(n: &[i64]) -> Version
@@ -180,16 +173,11 @@ pub fn texts_in(b: &[u8]) -> Texts
     requires { 1324 ≤ length b.now }
     ensures { result ≡ five_of b.now }
 {
-    let program = fields::text20(b, 0);
-    let agency = fields::text20(b, 20);
-    let date = fields::text20(b, 40);
-    let mapping = fields::text4(b, 60);
-    let observables = fields::text60(&b[64..]);
     Texts {
-        program: program,
-        agency: agency,
-        date: date,
-        mapping: mapping,
-        observables: observables,
+        program: fields::text(b, 0),
+        agency: fields::text(b, 20),
+        date: fields::text(b, 40),
+        mapping: fields::text(b, 60),
+        observables: fields::text(&b[64..], 0),
     }
 }

@@ -2,90 +2,44 @@
 #![tactic(auto)]
 
 ghost use Rattle.mapset.specs.Described.{full};
-ghost use Rattle.std.specs.Prelude.{◌≡◌, [], ◌∷◌, ◌+◌, ◌≤◌, ◌<◌, length, pos};
+ghost use Rattle.std.specs.Prelude.{◌≡◌, [], ◌∷◌, ◌+◌, ◌≤◌, ◌<◌, length};
 ghost use Rattle.std.proofs.lemmas.List.Edits.{sets};
 ghost use Rattle.kit.specs.Lists.{front};
-ghost use Rattle.c_header.specs.Numbers.{flag, axis_numbers, counted_numbers, system_numbers, first_numbers, grid_numbers, starred_numbers, numbers, five_bytes, text_bytes};
+ghost use Rattle.c_header.specs.Numbers.{axis_numbers, counted_numbers, system_numbers, first_numbers, grid_numbers, starred_numbers, numbers, five_bytes, text_bytes};
 
 use mapset::{Axis, Counted, Grid, Header, System, Texts};
 
-fn put_three(out: &mut [i64], at: usize, a: i64, b: i64, c: i64)
-    requires { at + 3 ≤ length out.old }
-    ensures { out.new ≡ sets out.old at (a ∷ b ∷ c ∷ []) }
+// Numbers into an area, from a position on.
+fn put(out: &mut [i64], at: usize, numbers: &[i64])
+    requires { at + length numbers.now ≤ length out.old }
+    ensures { out.new ≡ sets out.old at numbers.now }
 {
-    out[at] = a;
-    out[at + 1] = b;
-    out[at + 2] = c;
-}
-
-fn put_two(out: &mut [i64], at: usize, a: i64, b: i64)
-    requires { at + 2 ≤ length out.old }
-    ensures { out.new ≡ sets out.old at (a ∷ b ∷ []) }
-{
-    out[at] = a;
-    out[at + 1] = b;
-}
-
-fn put_one(out: &mut [i64], at: usize, a: i64)
-    requires { at + 1 ≤ length out.old }
-    ensures { out.new ≡ sets out.old at (a ∷ []) }
-{
-    out[at] = a;
-}
-
-// Numbers as they cross: each is an i64.
-fn wide(x: i32) -> i64
-    ensures { result ≡ x }
-{
-    x as i64
-}
-
-fn whole(n: u32) -> i64
-    ensures { result ≡ pos n }
-{
-    n as i64
-}
-
-fn second(t: u64) -> i64
-    requires { t < 9223372036854775808 }
-    ensures { result ≡ pos t }
-{
-    t as i64
-}
-
-fn flag_of(b: bool) -> i64
-    ensures { result ≡ flag b }
-{
-    if b {
-        return 1;
-    }
-    0
+    let end = at + numbers.len();
+    out[at..end].copy_from_slice(numbers);
 }
 
 fn put_axis(out: &mut [i64], at: usize, a: Axis)
     requires { at + 3 ≤ length out.old }
     ensures { out.new ≡ sets out.old at (axis_numbers a) }
 {
-    put_three(out, at, wide(a.first), wide(a.last), wide(a.step));
+    put(out, at, &[a.first as i64, a.last as i64, a.step as i64]);
 }
 
 fn put_counted(out: &mut [i64], at: usize, c: Counted)
     requires { at + 2 ≤ length out.old }
     ensures { out.new ≡ sets out.old at (counted_numbers c) }
 {
-    put_two(out, at, flag_of(c.stands), whole(c.count));
+    put(out, at, &[c.stands as i64, c.count as i64]);
 }
 
 fn put_system(out: &mut [i64], at: usize, s: System)
     requires { at + 3 ≤ length out.old }
     ensures { out.new ≡ sets out.old at (system_numbers s) }
 {
-    put_three(
+    put(
         out,
         at,
-        flag_of(s.stands),
-        whole(s.stations),
-        whole(s.satellites),
+        &[s.stands as i64, s.stations as i64, s.satellites as i64],
     );
 }
 
@@ -93,21 +47,21 @@ fn put_first(out: &mut [i64], h: Header)
     requires { (10 ≤ length out.old) × (h.times.first < 9223372036854775808) × (h.times.last < 9223372036854775808) }
     ensures { out.new ≡ sets out.old 0 (first_numbers h) }
 {
-    put_three(
+    put(
         out,
         0,
-        whole(h.version.tenths),
-        whole(h.version.kind as u32),
-        whole(h.version.code),
-    );
-    put_two(out, 3, second(h.times.first), second(h.times.last));
-    put_two(out, 5, whole(h.times.interval), whole(h.times.maps));
-    put_three(
-        out,
-        7,
-        whole(h.model.cutoff),
-        whole(h.model.radius),
-        whole(h.model.dimension),
+        &[
+            h.version.tenths as i64,
+            h.version.kind as i64,
+            h.version.code as i64,
+            h.times.first as i64,
+            h.times.last as i64,
+            h.times.interval as i64,
+            h.times.maps as i64,
+            h.model.cutoff as i64,
+            h.model.radius as i64,
+            h.model.dimension as i64,
+        ],
     );
 }
 
@@ -151,7 +105,7 @@ pub fn put_header(out: &mut [i64], h: Header)
     put_first(out, h);
     put_grid(out, h.grid);
     put_starred(out, h);
-    put_one(out, 44, whole(h.descriptions));
+    out[44] = h.descriptions as i64;
 }
 
 // PGM / RUN BY / DATE, MAPPING FUNCTION, OBSERVABLES USED.
@@ -159,16 +113,11 @@ fn put_five(out: &mut [u8], x: Texts)
     requires { 124 ≤ length out.old }
     ensures { out.new ≡ front (five_bytes x) out.old }
 {
-    let program = x.program;
-    let agency = x.agency;
-    let date = x.date;
-    let mapping = x.mapping;
-    let observables = x.observables;
-    kit::copy_at(&program, out, 0);
-    kit::copy_at(&agency, out, 20);
-    kit::copy_at(&date, out, 40);
-    kit::copy_at(&mapping, out, 60);
-    kit::copy_at(&observables, out, 64);
+    kit::copy_at(&x.program, out, 0);
+    kit::copy_at(&x.agency, out, 20);
+    kit::copy_at(&x.date, out, 40);
+    kit::copy_at(&x.mapping, out, 60);
+    kit::copy_at(&x.observables, out, 64);
 }
 
 // The texts, and behind them the bytes of the description.

@@ -1,13 +1,13 @@
 -- A node and a block by an index as they cross to other languages: a number, and an area of the call's own.
-use Rattle.std.specs.Prelude.{◌≡◌, List, [], ◌∷◌, ℕ, ◌-◌, ◌≤◌, ℤ, length}
+use Rattle.std.specs.Prelude.{◌≡◌, List, [], ◌∷◌, ℕ, ◌-◌, ◌≤◌, ℤ, length, Result, Ok, Err}
 use Rattle.kit.specs.Lists.{front}
 use Rattle.c_given.specs.Given.{header_of, texts_of}
 use Rattle.c_answers.specs.Own.{too_short}
 use Rattle.index.specs.Index as index
 use Rattle.index.specs.Index.{Index, Entries, Node, Replies, position}
 use Rattle.index_node.specs.Told.{number}
-use Rattle.index_node.specs.declared.Reply.{Reply}
-use Rattle.index_node.specs.declared.Reply.TheVariants.{Given, Refused}
+use Rattle.index_node.specs.declared.Found.{Found}
+use Rattle.index_node.specs.declared.Why.{Why}
 
 -- 0 for an answer, or 02's number
 abbrev pub told_number : index.Reply → ℕ
@@ -41,18 +41,18 @@ pub data BlockCrosses (h : List ℤ) (x : List ℕ) (l : Entries) (t : List ℕ)
 
 -- ---- the same of the code's reply
 
-abbrev pub number_in : Reply → ℕ
-number_in (Given z e a b) = 0
-number_in (Refused w) = number w
+abbrev pub number_in : Result Found Why → ℕ
+number_in (Ok f) = 0
+number_in (Err w) = number w
 
-abbrev pub value_in : Reply → List ℤ
-value_in (Given z e a b) = z ∷ e ∷ []
-value_in (Refused w) = []
+abbrev pub value_in : Result Found Why → List ℤ
+value_in (Ok f) = f.number ∷ f.exponent ∷ []
+value_in (Err w) = []
 
-abbrev pub bounds_in : Reply → List ℕ
-bounds_in (Given z e a b) = a ∷ (b - a) ∷ []
-bounds_in (Refused w) = []
+abbrev pub bounds_in : Result Found Why → List ℕ
+bounds_in (Ok f) = f.start ∷ (f.end - f.start) ∷ []
+bounds_in (Err w) = []
 
-abbrev pub Ordered : Reply → Type 0
-Ordered (Given z e a b) = a ≤ b
-Ordered (Refused w) = Unit {0}
+abbrev pub Ordered : Result Found Why → Type 0
+Ordered (Ok f) = f.start ≤ f.end
+Ordered (Err w) = Unit {0}

@@ -22,7 +22,8 @@ use Rattle.mapset.specs.MapSet.{MapSet}
 use Rattle.mapset.specs.Areas.{Areas, Present, nowhere?, values}
 use Rattle.mapset.proofs.FirstLaws.{first_in}
 use Rattle.layout.specs.Layout.{Makes, makes, per_map}
-use Rattle.reading.specs.Feed.{Why, split}
+use Rattle.reading.specs.declared.Why.{Why}
+use Rattle.reading.specs.Feed.{split}
 use Rattle.reading.specs.Read.{read}
 use Rattle.reading.proofs.Exact.{read_made, made_read}
 use Rattle.reading.specs.Refusals.{Cause, too_long, bad_byte, by_row}

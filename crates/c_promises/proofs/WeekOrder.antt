@@ -16,8 +16,8 @@ use Rattle.week.specs.Sane.{outcome, kept}
 use Rattle.week.proofs.WeekLaws.{report_week, report_permuted}
 use Rattle.week.proofs.SaneLaws.{sane_week, kept_added}
 use Rattle.week.specs.declared.Week.{Week}
-use Rattle.week.specs.declared.Added.{Added}
-use Rattle.week.specs.declared.Added.TheVariants as A
+use Rattle.std.specs.Prelude.{Result, Ok, Err}
+use Rattle.week.specs.declared.Why.{Why}
 use Rattle.c_week.specs.WeekNumbers.{week_numbers, week_at}
 use Rattle.c_week.specs.WeekExported.{Crossed, told_week, week_short, crossed, crosses, set_of, week_crossed}
 use Rattle.c_week.proofs.Back.{week_back}
@@ -48,9 +48,9 @@ short_some s w n =
     (λ h. h)
 
 -- ---- one call
-after : (W : Week) (a : Added) (l : List ℤ) → front (told_week a) (front (week_numbers W) l) ≡ front (week_numbers (kept W a)) l
-after W (A.Into v) l = refl
-after W (A.Refused y) l = refl
+after : (W : Week) (a : Result Week Why) (l : List ℤ) → front (told_week a) (front (week_numbers W) l) ≡ front (week_numbers (kept W a)) l
+after W (Ok v) l = refl
+after W (Err y) l = refl
 
 abbrev set : Handed → Given
 set s = set_of s.header s.texts s.areas s.rows

@@ -15,12 +15,12 @@ use Rattle.kit.specs.Lists.{front}
 use Rattle.kit.proofs.Parts.{abs_parts, one_zero, le_parts}
 use Rattle.c_given.proofs.GivenLaws.{bounded_within}
 use Rattle.ask_nodes.specs.Nodes.{Small}
-use Rattle.week_tally.specs.Figures.{figures, range, Fit}
+use Rattle.week_tally.specs.Figures.{figures, Fit}
 use Rattle.week_tally.proofs.FigureLaws.{Among, Spans, same}
 use Rattle.week_tally.specs.Rows.{smallest, largest}
 use Rattle.week_tally.specs.declared.Tally.{Tally}
 use Rattle.week_tally.specs.declared.Range.{Range}
-use Rattle.week_tally.specs.declared.Range.TheVariants as R
+use Rattle.std.specs.Prelude.{Option as Maybe, Some, None}
 use Rattle.week.specs.Week.{Given, accepted, week_nodes, week_of, no_sets}
 use Rattle.week.proofs.WeekLaws.{week_small, week_spans, same as same_week}
 use Rattle.week.specs.Sane.{Fair, Sane}
@@ -32,24 +32,24 @@ use Rattle.c_week.specs.WeekNumbers.{week_numbers, range_of, count_of, broken, w
 Held : ℤ → Type 0
 Held z = Between (negsuc 2147483647) (pos 2147483647) z
 
-abbrev HeldRange : Range → Type 0
-HeldRange R.Nothing = Unit {0}
-HeldRange (R.From a b) = Held a × Held b
+abbrev HeldRange : Maybe Range → Type 0
+HeldRange None = Unit {0}
+HeldRange (Some r) = Held r.smallest × Held r.largest
 
 count_back : (n : ℕ) → n ≤ 18446744073709551615 → count_of (pos n) ≡ n
 count_back n h = sym (bounded_within 18446744073709551615 (pos n) (le-ltb n 0 (omega arith)) h)
 
-range_back : (n : ℕ) (r : Range) → Fit n r → HeldRange r → range_of n (smallest r) (largest r) ≡ r
+range_back : (n : ℕ) (r : Maybe Range) → Fit n r → HeldRange r → range_of n (smallest r) (largest r) ≡ r
 unfolding range_of Held
-range_back zero R.Nothing f h =
+range_back zero None f h =
     pick_yes (×_dec (between? (pos 0) (pos 0) (pos 0)) (between? (pos 0) (pos 0) (pos 0))) _ _ (still, still)
   where
     still : Between (pos 0) (pos 0) (pos 0)
     still = record { from = le_parts (pos 0) (pos 0) (omega arith); to = le_parts (pos 0) (pos 0) (omega arith) }
-range_back zero (R.From a b) f h = absurd f
-range_back (suc n) R.Nothing f h = absurd f
-range_back (suc n) (R.From a b) f h =
-    pick_yes (×_dec (between? (negsuc 2147483647) (pos 2147483647) a) (between? (negsuc 2147483647) (pos 2147483647) b)) _ _ h
+range_back zero (Some r) f h = absurd f
+range_back (suc n) None f h = absurd f
+range_back (suc n) (Some r) f h =
+    pick_yes (×_dec (between? (negsuc 2147483647) (pos 2147483647) r.smallest) (between? (negsuc 2147483647) (pos 2147483647) r.largest)) _ _ h
 
 -- ---- a row is read back
 module _ (t : Tally) (sets : ℕ) (few : sets ≤ 100) (f : Fair sets t) (h : HeldRange t.range) where
@@ -80,9 +80,9 @@ small_held v h =
     (λ o. record { from = le_parts (negsuc 2147483647) v (omega (arith, a, o, h)); to = le_parts v (pos 2147483647) (omega (arith, a, o, h)) })
     (one_zero v)
 
-spans_held : (ns : List (Option ℤ)) (r : Range) → All Small ns → Spans ns r → HeldRange r
-spans_held ns R.Nothing a s = tt
-spans_held ns (R.From x y) a s = (small_held x (among_small x ns s.0 a), small_held y (among_small y ns s.1 a))
+spans_held : (ns : List (Option ℤ)) (r : Maybe Range) → All Small ns → Spans ns r → HeldRange r
+spans_held ns None a s = tt
+spans_held ns (Some r) a s = (small_held r.smallest (among_small r.smallest ns s.0 a), small_held r.largest (among_small r.largest ns s.1 a))
 
 -- ---- the week
 module _ (w : Week) (l : List ℤ) (few : w.sets ≤ 100) (s : Sane w) (t : HeldRange w.tec.0.range) (r : HeldRange w.rms.0.range) (h : HeldRange w.height.0.range) where

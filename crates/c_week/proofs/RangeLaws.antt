@@ -9,7 +9,8 @@ use Rattle.kit.specs.Answer.{×_dec}
 use Rattle.kit.proofs.AnswerLaws.{pick_yes, pick_no}
 use Rattle.kit.specs.Integer.{Between, between?}
 use Rattle.kit.proofs.Parts.{parts_le}
-use Rattle.week_tally.specs.declared.Range.TheVariants as R
+use Rattle.std.specs.Prelude.{None}
+use Rattle.week_tally.specs.Figures.{from}
 use Rattle.c_week.specs.WeekNumbers.{range_of}
 
 abbrev pub Narrow : ℤ → Type 0
@@ -29,20 +30,20 @@ narrow_fits (pos n) b = record { sfits = omega (arith, parts_le (pos n) (pos 214
 narrow_fits (negsuc n) b = record { sfits = omega (arith, parts_le (negsuc 2147483647) (negsuc n) b.from) }
 
 module _ (a b : ℤ) where
-  pub range_none : Still a × Still b → R.Nothing ≡ range_of 0 a b
+  pub range_none : Still a × Still b → None ≡ range_of 0 a b
   unfolding range_of
   range_none h = sym (pick_yes (still? a b) _ _ h)
 
-  pub range_unfit : ¬ (Still a × Still b) → R.From (pos 0) (pos 0) ≡ range_of 0 a b
+  pub range_unfit : ¬ (Still a × Still b) → from (pos 0) (pos 0) ≡ range_of 0 a b
   unfolding range_of
   range_unfit h = sym (pick_no (still? a b) _ _ h)
 
-  pub range_from : (n : ℕ) → ¬ (n ≡ 0) → Narrow a × Narrow b → R.From a b ≡ range_of n a b
+  pub range_from : (n : ℕ) → ¬ (n ≡ 0) → Narrow a × Narrow b → from a b ≡ range_of n a b
   unfolding range_of
   range_from zero k h = absurd (k (omega arith))
   range_from (suc n) k h = sym (pick_yes (narrow? a b) _ _ h)
 
-  pub range_wide : (n : ℕ) → ¬ (n ≡ 0) → ¬ (Narrow a × Narrow b) → R.Nothing ≡ range_of n a b
+  pub range_wide : (n : ℕ) → ¬ (n ≡ 0) → ¬ (Narrow a × Narrow b) → None ≡ range_of n a b
   unfolding range_of
   range_wide zero k h = absurd (k (omega arith))
   range_wide (suc n) k h = sym (pick_no (narrow? a b) _ _ h)

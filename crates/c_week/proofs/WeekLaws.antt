@@ -15,7 +15,8 @@ use Rattle.week.specs.Week.{Given}
 use Rattle.week.specs.Sane.{Outcome, comes, outcome, SmallAnswer}
 use Rattle.week.proofs.SaneLaws.{small_answer}
 use Rattle.week.specs.declared.Week.{Week}
-use Rattle.week.specs.declared.Added.{Added}
+use Rattle.week.specs.declared.Why.{Why}
+use Rattle.std.specs.Prelude.{Result}
 use Rattle.c_week.specs.WeekNumbers.{broken, plain_week, week_at}
 use Rattle.c_week.specs.WeekExported.{told_number, told_week, told_place, week_short, crossed, crosses, set_of, week_crossed}
 
@@ -44,7 +45,7 @@ module _ (h x w p : ℕ) where
       record { header = u.header; texts = u.texts; week = u.first; place = u.second }
 
 -- ---- the answer
-pub small_comes : (w : Week) (s : Given) (r : Added) (l : List ℤ) → comes r l ≡ outcome w s → SmallAnswer r
+pub small_comes : (w : Week) (s : Given) (r : Result Week Why) (l : List ℤ) → comes r l ≡ outcome w s → SmallAnswer r
 small_comes w s r l e = rw (ap (λ (o : Outcome). o.answer) e) (small_answer w s)
 
 module _ (w h : List ℤ) (x : List ℕ) (a : Areas) (r : List ℤ) (p : List ℕ) where
@@ -53,7 +54,7 @@ module _ (w h : List ℤ) (x : List ℕ) (a : Areas) (r : List ℤ) (p : List �
   cross_short e n = ap (λ k. crossed k w r p) e ∙ sym (unless_short _ (λ k. crossed k w r p) (omega (arith, e, n)))
 
   pub cross_answer : {k : ℕ} → k ≡ week_short (length h) (length x) (length w) (length p) → k < 1
-      → (t : Added) {n : ℕ} {w' r' : List ℤ} {p' : List ℕ} → comes t r' ≡ outcome (week_at w) (set_of h x a r)
+      → (t : Result Week Why) {n : ℕ} {w' r' : List ℤ} {p' : List ℕ} → comes t r' ≡ outcome (week_at w) (set_of h x a r)
       → n ≡ told_number t → w' ≡ front (told_week t) w → p' ≡ front (told_place t) p → crossed n w' r' p' ≡ week_crossed w h x a r p
   unfolding week_crossed crosses
   cross_answer e m t {r' = r'} o n u v = (λ i. crossed (n i) (u i) r' (v i)) ∙ ap (λ z. crosses z w p) o ∙ sym (unless_none _ (λ k. crossed k w r p) (omega (arith, sym e, m)))

@@ -1,13 +1,12 @@
 -- Adding to a week as it crosses to other languages: a number, the week, the area for the rows, and an area of the call's own for the need.
-use Rattle.std.specs.Prelude.{List, [], ◌∷◌, ℕ, ℤ, length}
+use Rattle.std.specs.Prelude.{Result, Ok, Err, List, [], ◌∷◌, ℕ, ℤ, length}
 use Rattle.kit.specs.Lists.{front}
 use Rattle.mapset.specs.Areas.{Areas}
 use Rattle.c_given.specs.Given.{header_of, texts_of}
 use Rattle.c_answers.specs.Own.{unless, too_short_two}
 use Rattle.week.specs.Week.{Given, given_as}
 use Rattle.week.specs.Sane.{Outcome, outcome}
-use Rattle.week.specs.declared.Added.{Added}
-use Rattle.week.specs.declared.Added.TheVariants as A
+use Rattle.week.specs.declared.Week.{Week}
 use Rattle.week.specs.declared.Why.{Why}
 use Rattle.week.specs.declared.Why.TheVariants as Y
 use Rattle.c_week.specs.WeekNumbers.{week_numbers, week_at}
@@ -24,17 +23,17 @@ why_place Y.Invalid = []
 why_place (Y.Short n) = 1 ∷ n ∷ []
 
 -- 0 for a set that is added, or the number of the refusal
-abbrev pub told_number : Added → ℕ
-told_number (A.Into w) = 0
-told_number (A.Refused y) = why_number y
+abbrev pub told_number : Result Week Why → ℕ
+told_number (Ok w) = 0
+told_number (Err y) = why_number y
 
-abbrev pub told_week : Added → List ℤ
-told_week (A.Into w) = week_numbers w
-told_week (A.Refused y) = []
+abbrev pub told_week : Result Week Why → List ℤ
+told_week (Ok w) = week_numbers w
+told_week (Err y) = []
 
-abbrev pub told_place : Added → List ℕ
-told_place (A.Into w) = []
-told_place (A.Refused y) = why_place y
+abbrev pub told_place : Result Week Why → List ℕ
+told_place (Ok w) = []
+told_place (Err y) = why_place y
 
 -- of the lengths of header, texts, week and place: 101, 102, or 103 for the week or the place
 unfoldable pub week_short : ℕ → ℕ → ℕ → ℕ → ℕ

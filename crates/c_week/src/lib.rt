@@ -8,22 +8,25 @@ ghost use Rattle.c_week.specs.WeekNumbers.{week_numbers, range_of, tally_at, wee
 ghost use Rattle.c_week.specs.WeekNumbers as numbers;
 ghost use Rattle.c_week.specs.WeekExported.{week_short, why_number, why_place, told_number, told_week, told_place};
 
-use week::{Added, KmTally, TecuTally, Week, Why};
+use week::{KmTally, TecuTally, Week, Why};
 use week_tally::{Range, Tally};
 
 // ---- The week that numbers stand for
 
 // A range of 0 and 0 is none.
-fn no_range(low: i64, high: i64) -> Range
+fn no_range(low: i64, high: i64) -> Option<Range>
     ensures { result ≡ range_of 0 low high }
 {
     if kit::wide::between(0, 0, low) & kit::wide::between(0, 0, high) {
-        return Range::Nothing;
+        return None;
     }
-    Range::From(0, 0)
+    Some(Range {
+        smallest: 0,
+        largest: 0,
+    })
 }
 
-fn range_in(given: u64, low: i64, high: i64) -> Range
+fn range_in(given: u64, low: i64, high: i64) -> Option<Range>
     ensures { result ≡ range_of given low high }
 {
     if given == 0 {
@@ -32,22 +35,23 @@ fn range_in(given: u64, low: i64, high: i64) -> Range
     if kit::wide::between(-2147483648, 2147483647, low)
         & kit::wide::between(-2147483648, 2147483647, high)
     {
-        return Range::From(low as i32, high as i32);
+        return Some(Range {
+            smallest: low as i32,
+            largest: high as i32,
+        });
     }
-    Range::Nothing
+    None
 }
 
 fn tally_in(n: &[i64], i: usize) -> Tally
     requires { i + 5 ≤ length n.now }
     ensures { result ≡ tally_at n.now i }
 {
-    let given = c_given::held(n[i], 18446744073709551615);
-    let lacking = c_given::held(n[i + 1], 18446744073709551615);
-    let range = range_in(given, n[i + 2], n[i + 3]);
+    let given = c_given::held(n[i], u64::MAX);
     Tally {
-        given: given,
-        lacking: lacking,
-        range: range,
+        given,
+        lacking: c_given::held(n[i + 1], u64::MAX),
+        range: range_in(given, n[i + 2], n[i + 3]),
         sum: n[i + 4],
     }
 }
@@ -69,11 +73,11 @@ pub fn week_in(n: &[i64]) -> Week
     requires { 16 ≤ length n.now }
     ensures { result ≡ week_at n.now }
 {
-    if kit::negative(n[0]) {
+    if n[0] < 0 {
         return broken();
     }
     Week {
-        sets: c_given::held(n[0], 18446744073709551615),
+        sets: c_given::held(n[0], u64::MAX),
         tec: TecuTally(tally_in(n, 1)),
         rms: TecuTally(tally_in(n, 6)),
         height: KmTally(tally_in(n, 11)),
@@ -93,13 +97,10 @@ fn put_week(out: &mut [i64], w: Week)
     requires { (16 ≤ length out.old) × SmallWeek w }
     ensures { out.new ≡ front (week_numbers w) out.old }
 {
-    let tec = w.tec;
-    let rms = w.rms;
-    let height = w.height;
     out[0] = week_tally::count(w.sets);
-    week_tally::put_row(out, 1, tec.0);
-    week_tally::put_row(out, 6, rms.0);
-    week_tally::put_row(out, 11, height.0);
+    week_tally::put_row(out, 1, w.tec.0);
+    week_tally::put_row(out, 6, w.rms.0);
+    week_tally::put_row(out, 11, w.height.0);
 }
 
 // The number of a refusal, and what the area for the rows needs.
@@ -119,17 +120,17 @@ fn put_why(why: Why, place: &mut [u64]) -> u64
 }
 
 // An answer crosses: its number, and the new week or what the area for the rows needs.
-pub fn put_added(answer: Added, week: &mut [i64], place: &mut [u64]) -> u64
+pub fn put_added(answer: Result<Week, Why>, week: &mut [i64], place: &mut [u64]) -> u64
     requires { (16 ≤ length week.old) × ((2 ≤ length place.old) × SmallAnswer answer) }
     ensures { (result ≡ told_number answer)
         × ((week.new ≡ front (told_week answer) week.old)
         × (place.new ≡ front (told_place answer) place.old)) }
 {
     match answer {
-        Added::Into(w) => {
+        Ok(w) => {
             put_week(week, w);
             0
         }
-        Added::Refused(why) => put_why(why, place),
+        Err(why) => put_why(why, place),
     }
 }

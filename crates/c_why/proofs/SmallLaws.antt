@@ -18,10 +18,11 @@ use Rattle.ask.specs.Ask.{Question, Told, tecu, km, epochs, asked, Answers}
 use Rattle.ask.proofs.AskLaws.{steady, few_epochs, can_sum}
 use Rattle.ask.proofs.ReachLaws.{maps_range}
 use Rattle.ask.proofs.Standing.{Stands, Light, spread_stand}
-use Rattle.ask_why.specs.Explain.{needed, listed, filler, places, told, Lists, ListsNothing, Beside, Explains}
+use Rattle.ask_why.specs.Explain.{needed, listed, filler, places, told, Lists, ListsNothing, Beside, Explained, Explains}
 use Rattle.ask_why.specs.declared.Needed.{Needed}
-use Rattle.ask_why.specs.declared.Explained.{Explained}
-use Rattle.ask_why.specs.declared.Explained.TheVariants as E
+use Rattle.std.specs.Prelude.{Ok, Err}
+use Rattle.ask_nodes.specs.declared.Value.TheVariants as V
+use Rattle.ask_why.specs.declared.Unanswered.TheVariants as U
 use Rattle.ask_why.specs.declared.Explanation.{Explanation}
 use Rattle.ask_why.proofs.WhyLaws.{Opened, opened, length_listed}
 use Rattle.ask_why.proofs.Shown.{lists_weight}
@@ -91,10 +92,10 @@ small_lists q e a o l =
     )
 
 small_by : (q : Question) (e : Explanation) (a : Explained) → Answers q (told a) → Beside q e a → Small e
-small_by q e (E.Tecu v) x b = small_lists q e (tecu v.0) (opened q (tecu v.0) x tt) b
-small_by q e (E.Km v) x b = small_lists q e (km v.0) (opened q (km v.0) x tt) b
-small_by q e (E.Lacks l) x b = small_nothing e b.1
-small_by q e (E.Refused w) x b = small_nothing e b.1
+small_by q e (Ok (V.Tecu v)) x b = small_lists q e (tecu v.0) (opened q (tecu v.0) x tt) b
+small_by q e (Ok (V.Km v)) x b = small_lists q e (km v.0) (opened q (km v.0) x tt) b
+small_by q e (Err (U.Lacks l)) x b = small_nothing e b.1
+small_by q e (Err (U.Refused w)) x b = small_nothing e b.1
 
 pub small : (q : Question) (e : Explanation) → Explains q e → Small e
 small q e x = small_by q e e.answer x.answers x.beside

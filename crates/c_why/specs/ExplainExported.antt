@@ -1,17 +1,17 @@
 -- Explaining as it crosses to other languages: a number, and two areas of the call's own, for the nodes and for the one that has no value.
-use Rattle.std.specs.Prelude.{◌≡◌, List, [], ◌∷◌, ◌++◌, ℕ, ◌≤◌, ◌<◌, ℤ, pos, length}
+use Rattle.std.specs.Prelude.{◌≡◌, List, [], ◌∷◌, ◌++◌, ℕ, ◌≤◌, ◌<◌, ℤ, pos, length, Ok, Err}
 use Rattle.kit.specs.Answer.{All}
 use Rattle.kit.specs.Lists.{front}
 use Rattle.ask_nodes.specs.Units.{bare}
 use Rattle.ask_nodes.specs.Value.{or_zero}
 use Rattle.ask.specs.Ask.{Question, told_number}
-use Rattle.ask_why.specs.Explain.{told, Explains}
+use Rattle.ask_why.specs.Explain.{told, Explained, Explains}
 use Rattle.ask_why.specs.declared.Needed.{Needed}
 use Rattle.ask_why.specs.declared.Cause.{Cause}
 use Rattle.ask_why.specs.declared.Cause.TheVariants as C
 use Rattle.ask_why.specs.declared.Lacking.{Lacking}
-use Rattle.ask_why.specs.declared.Explained.{Explained}
-use Rattle.ask_why.specs.declared.Explained.TheVariants as E
+use Rattle.ask_nodes.specs.declared.Value.TheVariants as V
+use Rattle.ask_why.specs.declared.Unanswered.TheVariants as U
 use Rattle.ask_why.specs.declared.Explanation.{Explanation}
 use Rattle.c_answers.specs.Own.{too_short_two}
 
@@ -28,10 +28,9 @@ abbrev pub numbers : Explanation → ℤ → List ℤ
 numbers e v = pos e.count ∷ pos e.denominator ∷ v ∷ all_numbers e.nodes
 
 abbrev pub told_nodes : Explanation → Explained → List ℤ
-told_nodes e (E.Tecu v) = numbers e v.0
-told_nodes e (E.Km v) = numbers e v.0
-told_nodes e (E.Lacks l) = []
-told_nodes e (E.Refused w) = []
+told_nodes e (Ok (V.Tecu v)) = numbers e v.0
+told_nodes e (Ok (V.Km v)) = numbers e v.0
+told_nodes e (Err n) = []
 
 -- 1 map absent, 2 exponent out of range, 3 number out of range, 4 it is 9999
 abbrev pub cause_number : Cause → ℕ
@@ -45,10 +44,9 @@ abbrev pub lacking_numbers : Lacking → List ℕ
 lacking_numbers l = l.map ∷ l.layer ∷ l.row ∷ l.column ∷ cause_number l.cause ∷ []
 
 abbrev pub told_lacking : Explained → List ℕ
-told_lacking (E.Tecu v) = []
-told_lacking (E.Km v) = []
-told_lacking (E.Lacks l) = lacking_numbers l
-told_lacking (E.Refused w) = []
+told_lacking (Ok v) = []
+told_lacking (Err (U.Lacks l)) = lacking_numbers l
+told_lacking (Err (U.Refused w)) = []
 
 -- of the lengths of header, texts, nodes and lacking: 101, 102, or 103 for the nodes or the one that lacks
 unfoldable pub explain_short : ℕ → ℕ → ℕ → ℕ → ℕ

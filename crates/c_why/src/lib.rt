@@ -11,7 +11,7 @@ ghost use Rattle.ask.specs.Ask.{told_number};
 ghost use Rattle.c_why.specs.ExplainExported.{node_numbers, all_numbers, numbers, told_nodes, lacking_numbers, told_lacking, explain_short, SmallNode, SmallNodes, Small};
 ghost use Rattle.c_why.specs.ExplainExported as exported;
 
-use ask_why::{Cause, Explained, Explanation, Lacking, Needed, Node};
+use ask_why::{Cause, Explanation, Lacking, Needed, Unanswered, Value};
 
 // Of the lengths of a call's own areas: 101, 102, or 103 for the nodes or the one without a value; or 0.
 pub fn too_short(header: usize, texts: usize, nodes: usize, lacking: usize) -> u64
@@ -34,13 +34,13 @@ fn wide(v: i32) -> i64
     v as i64
 }
 
-fn thousandths(v: Node) -> i64
+fn thousandths(v: Option<Value>) -> i64
     ensures { result ≡ or_zero (bare v) }
 {
     match v {
-        Node::Tecu(x) => wide(x.0),
-        Node::Km(x) => wide(x.0),
-        Node::Nothing => 0,
+        Some(Value::Tecu(x)) => wide(x.0),
+        Some(Value::Km(x)) => wide(x.0),
+        None => 0,
     }
 }
 
@@ -63,11 +63,8 @@ fn put_nodes(out: &mut [i64], e: Explanation)
     ensures { out.new ≡ sets out.old 3 (all_numbers e.nodes) }
 {
     let nodes = e.nodes;
-    let mut i: usize = 0;
-    while i < 8 {
-        let n = nodes[i];
-        put_node(out, 3 + 6 * i, n);
-        i += 1;
+    for i in 0..8 {
+        put_node(out, 3 + 6 * i, nodes[i]);
     }
 }
 
@@ -113,18 +110,18 @@ pub fn put_explained(e: Explanation, nodes: &mut [i64], lacking: &mut [u64]) -> 
 {
     let answer = e.answer;
     match answer {
-        Explained::Tecu(v) => {
+        Ok(Value::Tecu(v)) => {
             put_numbers(nodes, e, v.0);
             0
         }
-        Explained::Km(v) => {
+        Ok(Value::Km(v)) => {
             put_numbers(nodes, e, v.0);
             0
         }
-        Explained::Lacks(l) => {
+        Err(Unanswered::Lacks(l)) => {
             put_lacking(lacking, l);
             22
         }
-        Explained::Refused(why) => ask::number_of(why),
+        Err(Unanswered::Refused(why)) => ask::number_of(why),
     }
 }

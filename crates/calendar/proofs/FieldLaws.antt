@@ -1,3 +1,4 @@
+use Rattle.std.specs.Prelude.{Result, Ok}
 -- Laws of the first wrong field, and of what a record's numbers say.
 use mathlib.Core.Path.{◌≡◌, refl, sym, ap, ◌∙◌}
 use mathlib.Core.List.{List, [], ◌∷◌}
@@ -14,8 +15,6 @@ use Rattle.calendar.specs.Inner.{IsDate, second_of, dated_of, taken_as, clip}
 use Rattle.calendar.specs.declared.Epoch.{Epoch}
 use Rattle.calendar.specs.declared.Field.{Field}
 use Rattle.calendar.specs.declared.Field.TheVariants as F
-use Rattle.calendar.specs.declared.Taken.{Taken}
-use Rattle.calendar.specs.declared.Taken.TheVariants as K
 
 module _ {X : Type 0} (f : Field → X) (x : X) where
   first_none : (l : List Number) → All Within l → first f x l ≡ x
@@ -41,20 +40,20 @@ module _ {X : Type 0} (f : Field → X) (x : X) where
 
 -- ---- what a record's numbers say
 module _ (y m d h i s : ℤ) (t : ℕ) where
-  pub dated_at : Dated y m d h i s t → dated y m d h i s ≡ K.At t
+  pub dated_at : Dated y m d h i s t → dated y m d h i s ≡ Ok t
   unfolding dated
-  dated_at a = first_none wrong_at _ (numbers y m d h i s) a.real ∙ ap K.At a.at
+  dated_at a = first_none wrong_at _ (numbers y m d h i s) a.real ∙ ap Ok a.at
 
-  pub dated_ok : dated y m d h i s ≡ K.At t → Dated y m d h i s t
+  pub dated_ok : dated y m d h i s ≡ Ok t → Dated y m d h i s t
   unfolding dated
   dated_ok e =
-      let a = first_all wrong_at _ (K.At t) (λ w q. let z : ◌≡◌ {A = ℕ} 0 1 = cc in omega arith) (numbers y m d h i s) e in
-      let q : K.At (second y m d h i s) ≡ K.At t = sym (first_none wrong_at _ (numbers y m d h i s) a) ∙ e in
+      let a = first_all wrong_at _ (Ok t) (λ w q. let z : ◌≡◌ {A = ℕ} 0 1 = cc in omega arith) (numbers y m d h i s) e in
+      let q : Ok (second y m d h i s) ≡ Ok t = sym (first_none wrong_at _ (numbers y m d h i s) a) ∙ e in
       record { real = a; at = cc q }
 
 pub dated_told : (y m d h i s : ℤ) → told_taken (dated y m d h i s) ≡ recorded y m d h i s
 unfolding dated recorded
-dated_told y m d h i s = sym (first_map wrong_at (K.At (second y m d h i s)) told_taken (numbers y m d h i s))
+dated_told y m d h i s = sym (first_map wrong_at (Ok (second y m d h i s)) told_taken (numbers y m d h i s))
 
 never : (w : Field) → ¬ (wrong {A = Unit {0}} w ≡ ok tt)
 never w e = let z : ◌≡◌ {A = ℕ} 0 1 = cc in omega arith
@@ -69,7 +68,7 @@ unfolding dated checked
 dated_by e = first_map wrong (ok tt) (taken_as (second_of e)) (numbers_of e)
 
 -- a negative number and the one that stands for it are both wrong
-clipped : (f : Field) (low high high' : ℕ) (z : ℤ) (x x' : Taken) → high ≡ high' → high' < 4294967295 → (nat_abs z ≡ clip z → x ≡ x') → pick (natural? low high z) x (wrong_at f) ≡ pick (natural? low high' (pos (clip z))) x' (wrong_at f)
+clipped : (f : Field) (low high high' : ℕ) (z : ℤ) (x x' : Result ℕ ℕ) → high ≡ high' → high' < 4294967295 → (nat_abs z ≡ clip z → x ≡ x') → pick (natural? low high z) x (wrong_at f) ≡ pick (natural? low high' (pos (clip z))) x' (wrong_at f)
 clipped f low high high' (pos n) x x' q h e = λ j. pick (natural? low (q j) (pos n)) (e refl j) (wrong_at f)
 clipped f low high high' (negsuc n) x x' q h e = pick_no (natural? low high (negsuc n)) _ _ (λ w. w) ∙ sym (pick_no (natural? low high' (pos 4294967295)) _ _ (λ w. omega arith))
 
@@ -82,4 +81,4 @@ dated_clip y m d h i s =
     (λ ed. clipped F.Hour 0 23 23 h _ _ refl (omega arith)
     (λ eh. clipped F.Minute 0 59 59 i _ _ refl (omega arith)
     (λ ei. clipped F.Second 0 59 59 s _ _ refl (omega arith)
-    (λ es j. K.At (days_to (ey j) (em j) (ed j) * 86400 + (eh j * 3600 + (ei j * 60 + es j)))))))))
+    (λ es j. Ok (days_to (ey j) (em j) (ed j) * 86400 + (eh j * 3600 + (ei j * 60 + es j)))))))))

@@ -1,3 +1,4 @@
+use Rattle.std.specs.Prelude.{Option, Some, None, Result, Ok, Err}
 -- No second answer fits a promise.
 use mathlib.Core.Path.{◌≡◌, refl, sym, ap, ◌∙◌}
 use mathlib.Core.List.{List, [], ◌∷◌}
@@ -12,14 +13,6 @@ use Rattle.calendar.proofs.FieldLaws.{dated_told}
 use Rattle.calendar.specs.declared.Epoch.{Epoch}
 use Rattle.calendar.specs.declared.Field.{Field}
 use Rattle.calendar.specs.declared.Field.TheVariants as F
-use Rattle.calendar.specs.declared.Checked.{Checked}
-use Rattle.calendar.specs.declared.Checked.TheVariants as C
-use Rattle.calendar.specs.declared.When.{When}
-use Rattle.calendar.specs.declared.When.TheVariants as N
-use Rattle.calendar.specs.declared.DateFound.{DateFound}
-use Rattle.calendar.specs.declared.DateFound.TheVariants as D
-use Rattle.calendar.specs.declared.Taken.{Taken}
-use Rattle.calendar.specs.declared.Taken.TheVariants as K
 
 -- ---- what is told determines the answer
 -- the fields by their columns
@@ -37,29 +30,29 @@ by_column F.Second = refl
 column_once : (f g : Field) → column_of f ≡ column_of g → f ≡ g
 column_once f g e = sym (by_column f) ∙ ap (λ (c : ℕ). get_or fields (c / 6) F.Year) e ∙ by_column g
 
-checked_told : (a b : Checked) → told_checked a ≡ told_checked b → a ≡ b
-checked_told C.Date C.Date e = refl
-checked_told C.Date (C.Wrong g) e = cc
-checked_told (C.Wrong f) C.Date e = cc
-checked_told (C.Wrong f) (C.Wrong g) e = ap C.Wrong (column_once f g (cc))
+checked_told : (a b : Option Field) → told_checked a ≡ told_checked b → a ≡ b
+checked_told None None e = refl
+checked_told None (Some g) e = cc
+checked_told (Some f) None e = cc
+checked_told (Some f) (Some g) e = ap Some (column_once f g (cc))
 
-taken_told : (a b : Taken) → told_taken a ≡ told_taken b → a ≡ b
-taken_told (K.At t) (K.At u) e = cc
-taken_told (K.At t) (K.Wrong c) e = cc
-taken_told (K.Wrong c) (K.At u) e = cc
-taken_told (K.Wrong c) (K.Wrong k) e = cc
+taken_told : (a b : Result ℕ ℕ) → told_taken a ≡ told_taken b → a ≡ b
+taken_told (Ok t) (Ok u) e = cc
+taken_told (Ok t) (Err c) e = cc
+taken_told (Err c) (Ok u) e = cc
+taken_told (Err c) (Err k) e = cc
 
-when_told : (a b : When) → told_when a ≡ told_when b → a ≡ b
-when_told (N.At t) (N.At u) e = cc
-when_told (N.At t) N.Refused e = cc
-when_told N.Refused (N.At u) e = cc
-when_told N.Refused N.Refused e = refl
+when_told : (a b : Option ℕ) → told_when a ≡ told_when b → a ≡ b
+when_told (Some t) (Some u) e = cc
+when_told (Some t) None e = cc
+when_told None (Some u) e = cc
+when_told None None e = refl
 
-found_told : (a b : DateFound) → told_found a ≡ told_found b → a ≡ b
-found_told (D.Date d) (D.Date f) e = cc
-found_told (D.Date d) D.Refused e = cc
-found_told D.Refused (D.Date f) e = cc
-found_told D.Refused D.Refused e = refl
+found_told : (a b : Option Epoch) → told_found a ≡ told_found b → a ≡ b
+found_told (Some d) (Some f) e = cc
+found_told (Some d) None e = cc
+found_told None (Some f) e = cc
+found_told None None e = refl
 
 -- ---- the promises
 the_once : {A : Type 0} (P : A → Type 0) → ((a b : A) → P a → P b → a ≡ b) → (x y : Answer Refusal A) → The P x → The P y → x ≡ y
@@ -74,21 +67,21 @@ later_once e by f g p q =
     let t : p.to ≡ q.to = ap up (p.later ∙ ap (λ (s : ℕ). pos s +ℤ by) s ∙ sym q.later) in
     date_once q.to f g (rw t at p.ends) q.ends
 
-pub first_wrong_once : (e : Epoch) (a b : Checked) → told_checked a ≡ checked e → told_checked b ≡ checked e → a ≡ b
+pub first_wrong_once : (e : Epoch) (a b : Option Field) → told_checked a ≡ checked e → told_checked b ≡ checked e → a ≡ b
 first_wrong_once e a b p q = checked_told a b (p ∙ sym q)
 
-pub take_once : (y m d h i s : ℤ) (a b : Taken) → told_taken a ≡ recorded y m d h i s → told_taken b ≡ recorded y m d h i s → a ≡ b
+pub take_once : (y m d h i s : ℤ) (a b : Result ℕ ℕ) → told_taken a ≡ recorded y m d h i s → told_taken b ≡ recorded y m d h i s → a ≡ b
 take_once y m d h i s a b p q = taken_told a b (p ∙ sym q)
 
 -- it is `dated`
-pub take_dated : (y m d h i s : ℤ) (a : Taken) → told_taken a ≡ recorded y m d h i s → a ≡ dated y m d h i s
+pub take_dated : (y m d h i s : ℤ) (a : Result ℕ ℕ) → told_taken a ≡ recorded y m d h i s → a ≡ dated y m d h i s
 take_dated y m d h i s a p = take_once y m d h i s a (dated y m d h i s) p (dated_told y m d h i s)
 
-pub seconds_once : (e : Epoch) (a b : When) → The (DateAt e) (told_when a) → The (DateAt e) (told_when b) → a ≡ b
+pub seconds_once : (e : Epoch) (a b : Option ℕ) → The (DateAt e) (told_when a) → The (DateAt e) (told_when b) → a ≡ b
 seconds_once e a b p q = when_told a b (the_once (DateAt e) (λ t u r s. sym r.at ∙ s.at) _ _ p q)
 
-pub at_second_once : (t : ℕ) (a b : DateFound) → The (λ e. DateAt e t) (told_found a) → The (λ e. DateAt e t) (told_found b) → a ≡ b
+pub at_second_once : (t : ℕ) (a b : Option Epoch) → The (λ e. DateAt e t) (told_found a) → The (λ e. DateAt e t) (told_found b) → a ≡ b
 at_second_once t a b p q = found_told a b (the_once (λ e. DateAt e t) (date_once t) _ _ p q)
 
-pub moved_once : (e : Epoch) (by : ℤ) (a b : DateFound) → The (Later e by) (told_found a) → The (Later e by) (told_found b) → a ≡ b
+pub moved_once : (e : Epoch) (by : ℤ) (a b : Option Epoch) → The (Later e by) (told_found a) → The (Later e by) (told_found b) → a ≡ b
 moved_once e by a b p q = found_told a b (the_once (Later e by) (later_once e by) _ _ p q)

@@ -1,5 +1,5 @@
 -- The calendar from 1900 to 2199.
-use Rattle.std.specs.Prelude.{◌≡◌, List, [], ◌∷◌, ℕ, zero, suc, ◌+◌, ◌*◌, ◌-◌, ◌/◌, ◌%◌, ℤ, pos, nat_abs, ◌+ℤ◌}
+use Rattle.std.specs.Prelude.{◌≡◌, List, [], ◌∷◌, ℕ, zero, suc, ◌+◌, ◌*◌, ◌-◌, ◌/◌, ◌%◌, ℤ, pos, nat_abs, ◌+ℤ◌, Option, Some, None, Result, Ok, Err}
 use Rattle.std.proofs.Math.Decide.{dec_le}
 use Rattle.kit.specs.Range.{Natural, natural?}
 use Rattle.kit.specs.Answer.{Answer, ok, refused, All, pick}
@@ -8,14 +8,6 @@ use Rattle.days.specs.Years.{row, month_days, year_days}
 use Rattle.calendar.specs.declared.Epoch.{Epoch}
 use Rattle.calendar.specs.declared.Field.{Field}
 use Rattle.calendar.specs.declared.Field.TheVariants as F
-use Rattle.calendar.specs.declared.Checked.{Checked}
-use Rattle.calendar.specs.declared.Checked.TheVariants as C
-use Rattle.calendar.specs.declared.When.{When}
-use Rattle.calendar.specs.declared.When.TheVariants as N
-use Rattle.calendar.specs.declared.DateFound.{DateFound}
-use Rattle.calendar.specs.declared.DateFound.TheVariants as D
-use Rattle.calendar.specs.declared.Taken.{Taken}
-use Rattle.calendar.specs.declared.Taken.TheVariants as K
 
 -- ---- a real date: each of its six numbers lies in its range
 pub record Number : Type 0 where
@@ -130,11 +122,11 @@ unfoldable pub recorded : ℤ → ℤ → ℤ → ℤ → ℤ → ℤ → Answer
 recorded y m d h i s = first wrong (ok (second y m d h i s)) (numbers y m d h i s)
 
 -- the same in the code's own answer
-abbrev pub wrong_at : Field → Taken
-wrong_at f = K.Wrong (column_of f)
+abbrev pub wrong_at : Field → Result ℕ ℕ
+wrong_at f = Err (column_of f)
 
-unfoldable pub dated : ℤ → ℤ → ℤ → ℤ → ℤ → ℤ → Taken
-dated y m d h i s = first wrong_at (K.At (second y m d h i s)) (numbers y m d h i s)
+unfoldable pub dated : ℤ → ℤ → ℤ → ℤ → ℤ → ℤ → Result ℕ ℕ
+dated y m d h i s = first wrong_at (Ok (second y m d h i s)) (numbers y m d h i s)
 
 -- the one that P holds of; 7 with no place where P holds of none
 abbrev pub The : {A : Type 0} → (A → Type 0) → Answer Refusal A → Type 0
@@ -142,18 +134,18 @@ The P (ok a) = P a
 The P (refused w) = (w ≡ alone 7) × ((a : _) → ¬ P a)
 
 -- ---- the answers as they are told
-abbrev pub told_checked : Checked → Answer Refusal (Unit {0})
-told_checked C.Date = ok tt
-told_checked (C.Wrong f) = refused (in_column 7 (column_of f))
+abbrev pub told_checked : Option Field → Answer Refusal (Unit {0})
+told_checked None = ok tt
+told_checked (Some f) = refused (in_column 7 (column_of f))
 
-abbrev pub told_taken : Taken → Answer Refusal ℕ
-told_taken (K.At t) = ok t
-told_taken (K.Wrong c) = refused (in_column 7 c)
+abbrev pub told_taken : Result ℕ ℕ → Answer Refusal ℕ
+told_taken (Ok t) = ok t
+told_taken (Err c) = refused (in_column 7 c)
 
-abbrev pub told_when : When → Answer Refusal ℕ
-told_when (N.At t) = ok t
-told_when N.Refused = refused (alone 7)
+abbrev pub told_when : Option ℕ → Answer Refusal ℕ
+told_when (Some t) = ok t
+told_when None = refused (alone 7)
 
-abbrev pub told_found : DateFound → Answer Refusal Epoch
-told_found (D.Date e) = ok e
-told_found D.Refused = refused (alone 7)
+abbrev pub told_found : Option Epoch → Answer Refusal Epoch
+told_found (Some e) = ok e
+told_found None = refused (alone 7)

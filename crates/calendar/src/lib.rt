@@ -31,100 +31,68 @@ pub enum Field {
     Second,
 }
 
-// Whether an epoch is a date; if not, its first wrong field.
-#[derive(Clone, Copy)]
-pub enum Checked {
-    Date,
-    Wrong(Field),
-}
-
-// A second from 1900-01-01 00:00:00, or a refusal.
-#[derive(Clone, Copy)]
-pub enum When {
-    At(u64),
-    Refused,
-}
-
-// A date, or a refusal.
-#[derive(Clone, Copy)]
-pub enum DateFound {
-    Date(Epoch),
-    Refused,
-}
-
-// What a record of six numbers says: a second, or the column of its first wrong field.
-#[derive(Clone, Copy)]
-pub enum Taken {
-    At(u64),
-    Wrong(u64),
-}
-
 impl Epoch {
-    // The first field that is outside its own range.
-    pub fn first_wrong(self) -> Checked
+    // The first field that is outside its own range; none where the six are a date.
+    pub fn first_wrong(self) -> Option<Field>
         ensures { told_checked result ≡ checked self }
     {
         let year = self.year;
         let month = self.month;
         if !inside(year, 1900, 2199) {
-            return Checked::Wrong(Field::Year);
+            return Some(Field::Year);
         }
         if !inside(month, 1, 12) {
-            return Checked::Wrong(Field::Month);
+            return Some(Field::Month);
         }
         let last = days::month_days(days::leap_flag(year as u64), (month as u64) - 1);
         if !inside(self.day, 1, last) {
-            return Checked::Wrong(Field::Day);
+            return Some(Field::Day);
         }
         if !inside(self.hour, 0, 23) {
-            return Checked::Wrong(Field::Hour);
+            return Some(Field::Hour);
         }
         if !inside(self.minute, 0, 59) {
-            return Checked::Wrong(Field::Minute);
+            return Some(Field::Minute);
         }
         if !inside(self.second, 0, 59) {
-            return Checked::Wrong(Field::Second);
+            return Some(Field::Second);
         }
-        Checked::Date
+        None
     }
 
     // The seconds from 1900-01-01 00:00:00.
-    pub fn seconds(self) -> When
+    pub fn seconds(self) -> Option<u64>
         ensures { The (DateAt self) (told_when result) }
     {
-        match judged(self) {
-            Taken::At(t) => When::At(t),
-            Taken::Wrong(_) => When::Refused,
-        }
+        judged(self).ok()
     }
 
     // The date of a second.
-    pub fn at_second(t: u64) -> DateFound
+    pub fn at_second(t: u64) -> Option<Epoch>
         ensures { The (λ e. DateAt e t) (told_found result) }
     {
-        if t < END {
-            DateFound::Date(date_of(t))
-        } else {
-            DateFound::Refused
-        }
+        if t < END { Some(date_of(t)) } else { None }
     }
 
     // The date that comes `by` seconds after this one.
-    pub fn moved(self, by: i64) -> DateFound
+    pub fn moved(self, by: i64) -> Option<Epoch>
         ensures { The (Later self by) (told_found result) }
     {
-        match self.seconds() {
-            When::Refused => DateFound::Refused,
-            When::At(s) => match shifted(s, by) {
-                When::Refused => DateFound::Refused,
-                When::At(t) => DateFound::Date(date_of(t)),
-            },
-        }
+        let s = self.seconds()?;
+        let t = shifted(s, by)?;
+        Some(date_of(t))
     }
 }
 
-// The six numbers of a record, as its I6 fields have them.
-pub fn take(year: i32, month: i32, day: i32, hour: i32, minute: i32, second: i32) -> Taken
+// The second of a record's six numbers, as its I6 fields have them, or the column of the first wrong one.
+pub fn take(
+    year: i32,
+    month: i32,
+    day: i32,
+    hour: i32,
+    minute: i32,
+    second: i32,
+) -> Result<u64, u64>
     ensures { told_taken result ≡ recorded year month day hour minute second }
 {
     judged(Epoch {
@@ -141,14 +109,8 @@ pub fn take(year: i32, month: i32, day: i32, hour: i32, minute: i32, second: i32
 fn inside(x: u32, low: u64, high: u64) -> bool
     ensures { Says result (Natural low high (pos x)) }
 {
-    let v = x as u64;
-    if v < low {
-        return false;
-    }
-    if high < v {
-        return false;
-    }
-    true
+    let v = u64::from(x);
+    low <= v && v <= high
 }
 
 // The column of a field in a record of six I6.
@@ -166,12 +128,12 @@ fn column(f: Field) -> u64
 }
 
 // The second of an epoch, or the column of its first wrong field.
-fn judged(e: Epoch) -> Taken
+fn judged(e: Epoch) -> Result<u64, u64>
     ensures { result ≡ dated_of e }
 {
     match e.first_wrong() {
-        Checked::Date => Taken::At(second_of(e)),
-        Checked::Wrong(f) => Taken::Wrong(column(f)),
+        None => Ok(second_of(e)),
+        Some(f) => Err(column(f)),
     }
 }
 
@@ -179,7 +141,7 @@ fn judged(e: Epoch) -> Taken
 fn natural(x: i32) -> u32
     ensures { result ≡ clip x }
 {
-    if x < 0 { 4294967295 } else { x as u32 }
+    u32::try_from(x).unwrap_or(u32::MAX)
 }
 
 // The second of a date.
@@ -214,21 +176,17 @@ fn date_of(t: u64) -> Epoch
 }
 
 // The second that comes `by` seconds after s.
-fn shifted(s: u64, by: i64) -> When
+fn shifted(s: u64, by: i64) -> Option<u64>
     requires { s < end }
     ensures { The (Moment s by) (told_when result) }
 {
     if by < 0 {
         let earlier = (s as i64) + by;
         if earlier < 0 {
-            return When::Refused;
+            return None;
         }
-        return When::At(earlier as u64);
+        return Some(earlier as u64);
     }
     let later = s + (by as u64);
-    if later < END {
-        When::At(later)
-    } else {
-        When::Refused
-    }
+    if later < END { Some(later) } else { None }
 }

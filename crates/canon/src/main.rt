@@ -1,31 +1,23 @@
 // Reads IONEX text from standard input and prints it as canonical text, or one line that says why not.
 #![tactic(auto)]
 
-ghost use Rattle.std.specs.Prelude.{◌≡◌, ◌≤◌, length};
-ghost use Rattle.canon.specs.Input.{Within};
+ghost use Rattle.std.specs.Prelude.{◌≡◌, ◌≤◌, length, IfOk};
 
 use std::io;
 use std::io::{Read, Stdin};
 
-// What was read: so many bytes, which are all of the input or fill the buffer; or that a read failed.
-#[derive(Clone, Copy)]
-enum Input {
-    Bytes(usize),
-    Failed,
-}
-
-fn read_input(mut stdin: Stdin, buffer: &mut [u8]) -> Input
-    ensures { Within result buffer.new }
+// How many bytes were read: all of the input, or as many as fill the buffer.
+fn read_input(mut stdin: Stdin, buffer: &mut [u8]) -> io::Result<usize>
+    ensures { IfOk result (λ n. n ≤ length buffer.new) }
 {
     let mut n: usize = 0;
     while n < buffer.len() {
-        match stdin.read(&mut buffer[n..]) {
-            Ok(0) => return Input::Bytes(n),
-            Ok(k) => n += k,
-            Err(_) => return Input::Failed,
+        match stdin.read(&mut buffer[n..])? {
+            0 => return Ok(n),
+            k => n += k,
         }
     }
-    Input::Bytes(n)
+    Ok(n)
 }
 
 // Prints what is answered of the text in the buffer's first n bytes.
@@ -56,9 +48,8 @@ fn print_answer(rt: &impl Print, buffer: &[u8], n: usize) -> io::Result<()>
 fn main(rt: HostRuntime) -> io::Result<()> {
     // one byte more than a text may have
     let mut buffer = [0u8; 32769];
-    let input = read_input(rt.stdin(), &mut buffer);
-    match input {
-        Input::Bytes(n) => print_answer(&rt, &buffer, n),
-        Input::Failed => rt.write_all(b"input cannot be read\n"),
+    match read_input(rt.stdin(), &mut buffer) {
+        Ok(n) => print_answer(&rt, &buffer, n),
+        Err(_) => rt.write_all(b"input cannot be read\n"),
     }
 }

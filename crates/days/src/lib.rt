@@ -87,10 +87,8 @@ pub fn days_to_month(leap: usize, n: u64) -> u64
     ensures { result ≡ sum (month_days leap) n }
 {
     let mut days: u64 = 0;
-    let mut k: u64 = 0;
-    while k < n {
+    for k in 0..n {
         days += month_days(leap, k);
-        k += 1;
     }
     days
 }
@@ -101,14 +99,12 @@ pub fn month_of(leap: usize, days: u64) -> Spot
     ensures { (result.index < 12) × Place (month_days leap) days result.index result.rest }
 {
     let mut rest = days;
-    let mut k: u64 = 0;
-    while k < 11 {
+    for k in 0..11 {
         let n = month_days(leap, k);
         if rest < n {
             return Spot { index: k, rest };
         }
         rest -= n;
-        k += 1;
     }
-    Spot { index: k, rest }
+    Spot { index: 11, rest }
 }

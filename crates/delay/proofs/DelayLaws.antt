@@ -5,9 +5,8 @@ use lib.Dec.{T}
 use lib.IntN.{ℤ}
 use lib.Ieee.{Float, binary64, mul, div, le, of_int}
 use Rattle.ask_nodes.specs.declared.MilliTecu.{MilliTecu}
-use Rattle.delay.specs.Delay.{ToldDelay, given, refused, told, whole, InBand, Delays, serves, refuses}
-use Rattle.delay.specs.declared.Delayed.{Delayed}
-use Rattle.delay.specs.declared.Delayed.TheVariants.{Given, Refused}
+use Rattle.delay.specs.Delay.{ToldDelay, given, refused, Delayed, told, whole, InBand, Delays, serves, refuses}
+use Rattle.std.specs.Prelude.{Some, None}
 
 pub delays_once : {x : MilliTecu} {f : Float} (a b : ToldDelay) → Delays x f a → Delays x f b → a ≡ b
 delays_once a b (serves p) (serves q) = refl
@@ -17,12 +16,12 @@ delays_once a b (refuses m) (refuses n) = refl
 
 -- and so for what the code returns
 abbrev back : ToldDelay → Delayed
-back (given c t m) = Given (record { carrier = c; tecu = t; metres = m })
-back (refused n) = Refused
+back (given c t m) = Some (record { carrier = c; tecu = t; metres = m })
+back (refused n) = None
 
 back_told : (r : Delayed) → back (told r) ≡ r
-back_told (Given d) = refl
-back_told Refused = refl
+back_told (Some d) = refl
+back_told None = refl
 
 pub told_once : (r s : Delayed) → told r ≡ told s → r ≡ s
 told_once r s e = sym (back_told r) ∙ ap back e ∙ back_told s

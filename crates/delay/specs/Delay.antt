@@ -1,19 +1,21 @@
 -- 02, request 13: the group delay in metres of a TEC answer x at a carrier f.
-use Rattle.std.specs.Prelude.{ℕ, T, ℤ, pos, Float}
+use Rattle.std.specs.Prelude.{ℕ, T, ℤ, pos, Float, Option, Some, None}
 use Rattle.std.specs.Float.{binary64}
 use Rattle.std.specs.Float.Ieee.{mul, div, le, of_int}
 use Rattle.ask_nodes.specs.declared.MilliTecu.{MilliTecu}
-use Rattle.delay.specs.declared.Delayed.{Delayed}
-use Rattle.delay.specs.declared.Delayed.TheVariants.{Given, Refused}
+use Rattle.delay.specs.declared.Delay.{Delay}
 
 -- carrier, TECU and metres, or 02's number of a refusal
 pub data ToldDelay : Type 0 where
   given : Float → Float → Float → ToldDelay
   refused : ℕ → ToldDelay
 
+abbrev pub Delayed : Type 0
+Delayed = Option Delay
+
 abbrev pub told : Delayed → ToldDelay
-told (Given d) = given d.carrier d.tecu d.metres
-told Refused = refused 25
+told (Some d) = given d.carrier d.tecu d.metres
+told None = refused 25
 
 -- so many thousandths of a TECU
 abbrev pub milli : ℤ → MilliTecu

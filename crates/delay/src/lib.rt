@@ -13,14 +13,8 @@ pub struct Delay {
     pub metres: f64,
 }
 
-// Refused is 02's 25: the carrier is not from 1.0e9 to 2.0e9.
-#[derive(Clone, Copy)]
-pub enum Delayed {
-    Given(Delay),
-    Refused,
-}
-
-pub fn delay_of(x: MilliTecu, f: f64) -> Delayed
+// The delay at a carrier; none is 02's 25: the carrier is not from 1.0e9 to 2.0e9.
+pub fn delay_of(x: MilliTecu, f: f64) -> Option<Delay>
     ensures { Delays x f (told result) }
 {
     if f >= 1.0e9 {
@@ -29,12 +23,12 @@ pub fn delay_of(x: MilliTecu, f: f64) -> Delayed
             let thousandths = x.0 as f64;
             let tecu = thousandths / 1000.0;
             let metres = tecu * 4.03e17 / square;
-            return Delayed::Given(Delay {
+            return Some(Delay {
                 carrier: f,
                 tecu: tecu,
                 metres: metres,
             });
         }
     }
-    Delayed::Refused
+    None
 }

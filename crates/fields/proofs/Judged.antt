@@ -1,7 +1,8 @@
+use Rattle.std.specs.Prelude.{Option, Some, None}
 -- A field whose bytes pass neighbour by neighbour is a number, and its digits make it.
 use mathlib.Core.Path.{◌≡◌, refl, sym, ap, ◌∙◌}
 use mathlib.Core.Bool.{Bool, true, false, ◌&&◌, ◌||◌}
-use mathlib.Core.Logic.{◌⊎◌, ⊎_elim}
+use mathlib.Core.Logic.{⊎_elim}
 use mathlib.Core.List.{List, [], ◌∷◌, ◌++◌, append_assoc, append-nil}
 use Prim.Native.Nat.{ℕ, zero, suc, ◌+◌, ◌^◌, ◌≤◌, ◌<◌}
 use native.Mathlib.Nat.{pow-le-pow_right}
@@ -19,8 +20,6 @@ use Rattle.forms.specs.Read.{read_field, is_number}
 use Rattle.forms.proofs.FieldLaws.{read_made, made_read}
 use Rattle.forms.proofs.ShowLaws.{numeral_append, numeral_below}
 use Rattle.forms.specs.Bytes.{is_digit, may_precede, has_minus}
-use Rattle.forms.specs.declared.Field.{Field}
-use Rattle.forms.specs.declared.Field.TheVariants.{Number, Bad}
 
 digit_true : (b : ℕ) → Digit b → is_digit b ≡ true
 digit_true b h = rw (le-leb 48 b h.0, le-leb b 57 h.1)
@@ -215,10 +214,10 @@ module _ {after : ℕ} {z : ℤ} {f : List ℕ} where
   pub parts_number : (p : Parts after z f) → z ≡ signed (has_minus p.front) (numeral (numeral 0 p.front) p.part)
   parts_number p = rw (whole_minus p.whole, whole_numeral p.whole, ← numeral_append) p.number
 
-  parts_read : Parts after z f → read_field (decimal after) f ≡ Number z
+  parts_read : Parts after z f → read_field (decimal after) f ≡ Some z
   parts_read p = read_made (parts_spells p)
 
-  read_parts : read_field (decimal after) f ≡ Number z → Parts after z f
+  read_parts : read_field (decimal after) f ≡ Some z → Parts after z f
   read_parts e = spells_parts (made_read f e)
 
 -- a test that passes exactly such fields
@@ -227,9 +226,9 @@ pub judged : (after : ℕ) (f : List ℕ) (t : Bool) → (t ≡ true → (z : �
 judged after f true y n = sym (ap is_number (parts_read (y refl).1))
 judged after f false y n = go (read_field (decimal after) f) refl
   where
-    go : (r : Field) → read_field (decimal after) f ≡ r → false ≡ is_number r
-    go (Number z) e = n z (read_parts e)
-    go Bad e = refl
+    go : (r : Option ℤ) → read_field (decimal after) f ≡ r → false ≡ is_number r
+    go (Some z) e = n z (read_parts e)
+    go None e = refl
 
 nil_of : (l : List ℕ) → length l ≡ 0 → l ≡ []
 nil_of [] e = refl
@@ -249,15 +248,15 @@ int_judged f = judged 0 f (well f) there back
 
 -- ---- what the test says of the field
 
-pub bad_of : (r : Field) → is_number r ≡ false → Bad ≡ r
-bad_of (Number z) e = cc
-bad_of Bad e = refl
+pub bad_of : (r : Option ℤ) → is_number r ≡ false → None ≡ r
+bad_of (Some z) e = cc
+bad_of None e = refl
 
-number_of : (r : Field) → is_number r ≡ true → (z : ℤ) × (r ≡ Number z)
-number_of (Number z) e = (z, refl)
-number_of Bad e = let x : ◌≡◌ {A = ℕ} 0 1 = cc in absurd (omega arith)
+number_of : (r : Option ℤ) → is_number r ≡ true → (z : ℤ) × (r ≡ Some z)
+number_of (Some z) e = (z, refl)
+number_of None e = let x : ◌≡◌ {A = ℕ} 0 1 = cc in absurd (omega arith)
 
-pub judged_parts : (after : ℕ) (f : List ℕ) → is_number (read_field (decimal after) f) ≡ true → (z : ℤ) × (read_field (decimal after) f ≡ Number z) × Parts after z f
+pub judged_parts : (after : ℕ) (f : List ℕ) → is_number (read_field (decimal after) f) ≡ true → (z : ℤ) × (read_field (decimal after) f ≡ Some z) × Parts after z f
 judged_parts after f e = let n = number_of (read_field (decimal after) f) e in (n.0, n.1, read_parts n.1)
 
 module _ (f : List ℕ) (e : is_number (read_field I f) ≡ true) where
@@ -266,12 +265,12 @@ module _ (f : List ℕ) (e : is_number (read_field I f) ≡ true) where
       let n = nil_of p.part p.places in
       (sym (rw (n, append-nil) at p.bytes), n)
 
-  pub int_number : Number (signed (has_minus f) (numeral 0 f)) ≡ read_field I f
+  pub int_number : Some (signed (has_minus f) (numeral 0 f)) ≡ read_field I f
   int_number =
       let j = judged_parts 0 f e in
       let p = j.2 in
       let i = int_parts p in
-      sym (j.1 ∙ ap Number (parts_number p ∙ rw (i.1, i.0)))
+      sym (j.1 ∙ ap Some (parts_number p ∙ rw (i.1, i.0)))
 
   pub int_below : length f ≤ 9 → numeral 0 f < 1000000000
   int_below h =

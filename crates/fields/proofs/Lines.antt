@@ -1,3 +1,4 @@
+use Rattle.std.specs.Prelude.{Option, Some, None}
 -- A field of a line that stops early: a number's last column holds a digit, so a missing column makes the field bad.
 use mathlib.Core.Path.{◌≡◌, refl, sym, ap, ◌∙◌}
 use mathlib.Core.List.{List, [], ◌∷◌, ◌++◌, append_assoc}
@@ -15,10 +16,6 @@ use Rattle.forms.specs.Read.{read_field}
 use Rattle.forms.specs.Columns.{columns, further, first_not_blank}
 use Rattle.forms.proofs.FieldLaws.{made_read}
 use Rattle.forms.proofs.ColumnLaws.{columns_whole, columns_first, columns_last}
-use Rattle.forms.specs.declared.Field.{Field}
-use Rattle.forms.specs.declared.Field.TheVariants.{Number, Bad}
-use Rattle.forms.specs.declared.Found.{Found}
-use Rattle.forms.specs.declared.Found.TheVariants.{At, Nowhere}
 
 -- ---- the last byte
 
@@ -48,17 +45,17 @@ spells_ends h s =
     let e = ends_digit s.whole s.part s.digits (omega arith) in
     rw (s.bytes, e.2, ← append_assoc (replicate s.blanks 32) (sign s.minus) (e.0 ∷ e.1), last_append) e.3
 
-no_digit_last : (fm : Form) (f : List ℕ) → 0 < fm.least + fm.after → (Digit (last 0 f) → ⊥) → Bad ≡ read_field fm f
+no_digit_last : (fm : Form) (f : List ℕ) → 0 < fm.least + fm.after → (Digit (last 0 f) → ⊥) → None ≡ read_field fm f
 no_digit_last fm f h n = go (read_field fm f) refl
   where
-    go : (r : Field) → read_field fm f ≡ r → Bad ≡ r
-    go (Number z) e = absurd (n (spells_ends h (made_read f e)))
-    go Bad e = refl
+    go : (r : Option ℤ) → read_field fm f ≡ r → None ≡ r
+    go (Some z) e = absurd (n (spells_ends h (made_read f e)))
+    go None e = refl
 
 -- ---- the field of n columns after the first a
 
 module _ (after : ℕ) (line : List ℕ) (a : ℕ) where
-  pub short : (n : ℕ) → length line < a + n → Bad ≡ read_field (decimal after) (columns line a n)
+  pub short : (n : ℕ) → length line < a + n → None ≡ read_field (decimal after) (columns line a n)
   short n h = no_digit_last (decimal after) (columns line a n) (some after) (missing n h)
     where
       some : (after : ℕ) → 0 < fewest after + after
@@ -85,13 +82,13 @@ there [] i h = absurd (omega arith)
 there (b ∷ bs) zero h = refl
 there (b ∷ bs) (suc i) h = there bs i (omega arith)
 
-further_further : (n : ℕ) (r : Found) → further n (further 1 r) ≡ further (n + 1) r
-further_further n (At i) = ap At (omega arith)
-further_further n Nowhere = refl
+further_further : (n : ℕ) (r : Option ℕ) → further n (further 1 r) ≡ further (n + 1) r
+further_further n (Some i) = ap Some (omega arith)
+further_further n None = refl
 
 module _ (line : List ℕ) (i e : ℕ) where
   -- columns i + 1 to e
-  abbrev rest : Found
+  abbrev rest : Option ℕ
   rest = first_not_blank (columns line i (e - i))
 
   module _ (h : i < e) (b : ℕ) (q : b ≡ get_or line i 32) where
@@ -104,11 +101,11 @@ module _ (line : List ℕ) (i e : ℕ) where
     unfolding first_not_blank
     blank_here p = rw (cons, eq-eqb b 32 p) (further_further (i + 1) (first_not_blank (columns line (i + 1) (e - (i + 1)))))
 
-    pub found_here : (b ≡ 32 → ⊥) → At (i + 1) ≡ further (i + 1) rest
+    pub found_here : (b ≡ 32 → ⊥) → Some (i + 1) ≡ further (i + 1) rest
     unfolding first_not_blank
-    found_here p = rw (cons, ne_eqb b 32 p) (ap At (omega arith))
+    found_here p = rw (cons, ne_eqb b 32 p) (ap Some (omega arith))
 
-  pub none_left : e ≤ i → Nowhere ≡ further (i + 1) rest
+  pub none_left : e ≤ i → None ≡ further (i + 1) rest
   unfolding first_not_blank columns
   none_left h = let z : e - i ≡ 0 = omega arith in rw z
 

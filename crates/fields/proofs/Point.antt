@@ -1,3 +1,4 @@
+use Rattle.std.specs.Prelude.{Some}
 -- A field with digits after the point: its bytes in front of the point, and those after it.
 use mathlib.Core.Path.{◌≡◌, refl, sym, ap, ◌∙◌}
 use mathlib.Core.Bool.{Bool, true, false, ◌&&◌}
@@ -18,7 +19,6 @@ use Rattle.forms.specs.Form.{fewest, decimal, I, Digit, numeral, signed, pointed
 use Rattle.forms.specs.Read.{read_field, is_number}
 use Rattle.forms.proofs.ShowLaws.{numeral_below}
 use Rattle.forms.specs.Bytes.{has_minus, Small}
-use Rattle.forms.specs.declared.Field.TheVariants.{Number}
 use Rattle.fields.proofs.Judged.{Parts, well, well_lead, well_last, lead_well, well_digits, digits_well, whole_below, judged, judged_parts, parts_number, int_judged}
 use Rattle.fields.proofs.Steps.{drop_next}
 
@@ -63,11 +63,11 @@ module _ (after : ℕ) (some : 0 < after) (f : List ℕ) where
     pub decimal_long : after < length f
     decimal_long = let j = judged_parts after f e in let n = (cut j.0 j.2).size in omega arith
 
-    pub decimal_number : Number (signed (has_minus (take (point_at f after) f)) (numeral (numeral 0 (take (point_at f after) f)) (drop (point_at f after + 1) f))) ≡ read_field (decimal after) f
+    pub decimal_number : Some (signed (has_minus (take (point_at f after) f)) (numeral (numeral 0 (take (point_at f after) f)) (drop (point_at f after + 1) f))) ≡ read_field (decimal after) f
     decimal_number =
         let j = judged_parts after f e in
         let c = cut j.0 j.2 in
-        rw (c.front, c.part) (sym (j.1 ∙ ap Number (parts_number j.2)))
+        rw (c.front, c.part) (sym (j.1 ∙ ap Some (parts_number j.2)))
 
     pub decimal_small : length f ≤ 10 → Small (take (point_at f after) f) (drop (point_at f after + 1) f)
     decimal_small h =

@@ -7,14 +7,12 @@ ghost use Rattle.forms.specs.Columns.{columns, first_not_blank, further};
 ghost use Rattle.forms.specs.Rows.{three_at, six_of};
 ghost use Rattle.forms.specs.Bytes.{is_digit, may_precede, has_minus, Small};
 
-use forms::{Field, Found, Row, Triple};
-
 // ---- A field that is read
 
 pub fn is_digit(b: u8) -> bool
     ensures { result ≡ is_digit b }
 {
-    (48 <= b) & (b <= 57)
+    b.is_ascii_digit()
 }
 
 // Whether b may stand in a number right before the byte `next`.
@@ -33,10 +31,8 @@ pub fn is_int(f: &[u8]) -> bool
     }
     let last = f.len() - 1;
     let mut ok = true;
-    let mut i = 0;
-    while i < last {
+    for i in 0..last {
         ok = ok & may_precede(f[i], f[i + 1]);
-        i += 1;
     }
     ok & is_digit(f[last])
 }
@@ -45,10 +41,7 @@ pub fn is_int(f: &[u8]) -> bool
 fn low(b: u8) -> u64
     ensures { result ≡ b - 48 }
 {
-    if b < 48 {
-        return 0;
-    }
-    (b - 48) as u64
+    u64::from(b.saturating_sub(b'0'))
 }
 
 // The number that the digits of f make, written after the number acc.
@@ -57,10 +50,8 @@ fn numeral_of(f: &[u8], acc: u64) -> u64
     ensures { result ≡ numeral acc f.now }
 {
     let mut n = acc;
-    let mut i = 0;
-    while i < f.len() {
-        n = n * 10 + low(f[i]);
-        i += 1;
+    for &b in f {
+        n = n * 10 + low(b);
     }
     n
 }
@@ -68,13 +59,7 @@ fn numeral_of(f: &[u8], acc: u64) -> u64
 fn has_minus(f: &[u8]) -> bool
     ensures { result ≡ has_minus f.now }
 {
-    let mut minus = false;
-    let mut i = 0;
-    while i < f.len() {
-        minus = minus | (f[i] == b'-');
-        i += 1;
-    }
-    minus
+    f.contains(&b'-')
 }
 
 fn signed_of(minus: bool, n: u64) -> i32
@@ -87,21 +72,17 @@ fn signed_of(minus: bool, n: u64) -> i32
 // The number of a field that is one.
 pub fn int_value(f: &[u8]) -> i32
     requires { (length f.now ≤ 9) × (is_number (read_field I f.now) ≡ true) }
-    ensures { Field.Number result ≡ read_field I f.now }
+    ensures { Some result ≡ read_field I f.now }
 {
     signed_of(has_minus(f), numeral_of(f, 0))
 }
 
 // The form In.
-fn read_int(f: &[u8]) -> Field
+fn read_int(f: &[u8]) -> Option<i32>
     requires { length f.now ≤ 9 }
     ensures { result ≡ read_field I f.now }
 {
-    if is_int(f) {
-        Field::Number(int_value(f))
-    } else {
-        Field::Bad
-    }
+    if is_int(f) { Some(int_value(f)) } else { None }
 }
 
 // Whether f may stand before the digit d: the two make a number of the form In. So f may be blank, or end in a minus.
@@ -110,9 +91,7 @@ fn leads(f: &[u8], d: u8) -> bool
 {
     let mut ok = is_digit(d);
     let mut next = d;
-    let mut i = f.len();
-    while 0 < i {
-        i -= 1;
+    for i in (0..f.len()).rev() {
         ok = may_precede(f[i], next) & ok;
         next = f[i];
     }
@@ -141,20 +120,20 @@ fn decimal_value(front: &[u8], part: &[u8]) -> i32
     signed_of(has_minus(front), numeral_of(part, whole))
 }
 
-fn read_decimal(f: &[u8], after: usize) -> Field
+fn read_decimal(f: &[u8], after: usize) -> Option<i32>
     requires { (0 < after) × (length f.now ≤ 10) }
     ensures { result ≡ read_field (decimal after) f.now }
 {
     if is_decimal(f, after) {
         let k = f.len() - after - 1;
         let p = k + 1;
-        Field::Number(decimal_value(&f[..k], &f[p..]))
+        Some(decimal_value(&f[..k], &f[p..]))
     } else {
-        Field::Bad
+        None
     }
 }
 
-fn read_number(f: &[u8], after: usize) -> Field
+fn read_number(f: &[u8], after: usize) -> Option<i32>
     requires { length f.now ≤ 9 + dot after }
     ensures { result ≡ read_field (decimal after) f.now }
 {
@@ -167,25 +146,25 @@ fn read_number(f: &[u8], after: usize) -> Field
 // ---- The columns of a line, which may stop early
 
 // The field in the n columns after the first a. A number's last column holds a digit, so a missing one makes it bad.
-fn number_at(line: &[u8], a: usize, n: usize, after: usize) -> Field
+fn number_at(line: &[u8], a: usize, n: usize, after: usize) -> Option<i32>
     requires { (a ≤ 80) × (n ≤ 9 + dot after) }
     ensures { result ≡ read_field (decimal after) (columns line.now a n) }
 {
     let e = a + n;
     if line.len() < e {
-        return Field::Bad;
+        return None;
     }
     read_number(&line[a..e], after)
 }
 
-pub fn int_at(line: &[u8], a: usize, n: usize) -> Field
+pub fn int_at(line: &[u8], a: usize, n: usize) -> Option<i32>
     requires { (a ≤ 80) × (n ≤ 9) }
     ensures { result ≡ read_field I (columns line.now a n) }
 {
     number_at(line, a, n, 0)
 }
 
-pub fn tenths_at(line: &[u8], a: usize, n: usize) -> Field
+pub fn tenths_at(line: &[u8], a: usize, n: usize) -> Option<i32>
     requires { (a ≤ 80) × (n ≤ 10) }
     ensures { result ≡ read_field F1 (columns line.now a n) }
 {
@@ -193,44 +172,31 @@ pub fn tenths_at(line: &[u8], a: usize, n: usize) -> Field
 }
 
 // The form Fn.3, in thousandths.
-pub fn thousandths_at(line: &[u8], a: usize, n: usize) -> Field
+pub fn thousandths_at(line: &[u8], a: usize, n: usize) -> Option<i32>
     requires { (a ≤ 80) × (n ≤ 10) }
     ensures { result ≡ read_field F3 (columns line.now a n) }
 {
     number_at(line, a, n, 3)
 }
 
-// Three fields of six columns after the first a.
-pub fn three_numbers(line: &[u8], a: usize, after: usize) -> Triple
+// Three fields of six columns after the first a, or the first column of the first wrong one.
+pub fn three_numbers(line: &[u8], a: usize, after: usize) -> Result<(i32, i32, i32), usize>
     requires { a ≤ 60 }
     ensures { result ≡ three_at (decimal after) line.now a }
 {
-    let first = number_at(line, a, 6, after);
-    let Field::Number(x) = first else {
-        return Triple::Amiss(a + 1);
-    };
-    let second = number_at(line, a + 6, 6, after);
-    let Field::Number(y) = second else {
-        return Triple::Amiss(a + 7);
-    };
-    let third = number_at(line, a + 12, 6, after);
-    let Field::Number(z) = third else {
-        return Triple::Amiss(a + 13);
-    };
-    Triple::Three(x, y, z)
+    let x = number_at(line, a, 6, after).ok_or(a + 1)?;
+    let y = number_at(line, a + 6, 6, after).ok_or(a + 7)?;
+    let z = number_at(line, a + 12, 6, after).ok_or(a + 13)?;
+    Ok((x, y, z))
 }
 
-// The six fields I6 of an epoch.
-pub fn six_numbers(line: &[u8]) -> Row
+// The six fields I6 of an epoch, likewise.
+pub fn six_numbers(line: &[u8]) -> Result<(i32, i32, i32, i32, i32, i32), usize>
     ensures { result ≡ six_of line.now }
 {
-    match three_numbers(line, 0, 0) {
-        Triple::Three(a, b, c) => match three_numbers(line, 18, 0) {
-            Triple::Three(d, e, f) => Row::Six(a, b, c, d, e, f),
-            Triple::Amiss(column) => Row::Wrong(column),
-        },
-        Triple::Amiss(column) => Row::Wrong(column),
-    }
+    let (a, b, c) = three_numbers(line, 0, 0)?;
+    let (d, e, f) = three_numbers(line, 18, 0)?;
+    Ok((a, b, c, d, e, f))
 }
 
 // The byte after the first i columns.
@@ -248,49 +214,29 @@ pub fn text_into(line: &[u8], a: usize, out: &mut [u8])
     requires { a + length out.old ≤ 80 }
     ensures { out.new ≡ columns line.now a (length out.old) }
 {
-    let mut i = 0;
-    while i < out.len() {
+    for i in 0..out.len() {
         out[i] = byte_at(line, a + i);
-        i += 1;
     }
 }
 
-pub fn text20(line: &[u8], a: usize) -> [u8; 20]
-    requires { a + 20 ≤ 80 }
-    ensures { result ≡ columns line.now a 20 }
+// The N columns after the first a.
+pub fn text<const N: usize>(line: &[u8], a: usize) -> [u8; N]
+    requires { a + N ≤ 80 }
+    ensures { result ≡ columns line.now a N }
 {
-    let mut out = [b' '; 20];
+    let mut out = [b' '; N];
     text_into(line, a, &mut out);
-    out
-}
-
-pub fn text4(line: &[u8], a: usize) -> [u8; 4]
-    requires { a + 4 ≤ 80 }
-    ensures { result ≡ columns line.now a 4 }
-{
-    let mut out = [b' '; 4];
-    text_into(line, a, &mut out);
-    out
-}
-
-pub fn text60(line: &[u8]) -> [u8; 60]
-    ensures { result ≡ columns line.now 0 60 }
-{
-    let mut out = [b' '; 60];
-    text_into(line, 0, &mut out);
     out
 }
 
 // Columns a + 1 to e must be blank: the first of them that is not.
-pub fn first_not_blank(line: &[u8], a: usize, e: usize) -> Found
+pub fn first_not_blank(line: &[u8], a: usize, e: usize) -> Option<usize>
     ensures { result ≡ further (a + 1) (first_not_blank (columns line.now a (e - a))) }
 {
-    let mut i = a;
-    while i < e {
+    for i in a..e {
         if byte_at(line, i) != b' ' {
-            return Found::At(i + 1);
+            return Some(i + 1);
         }
-        i += 1;
     }
-    Found::Nowhere
+    None
 }

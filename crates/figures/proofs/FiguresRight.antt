@@ -1,8 +1,9 @@
+use Rattle.std.specs.Prelude.{Option, Some, None, Result, Ok, Err}
 -- Each row of 01's figures is right: by a test that is computed, and one proof for all rows.
 use mathlib.Core.Path.{◌≡◌, refl, ap}
 use mathlib.Core.Bool.{Bool, true, false, ◌&&◌}
 use mathlib.Core.List.{List, [], ◌∷◌}
-use mathlib.Core.Option.{Option, none, some}
+use mathlib.Core.Option.{Option as Maybe, none, some}
 use Prim.Native.Nat.{ℕ, ◌≤◌}
 use native.Mathlib.Omega.{arith}
 use lib.Dec.{T, eqb, leb, eqb→eq, leb→le}
@@ -18,18 +19,16 @@ use Rattle.days.specs.Years.{is_leap, month_days, year_days}
 use Rattle.calendar.specs.Calendar.{dated, second}
 use Rattle.days.specs.Sums.{sum}
 use Rattle.calendar.proofs.FieldLaws.{dated_at, dated_ok}
-use Rattle.calendar.specs.declared.Taken.{Taken}
-use Rattle.calendar.specs.declared.Taken.TheVariants.{At, Wrong}
 use Rattle.forms.specs.Form.{I}
 use Rattle.forms.specs.Read.{read_field, number_of, formed?}
 use Rattle.forms.proofs.FieldLaws.{read_made, made_read}
-use Rattle.forms.specs.declared.Field.{Field}
-use Rattle.forms.specs.declared.Field.TheVariants.{Number, Bad}
 use Rattle.mapset.specs.MapSet.{MapSet}
 use Rattle.layout.specs.Text.{pad}
 use Rattle.layout.specs.Records.{v_last}
 use Rattle.layout.specs.Layout.{Makes}
-use Rattle.reading.specs.Feed.{Fault, Why, feed, split}
+use Rattle.reading.specs.declared.Fault.{Fault}
+use Rattle.reading.specs.declared.Why.{Why}
+use Rattle.reading.specs.Feed.{feed, split}
 use Rattle.reading.specs.Fields.{number, blank, cells}
 use Rattle.reading.specs.Maps.{short}
 use Rattle.reading.specs.Read.{begin, read}
@@ -44,28 +43,28 @@ use Rattle.ask.specs.Sample.{header, texts}
 use Rattle.ask.proofs.Reckoned.{judged_sound, gives, holds, reckoned, known?, timely?, same_told}
 use Rattle.figures.specs.Figures.{Figure, is_second, is_date, no_date, is_number, no_number, is_line, no_text, is_answer, Midnight, Right, table}
 
-abbrev midnight : ℕ → ℕ → ℕ → Taken
+abbrev midnight : ℕ → ℕ → ℕ → Result ℕ ℕ
 midnight y m d = dated (pos y) (pos m) (pos d) (pos 0) (pos 0) (pos 0)
 
-abbrev is_at : ℕ → Taken → Bool
-is_at t (At u) = eqb u t
-is_at t (Wrong c) = false
+abbrev is_at : ℕ → Result ℕ ℕ → Bool
+is_at t (Ok u) = eqb u t
+is_at t (Err c) = false
 
-abbrev is_some : Taken → Bool
-is_some (At u) = true
-is_some (Wrong c) = false
+abbrev is_some : Result ℕ ℕ → Bool
+is_some (Ok u) = true
+is_some (Err c) = false
 
-abbrev is_none : Taken → Bool
-is_none (At u) = false
-is_none (Wrong c) = true
+abbrev is_none : Result ℕ ℕ → Bool
+is_none (Ok u) = false
+is_none (Err c) = true
 
-abbrev is_field : ℤ → Field → Bool
-is_field z (Number y) = truth (int? y z)
-is_field z Bad = false
+abbrev is_field : ℤ → Option ℤ → Bool
+is_field z (Some y) = truth (int? y z)
+is_field z None = false
 
-abbrev is_bad : Field → Bool
-is_bad (Number y) = false
-is_bad Bad = true
+abbrev is_bad : Option ℤ → Bool
+is_bad (Some y) = false
+is_bad None = true
 
 abbrev is_row : List ℤ → Answer Fault (List ℤ) → Bool
 is_row zs (ok ys) = truth (sames int? ys zs)
@@ -89,32 +88,32 @@ both : (a b : Bool) → T (a && b) → T a × T b
 both true b t = (tt, t)
 both false b t = absurd t
 
-at_ok : (t : ℕ) (x : Taken) → T (is_at t x) → x ≡ At t
-at_ok t (At u) h = ap At (eqb→eq u t h)
-at_ok t (Wrong c) h = absurd h
+at_ok : (t : ℕ) (x : Result ℕ ℕ) → T (is_at t x) → x ≡ Ok t
+at_ok t (Ok u) h = ap Ok (eqb→eq u t h)
+at_ok t (Err c) h = absurd h
 
 sound : (f : Figure) → T (test f) → Right f
 sound (is_second y m d t) h = dated_ok (pos y) (pos m) (pos d) (pos 0) (pos 0) (pos 0) t (at_ok t (midnight y m d) h)
 sound (is_date y m d) h = by (midnight y m d) refl h
   where
-    by : (x : Taken) → midnight y m d ≡ x → T (is_some x) → (t : ℕ) × Midnight y m d t
-    by (At t) e h = (t, dated_ok (pos y) (pos m) (pos d) (pos 0) (pos 0) (pos 0) t e)
-    by (Wrong c) e h = absurd h
+    by : (x : Result ℕ ℕ) → midnight y m d ≡ x → T (is_some x) → (t : ℕ) × Midnight y m d t
+    by (Ok t) e h = (t, dated_ok (pos y) (pos m) (pos d) (pos 0) (pos 0) (pos 0) t e)
+    by (Err c) e h = absurd h
 sound (no_date y m d) h = λ t x. by (midnight y m d) h (dated_at (pos y) (pos m) (pos d) (pos 0) (pos 0) (pos 0) t x)
   where
-    by : (x : Taken) {t : ℕ} → T (is_none x) → ¬ (x ≡ At t)
-    by (At u) h e = h
-    by (Wrong c) {t} h e = let z : ◌≡◌ {A = ℕ} 0 1 = cc in omega arith
+    by : (x : Result ℕ ℕ) {t : ℕ} → T (is_none x) → ¬ (x ≡ Ok t)
+    by (Ok u) h e = h
+    by (Err c) {t} h e = let z : ◌≡◌ {A = ℕ} 0 1 = cc in omega arith
 sound (is_number f z) h = let b = both (eqb (length f) 5) _ h in rw (eqb→eq (length f) 5 b.0) at (made_read f (field_ok z (read_field I f) b.1))
   where
-    field_ok : (z : ℤ) (x : Field) → T (is_field z x) → x ≡ Number z
-    field_ok z (Number y) h = ap Number (truth_ok (int? y z) h)
-    field_ok z Bad h = absurd h
+    field_ok : (z : ℤ) (x : Option ℤ) → T (is_field z x) → x ≡ Some z
+    field_ok z (Some y) h = ap Some (truth_ok (int? y z) h)
+    field_ok z None h = absurd h
 sound (no_number f) h = λ z x. by (read_field I f) h (read_made x)
   where
-    by : (x : Field) {z : ℤ} → T (is_bad x) → ¬ (x ≡ Number z)
-    by (Number y) h e = h
-    by Bad {z} h e = let z : ◌≡◌ {A = ℕ} 0 1 = cc in omega arith
+    by : (x : Option ℤ) {z : ℤ} → T (is_bad x) → ¬ (x ≡ Some z)
+    by (Some y) h e = h
+    by None {z} h e = let z : ◌≡◌ {A = ℕ} 0 1 = cc in omega arith
 sound (is_line l zs) h =
     let a = both (leb 1 (length zs)) _ h in
     let b = both (leb (length zs) 16) _ a.1 in
@@ -135,15 +134,15 @@ sound (no_text t) h = by (read t) refl h
 sound (is_answer q a) h = reckoned q (gives a) h
 
 -- the first row that fails its test
-abbrev or_next : Bool → Figure → Option Figure → Option Figure
+abbrev or_next : Bool → Figure → Maybe Figure → Maybe Figure
 or_next true f o = o
 or_next false f o = some f
 
-abbrev wrong : List Figure → Option Figure
+abbrev wrong : List Figure → Maybe Figure
 wrong [] = none
 wrong (f ∷ fs) = or_next (test f) f (wrong fs)
 
-passed : (b : Bool) (f : Figure) (o : Option Figure) → or_next b f o ≡ none → T b × (o ≡ none)
+passed : (b : Bool) (f : Figure) (o : Maybe Figure) → or_next b f o ≡ none → T b × (o ≡ none)
 passed true f o e = (tt, e)
 passed false f o e = let z : ◌≡◌ {A = ℕ} 0 1 = cc in absurd (omega arith)
 

@@ -1,3 +1,4 @@
+use Rattle.std.specs.Prelude.{Option, Some, None}
 -- Columns of a line that may stop early, and of one that is padded; and what the first byte says that is no blank.
 use mathlib.Core.Path.{◌≡◌, refl, sym, ap, ap₂, ◌∙◌}
 use mathlib.Core.Bool.{Bool, true, false, cond}
@@ -11,8 +12,6 @@ use borrow.Author.Tests.{eq-eqb, eqb-true, eqb-false}
 use Rattle.kit.specs.Answer.{All}
 use Rattle.kit.proofs.TruthLaws.{clash}
 use Rattle.forms.specs.Columns.{columns, Blank, further, first_not_blank}
-use Rattle.forms.specs.declared.Found.{Found}
-use Rattle.forms.specs.declared.Found.TheVariants.{At, Nowhere}
 
 -- ---- blanks enough, however many
 
@@ -74,21 +73,21 @@ one_column line a = columns_first line a 0 ∙ (unfold columns in refl)
 
 -- ---- the first byte that is no blank
 
-pub blank_none : (l : List ℕ) → All Blank l → first_not_blank l ≡ Nowhere
+pub blank_none : (l : List ℕ) → All Blank l → first_not_blank l ≡ None
 unfolding first_not_blank
 blank_none [] h = refl
 blank_none (b ∷ bs) h = rw (eq-eqb b 32 h.0, blank_none bs h.1)
 
-further_none : (n : ℕ) (r : Found) → further n r ≡ Nowhere → r ≡ Nowhere
-further_none n (At i) e = clash (cc)
-further_none n Nowhere e = refl
+further_none : (n : ℕ) (r : Option ℕ) → further n r ≡ None → r ≡ None
+further_none n (Some i) e = clash (cc)
+further_none n None e = refl
 
-none_blank : (l : List ℕ) → first_not_blank l ≡ Nowhere → All Blank l
+none_blank : (l : List ℕ) → first_not_blank l ≡ None → All Blank l
 unfolding first_not_blank
 none_blank [] e = tt
 none_blank (b ∷ bs) e = go (eqb b 32) refl e (none_blank bs)
   where
-    go : (t : Bool) → eqb b 32 ≡ t → cond t (further 1 (first_not_blank bs)) (At 0) ≡ Nowhere → (first_not_blank bs ≡ Nowhere → All Blank bs) → All Blank (b ∷ bs)
+    go : (t : Bool) → eqb b 32 ≡ t → cond t (further 1 (first_not_blank bs)) (Some 0) ≡ None → (first_not_blank bs ≡ None → All Blank bs) → All Blank (b ∷ bs)
     go true p r ih = (eqb-true b 32 p, ih (further_none 1 (first_not_blank bs) r))
     go false p r ih = clash (cc)
 
@@ -98,16 +97,16 @@ pub record First (l : List ℕ) (i : ℕ) : Type 0 where
   pub before : All Blank (take i l)
   pub here : Blank (get_or l i 0) → ⊥
 
-further_at : (r : Found) (i : ℕ) → further 1 r ≡ At i → (j : ℕ) × ((r ≡ At j) × (i ≡ suc j))
-further_at (At j) i e = let h : 1 + j ≡ i = cc in (j, (refl, omega arith))
-further_at Nowhere i e = clash (cc)
+further_at : (r : Option ℕ) (i : ℕ) → further 1 r ≡ Some i → (j : ℕ) × ((r ≡ Some j) × (i ≡ suc j))
+further_at (Some j) i e = let h : 1 + j ≡ i = cc in (j, (refl, omega arith))
+further_at None i e = clash (cc)
 
-first_at : (l : List ℕ) (i : ℕ) → first_not_blank l ≡ At i → First l i
+first_at : (l : List ℕ) (i : ℕ) → first_not_blank l ≡ Some i → First l i
 unfolding first_not_blank
 first_at [] i e = clash (cc)
 first_at (b ∷ bs) i e = go (eqb b 32) refl e (first_at bs)
   where
-    go : (t : Bool) → eqb b 32 ≡ t → cond t (further 1 (first_not_blank bs)) (At 0) ≡ At i → ((j : ℕ) → first_not_blank bs ≡ At j → First bs j) → First (b ∷ bs) i
+    go : (t : Bool) → eqb b 32 ≡ t → cond t (further 1 (first_not_blank bs)) (Some 0) ≡ Some i → ((j : ℕ) → first_not_blank bs ≡ Some j → First bs j) → First (b ∷ bs) i
     go true p r ih =
         let k = further_at (first_not_blank bs) i r in
         let f = ih k.0 k.1.0 in

@@ -1,3 +1,4 @@
+use Rattle.std.specs.Prelude.{Some, None}
 -- Reading and the forms agree: a field reads as the number z exactly where its bytes stand for z.
 use mathlib.Core.Path.{◌≡◌, refl, sym, ap, ◌∙◌}
 use mathlib.Core.Bool.{Bool, true, false, cond}
@@ -13,7 +14,6 @@ use Rattle.kit.specs.Answer.{All, pick}
 use Rattle.kit.proofs.AnswerLaws.{pick_yes}
 use Rattle.forms.specs.Form.{Form, Digit, numeral, sign, signed, pointed, dot, Spells}
 use Rattle.forms.specs.Read.{skip, Formed, formed?, whole_of, part_of, number_of, after_blanks, read_field}
-use Rattle.forms.specs.declared.Field.TheVariants.{Number, Bad}
 
 -- ---- what the form makes is read
 
@@ -42,7 +42,7 @@ module _ (fm : Form) (whole part : List ℕ) (p : length part ≡ fm.after) wher
           rw (← s) (drop_at (whole ++ (46 ∷ [])) (d ∷ ds) _ e)
 
   number_made : (minus : Bool) → All Digit (whole ++ part) → fm.least ≤ length whole
-      → number_of fm minus (whole ++ pointed part) ≡ Number (signed minus (numeral 0 (whole ++ part)))
+      → number_of fm minus (whole ++ pointed part) ≡ Some (signed minus (numeral 0 (whole ++ part)))
   unfolding number_of
   number_made minus h k = rw (cut_whole, cut_part) (pick_yes _ _ _ (h, (k, (p, refl))))
 
@@ -71,7 +71,7 @@ sign_read fm false (b ∷ bs) h =
     ap (after_blanks fm) (skip_ends b bs h.0) ∙ ap (λ (t : Bool). cond t (number_of fm true bs) (number_of fm false (b ∷ bs))) (ne_eqb b 45 h.1)
 
 module _ {fm : Form} {w : ℕ} {z : ℤ} {f : List ℕ} where
-  pub read_made : Spells fm w z f → read_field fm f ≡ Number z
+  pub read_made : Spells fm w z f → read_field fm f ≡ Some z
   unfolding read_field
   read_made s =
       let l = s.whole ++ pointed s.part in
@@ -79,7 +79,7 @@ module _ {fm : Form} {w : ℕ} {z : ℤ} {f : List ℕ} where
       ∙ ap (after_blanks fm) (skip_blanks s.blanks (sign s.minus ++ l))
       ∙ sign_read fm s.minus l (fresh s.whole s.part s.digits)
       ∙ number_made fm s.whole s.part s.places s.minus s.digits s.enough
-      ∙ ap Number (sym s.number)
+      ∙ ap Some (sym s.number)
 
   pub spells_width : Spells fm w z f → length f ≡ w
   spells_width s = s.width
@@ -97,7 +97,7 @@ skip_sound (b ∷ bs) = go (eqb b 32) refl (skip_sound bs)
     go true p ih = (suc ih.0, rw (eqb-true b 32 p) (ap (◌∷◌ 32) ih.1))
     go false p ih = (0, refl)
 
-picked : {P : Type 0} (d : Dec P) (x z : ℤ) → pick d (Number x) Bad ≡ Number z → P × (z ≡ x)
+picked : {P : Type 0} (d : Dec P) (x z : ℤ) → pick d (Some x) None ≡ Some z → P × (z ≡ x)
 unfolding pick
 picked (yes p) x z e = (p, cc)
 picked (no n) x z e = let y : ◌≡◌ {A = ℕ} 0 1 = cc in absurd (omega arith)
@@ -111,21 +111,21 @@ record Signed (fm : Form) (z : ℤ) (l : List ℕ) : Type 0 where
   number : z ≡ signed minus (numeral 0 (whole_of fm rest ++ part_of fm rest))
 
 module _ {fm : Form} {z : ℤ} where
-  number_sound : (minus : Bool) (l : List ℕ) → number_of fm minus l ≡ Number z → Signed fm z (sign minus ++ l)
+  number_sound : (minus : Bool) (l : List ℕ) → number_of fm minus l ≡ Some z → Signed fm z (sign minus ++ l)
   unfolding number_of
   number_sound minus l e =
       let p = picked (formed? fm (whole_of fm l) (part_of fm l) l) _ z e in
       record { minus = minus; rest = l; formed = p.0; bytes = refl; number = p.1 }
 
-  sign_sound : (l : List ℕ) → after_blanks fm l ≡ Number z → Signed fm z l
+  sign_sound : (l : List ℕ) → after_blanks fm l ≡ Some z → Signed fm z l
   sign_sound [] e = number_sound false [] e
   sign_sound (b ∷ bs) e = go (eqb b 45) refl e
     where
-      go : (t : Bool) → eqb b 45 ≡ t → cond t (number_of fm true bs) (number_of fm false (b ∷ bs)) ≡ Number z → Signed fm z (b ∷ bs)
+      go : (t : Bool) → eqb b 45 ≡ t → cond t (number_of fm true bs) (number_of fm false (b ∷ bs)) ≡ Some z → Signed fm z (b ∷ bs)
       go true p r = rw (eqb-true b 45 p) (number_sound true bs r)
       go false p r = number_sound false (b ∷ bs) r
 
-  pub made_read : (f : List ℕ) → read_field fm f ≡ Number z → Spells fm (length f) z f
+  pub made_read : (f : List ℕ) → read_field fm f ≡ Some z → Spells fm (length f) z f
   unfolding read_field
   made_read f e =
       let k = skip_sound f in

@@ -3,3 +3,4 @@ pub mod FieldLaws
 pub mod ShowLaws
 pub mod Vectors
 pub mod Theorems
+pub mod Options

@@ -1,10 +1,8 @@
 -- Reading a number field, by computation. `FieldLaws` ties it to `Form`.
-use Rattle.std.specs.Prelude.{ℕ, ◌+◌, ◌-◌, ◌≤◌, ◌≡◌, Bool, true, false, cond, List, [], ◌∷◌, ◌++◌, length, take, drop, eqb}
+use Rattle.std.specs.Prelude.{ℕ, ◌+◌, ◌-◌, ◌≤◌, ◌≡◌, Bool, true, false, cond, List, [], ◌∷◌, ◌++◌, length, take, drop, eqb, Option, Some, None, ℤ}
 use Rattle.std.proofs.Math.Decide.{ℕ_discrete, dec_le}
 use Rattle.kit.specs.Answer.{All, pick, ×_dec, all_dec, same}
 use Rattle.forms.specs.Form.{Form, Digit, numeral, signed, pointed, dot}
-use Rattle.forms.specs.declared.Field.{Field}
-use Rattle.forms.specs.declared.Field.TheVariants.{Number, Bad}
 
 -- what is left after the blanks in front
 abbrev pub skip : List ℕ → List ℕ
@@ -29,18 +27,18 @@ formed? fm whole part l =
     (×_dec (ℕ_discrete (length part) fm.after)
     (same l (whole ++ pointed part))))
 
-unfoldable pub number_of : Form → Bool → List ℕ → Field
+unfoldable pub number_of : Form → Bool → List ℕ → Option ℤ
 number_of fm minus l =
-    pick (formed? fm (whole_of fm l) (part_of fm l) l) (Number (signed minus (numeral 0 (whole_of fm l ++ part_of fm l)))) Bad
+    pick (formed? fm (whole_of fm l) (part_of fm l) l) (Some (signed minus (numeral 0 (whole_of fm l ++ part_of fm l)))) None
 
 -- what is left after the blanks: a minus or none, and digits
-abbrev pub after_blanks : Form → List ℕ → Field
+abbrev pub after_blanks : Form → List ℕ → Option ℤ
 after_blanks fm [] = number_of fm false []
 after_blanks fm (b ∷ bs) = cond (eqb b 45) (number_of fm true bs) (number_of fm false (b ∷ bs))
 
-unfoldable pub read_field : Form → List ℕ → Field
+unfoldable pub read_field : Form → List ℕ → Option ℤ
 read_field fm f = after_blanks fm (skip f)
 
-abbrev pub is_number : Field → Bool
-is_number (Number z) = true
-is_number Bad = false
+abbrev pub is_number : Option ℤ → Bool
+is_number (Some z) = true
+is_number None = false

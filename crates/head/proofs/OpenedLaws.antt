@@ -23,7 +23,9 @@ use Rattle.mapset.specs.Header.{count, axis, Said, a_count, a_axis, starred}
 use Rattle.layout.specs.Text.{pad}
 use Rattle.layout.specs.Layout.{Slots, Lines, Mode, plain, mode}
 use Rattle.read_lines.specs.Leads.{LeadsRow, after_all}
-use Rattle.reading.specs.Feed.{Fault, fault, Why, why, on_line, Feed, over, bad, row, split, feed}
+use Rattle.reading.specs.declared.Fault.{Fault}
+use Rattle.reading.specs.declared.Why.{Why}
+use Rattle.reading.specs.Feed.{answer_of, why, on_line, Feed, over, bad, row, split, feed}
 use Rattle.reading.proofs.LineLaws.{Sized, sized}
 use Rattle.reading.specs.Maps.{short, run}
 use Rattle.reading.specs.declared.Place.TheVariants.{Between}
@@ -32,16 +34,12 @@ use Rattle.mapset.specs.Said.{number_in, axis_in}
 use Rattle.reading.proofs.SlotLaws.{fit_none, complete_at}
 use Rattle.reading.specs.Read.{nothing_yet, version_of, begin, read}
 use Rattle.reading.proofs.HeadLaws.{Ends, fine_step}
-use Rattle.head_state.specs.Got.{slots_of, texts_of, five, Went, went, ended, gone, told_next, turned, stepped}
+use Rattle.head_state.specs.Got.{slots_of, texts_of, five, Went, went, ended, gone, turned, stepped}
 use Rattle.head_step.specs.Step.{Holds, after, Steps}
-use Rattle.head.specs.Opened.{HeaderFits, Sound, opened, Keeps, Goes, Stops, Passes, onward, beside, ReadsHeader}
+use Rattle.head.specs.Opened.{HeaderFits, opened, Keeps, Goes, Stops, handed, Leads, ReadsHeader}
 use Rattle.head_state.specs.declared.State.{State}
-use Rattle.head_state.specs.declared.Next.{Next}
-use Rattle.head_state.specs.declared.Stepped.{Stepped}
-use Rattle.head_state.specs.declared.Next.TheVariants as Next
 use Rattle.head.specs.declared.HeaderRead.{HeaderRead}
-use Rattle.head.specs.declared.Headed.{Headed}
-use Rattle.head.specs.declared.Headed.TheVariants.{Refused, Accepted}
+use Rattle.std.specs.Prelude.{Result, Ok, Err, Some, None, Option as Held, MatchResult, IsErrAnd}
 
 -- ---- a row by what the step tells
 
@@ -107,17 +105,13 @@ header_fits c got ds k r g x =
 -- ---- no row
 
 module _ (t : List ℕ) (c : Version) (s : State) (bs : List ℕ) (at n : ℕ) where
-  pub stops_over : (m l : ℕ) → feed (suc n) (split (drop at t)) ≡ over (suc m) → l ≡ after_all m → Stops t c s bs at n s bs (Refused 10 l 0)
+  pub stops_over : (m : ℕ) → feed (suc n) (split (drop at t)) ≡ over (suc m) → Stops t c s bs at n bs (Err (why 10 (after_all m) 0))
   unfolding opened heading short
-  stops_over m l e f =
-      record {
-        same = ap (heading c (mode s.aux) s.exponent (slots_of s) (lines_in s.descriptions bs)) e ∙ ap (λ (x : ℕ). refused (why 10 x 0)) (sym f);
-        sound = tt;
-      }
+  stops_over m e = record { same = ap (heading c (mode s.aux) s.exponent (slots_of s) (lines_in s.descriptions bs)) e; sound = tt }
 
-  pub stops_bad : (k l y : ℕ) → feed (suc n) (split (drop at t)) ≡ bad (why k l y) → Stops t c s bs at n s bs (Refused k l y)
+  pub stops_bad : (w : Why) → feed (suc n) (split (drop at t)) ≡ bad w → Stops t c s bs at n bs (Err w)
   unfolding opened heading
-  stops_bad k l y e = record { same = ap (heading c (mode s.aux) s.exponent (slots_of s) (lines_in s.descriptions bs)) e; sound = tt }
+  stops_bad w e = record { same = ap (heading c (mode s.aux) s.exponent (slots_of s) (lines_in s.descriptions bs)) e; sound = tt }
 
 -- ---- the three ways of a row
 
@@ -173,15 +167,15 @@ module _ (t : List ℕ) (c : Version) (s : State) (bs : List ℕ) (at n start en
         keeps = y.1;
       }
 
-  stops_no : (s' : State) (bs' : List ℕ) (k l y : ℕ) → l ≡ m + 1 → refused (fault k y) ≡ stepped s c before here → Stops t c s bs at n s' bs' (Refused k l y)
+  stops_no : (bs' : List ℕ) (f : Fault) → refused f ≡ stepped s c before here → Stops t c s bs at n bs' (Err (why f.number (m + 1) f.column))
   unfolding turned opened
-  stops_no s' bs' k l y e q =
-      let o = gone_no c (slots_of s) s.descriptions (fault k y) turn q in
+  stops_no bs' f q =
+      let o = gone_no c (slots_of s) s.descriptions f turn q in
       record {
         same =
             ap (heading c (mode s.aux) s.exponent (slots_of s) before) z.on
-            ∙ heading_no c (mode s.aux) s.exponent (slots_of s) before (suc m) here (feed (suc (suc m)) (split (drop next t))) (fault k y) o
-            ∙ ap (λ (x : ℕ). refused (why k x y)) (sym (e ∙ add-one m));
+            ∙ heading_no c (mode s.aux) s.exponent (slots_of s) before (suc m) here (feed (suc (suc m)) (split (drop next t))) f o
+            ∙ ap (λ (x : ℕ). refused (why f.number x f.column)) (sym (add-one m));
         sound = tt;
       }
 
@@ -190,10 +184,11 @@ module _ (t : List ℕ) (c : Version) (s : State) (bs : List ℕ) (at n start en
   unfolding made_texts
   texts_full x bs' e f = ap₂ full e (f ∙ sym g.holds.tidy)
 
-  stops_done : (s' : State) (bs' : List ℕ) (h : Header) (e : ℤ) → e ≡ s.exponent → ok (ended h (texts_of s')) ≡ stepped s c before here
-      → bs' ≡ after (turned s c before here) bs → Stops t c s bs at n s' bs' (Accepted h e next (m + 1))
+  stops_done : (s' : State) (bs' : List ℕ) (h : Header) → ok (ended h (texts_of s')) ≡ stepped s c before here
+      → bs' ≡ after (turned s c before here) bs → Stops t c s bs at n bs' (Ok (handed s h s' next (m + 1)))
   unfolding turned opened
-  stops_done s' bs' h e i q b =
+  stops_done s' bs' h q b =
+      let e = s.exponent in
       let o = gone_ok c (slots_of s) s.descriptions (ended h (texts_of s')) turn q in
       let w = went_done c (slots_of s) s.descriptions h (texts_of s') o.0 o.1.1 in
       let k : turn ≡ ok done = o.1.0 ∙ ap ok w.0 in
@@ -205,19 +200,17 @@ module _ (t : List ℕ) (c : Version) (s : State) (bs : List ℕ) (at n start en
       record {
         same = ap (heading c (mode s.aux) s.exponent (slots_of s) before) z.on
             ∙ heading_done c (mode s.aux) s.exponent (slots_of s) before (suc m) here (feed (suc (suc m)) (split (drop next t))) h x e k y
-            (texts_full (texts_of s') bs' w.1.1 (b ∙ ap (λ u. after u bs) k)) i
+            (texts_full (texts_of s') bs' w.1.1 (b ∙ ap (λ u. after u bs) k)) refl
             ∙ ap (λ (j : ℕ). amap (λ v. record { header = h; texts = x; maps = v.1 }) (run h Between (record { exponent = e; epochs = []; rms = 0; height = 0 }) 0 (feed (suc j) (split (drop next t))))) (sym (add-one m));
         sound = record { header = subst HeaderFits (sym y) (header_fits c (slots_of s) before (length before) here g.got f.1); within = z.within; passed = omega arith };
       }
 
-  leads : (x : Next) (s' : State) (bs' : List ℕ) (e : ℤ) → e ≡ s.exponent → told_next x s' ≡ stepped s c before here
-      → bs' ≡ after (turned s c before here) bs → Passes t c s bs at n (onward x e next (m + 1)) s' bs'
-  leads Next.More s' bs' e i q w = goes s' bs' q w
-  leads (Next.Done h) s' bs' e i q w = stops_done s' bs' h e i q w
-  leads (Next.Refused k y) s' bs' e i q w = stops_no s' bs' k (m + 1) y refl q
+  pub leads_on : (o : Held Header) (s' : State) (bs' : List ℕ) → Steps s c bs here (Ok o) s' bs' → Leads t c s bs at n next (m + 1) o s' bs'
+  leads_on None s' bs' q = goes s' bs' q.goes q.lines
+  leads_on (Some h) s' bs' q = stops_done s' bs' h q.goes q.lines
 
-  pub leads_on : (x : Stepped) (bs' : List ℕ) (e : ℤ) → e ≡ s.exponent → Steps s c bs here x bs' → Passes t c s bs at n (onward x.next e next (m + 1)) x.state bs'
-  leads_on x bs' e i q = leads x.next x.state bs' e i q.goes q.lines
+  pub leads_no : (f : Fault) (s' : State) (bs' : List ℕ) → Steps s c bs here (Err f) s' bs' → Stops t c s bs at n bs' (Err (why f.number (m + 1) f.column))
+  leads_no f s' bs' q = stops_no bs' f q.goes
 
 -- ---- the header's start and end
 
@@ -238,51 +231,46 @@ begins s bs e a x k b =
       λ c f. λ i. heading c (mode (sym a i)) (sym x i) (sym e i) (sym l i) f,
     )
 
--- a refusal has no texts
-refusal_alone : (k l c : ℕ) (x y : FullTexts) (t : List ℕ) → opened (Refused k l c) x t ≡ opened (Refused k l c) y t
-unfolding opened
-refusal_alone k l c x y t = refl
-
--- the answer that is handed back
-pub hands : (f : Answer Why MapSet) (t : List ℕ) (a : Headed) (x : Texts) (bs : List ℕ) (r : HeaderRead) → r.answer ≡ a → r.texts ≡ beside a x
-    → f ≡ opened a (full x bs) t → Sound t a → ReadsHeader f t r bs
-hands f t (Refused k l c) x bs r e g h z =
-    record {
-      same = h ∙ refusal_alone k l c (full x bs) (full r.texts bs) t ∙ (λ i. opened (sym e i) (full r.texts bs) t);
-      sound = subst (Sound t) (sym e) z;
-      blanks = g ∙ (λ i. beside (sym e i) r.texts);
-    }
-hands f t (Accepted u v w m) x bs r e g h z =
-    record {
-      same = h ∙ (λ i. opened (sym e i) (full (sym g i) bs) t);
-      sound = subst (Sound t) (sym e) z;
-      blanks = λ i. beside (sym e i) r.texts;
-    }
-
 -- ---- the text's first row
 
 module _ (t : List ℕ) where
-  pub first_over : (m l : ℕ) → feed 1 (split t) ≡ over (suc m) → l ≡ after_all m → (x : FullTexts) → read t ≡ opened (Refused 10 l 0) x t
+  pub first_over : (m : ℕ) → feed 1 (split t) ≡ over (suc m) → (bs : List ℕ) → ReadsHeader (read t) t (Err (why 10 (after_all m) 0)) bs
   unfolding read begin short opened
-  first_over m l e f x = ap begin e ∙ ap (λ (y : ℕ). refused (why 10 y 0)) (sym f)
+  first_over m e bs = record { same = ap begin e; sound = tt }
 
-  pub first_bad : (k l y : ℕ) → feed 1 (split t) ≡ bad (why k l y) → (x : FullTexts) → read t ≡ opened (Refused k l y) x t
+  pub first_bad : (w : Why) → feed 1 (split t) ≡ bad w → (bs : List ℕ) → ReadsHeader (read t) t (Err w) bs
   unfolding read begin opened
-  first_bad k l y e x = ap begin e
+  first_bad w e bs = record { same = ap begin e; sound = tt }
 
   module _ (start end next m : ℕ) (z : LeadsRow t 0 0 start end next m) where
     first_row : read t ≡ begin (row (suc m) (pad (take (end - start) (drop start t))) (feed (suc (suc m)) (split (drop next t))))
     unfolding read
     first_row = ap begin z.on
 
-    pub first_no : (k y : ℕ) → refused (fault k y) ≡ version_of (pad (take (end - start) (drop start t))) → (x : FullTexts) → read t ≡ opened (Refused k (m + 1) y) x t
-    unfolding begin bind on_line opened
-    first_no k y e x = first_row ∙ (rw (← e) refl) ∙ ap (λ (l : ℕ). refused (why k l y)) (sym (add-one m))
+    module _ (x : Result Version Fault) (q : answer_of x ≡ version_of (pad (take (end - start) (drop start t)))) where
+      pub first_no : (f : Fault) → x ≡ Err f → (bs : List ℕ) → ReadsHeader (read t) t (Err (why f.number (m + 1) f.column)) bs
+      unfolding begin bind on_line opened
+      first_no f o bs =
+          let e : refused f ≡ version_of (pad (take (end - start) (drop start t))) = ap answer_of (sym o) ∙ q in
+          record { same = first_row ∙ (rw (← e) refl) ∙ ap (λ (l : ℕ). refused (why f.number l f.column)) (sym (add-one m)); sound = tt }
 
-    pub first_versioned : (c : Version) → ok c ≡ version_of (pad (take (end - start) (drop start t))) → read t ≡ heading c plain (negsuc 0) nothing_yet [] (feed (suc (m + 1)) (split (drop next t)))
-    unfolding begin bind on_line
-    first_versioned c e = first_row ∙ (rw (← e) refl) ∙ ap (λ (l : ℕ). heading c plain (negsuc 0) nothing_yet [] (feed (suc l) (split (drop next t)))) (sym (add-one m))
+      pub first_versioned : (c : Version) → x ≡ Ok c → read t ≡ heading c plain (negsuc 0) nothing_yet [] (feed (suc (m + 1)) (split (drop next t)))
+      unfolding begin bind on_line
+      first_versioned c o =
+          let e : ok c ≡ version_of (pad (take (end - start) (drop start t))) = ap answer_of (sym o) ∙ q in
+          first_row ∙ (rw (← e) refl) ∙ ap (λ (l : ℕ). heading c plain (negsuc 0) nothing_yet [] (feed (suc l) (split (drop next t)))) (sym (add-one m))
 
 -- what is read from later on is read from the start
-pub continues : (f g : Answer Why MapSet) (t : List ℕ) (r : HeaderRead) (bs : List ℕ) → f ≡ g → ReadsHeader g t r bs → ReadsHeader f t r bs
-continues f g t r bs e o = record { same = e ∙ o.same; sound = o.sound; blanks = o.blanks }
+pub continues : (f g : Answer Why MapSet) (t : List ℕ) (r : Result HeaderRead Why) (bs : List ℕ) → f ≡ g → ReadsHeader g t r bs → ReadsHeader f t r bs
+continues f g t r bs e o = record { same = e ∙ o.same; sound = o.sound }
+
+-- ---- what `map_err` handed on
+pub mapped_ok : {T E D : Type 0} (P : E → D → Type 0) {x : T} (s : Result T E) (r : Result T D) → MatchResult s (λ y. r ≡ Ok y) (λ e. IsErrAnd r (P e)) → r ≡ Ok x → s ≡ Ok x
+mapped_ok P (Ok y) r h e = cc
+mapped_ok P (Err f) (Ok y) h e = absurd h
+mapped_ok P (Err f) (Err w) h e = cc
+
+pub mapped_err : {T E D : Type 0} (P : E → D → Type 0) {w : D} (s : Result T E) (r : Result T D) → MatchResult s (λ y. r ≡ Ok y) (λ e. IsErrAnd r (P e)) → r ≡ Err w → (f : E) × (s ≡ Err f) × P f w
+mapped_err P (Ok y) r h e = cc
+mapped_err P (Err f) (Ok y) h e = absurd h
+mapped_err P (Err f) (Err w) h e = (f, refl, subst (P f) (cc) h)

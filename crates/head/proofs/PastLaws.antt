@@ -1,12 +1,11 @@
 -- A COMMENT, and a row of an aux block that stays open, leave the header as it is.
-use mathlib.Core.Path.{◌≡◌, refl, sym, ap, ◌∙◌}
+use mathlib.Core.Path.{◌≡◌, refl, sym, ap, subst, ◌∙◌}
 use mathlib.Core.Bool.{Bool, true, false, not}
 use mathlib.Core.List.{List, []}
 use Prim.Native.Nat.{ℕ, suc, ◌+◌, ◌-◌, ◌≤◌}
 use native.Mathlib.Omega.{arith}
 use native.Mathlib.Numerals.{add-one}
 use lib.ListN.{length, get_or, take, drop}
-use lib.IntN.{ℤ}
 use Rattle.kit.specs.Answer.{bind, get, same}
 use Rattle.kit.proofs.AnswerLaws.{pick_no}
 use Rattle.mapset.specs.declared.Version.{Version}
@@ -23,14 +22,15 @@ use Rattle.reading.specs.Head.{at_head, head_step, heading}
 use Rattle.read_lines.specs.Leads.{LeadsRow, after_all}
 use Rattle.head_state.specs.Got.{slots_of}
 use Rattle.head_state.specs.declared.State.{State}
-use Rattle.head_state.specs.declared.Stepped.{Stepped}
 use Rattle.head_step.specs.Step.{Steps}
-use Rattle.head.specs.Opened.{Keeps, Stops, Passes, onward}
+use Rattle.head.specs.Opened.{Keeps, Stops, Leads}
 use Rattle.head.specs.Past.{Leaves, Past}
-use Rattle.head.specs.declared.Headed.TheVariants.{Refused}
-use Rattle.head.specs.declared.Onward.{Onward}
-use Rattle.head.specs.declared.Onward.TheVariants as Onward
-use Rattle.head.proofs.OpenedLaws.{heading_more, stops_over, stops_bad, leads_on}
+use Rattle.head.proofs.OpenedLaws.{heading_more, stops_over, stops_bad, leads_on, leads_no}
+use Rattle.std.specs.Prelude.{Result, Ok, Err, Some, None, Option as Held}
+use Rattle.reading.specs.declared.Fault.{Fault}
+use Rattle.reading.specs.declared.Why.{Why}
+use Rattle.mapset.specs.declared.Header.{Header}
+use Rattle.head.specs.declared.HeaderRead.{HeaderRead}
 
 module _ (line : List ℕ) (fits : length line ≤ 80) (a : Bool) where
   pub leaves_aux : a ≡ true → (b : Bool) → b ≡ holds line 60 (name aux_end) → Leaves (not b) a (pad line)
@@ -73,8 +73,11 @@ module _ (t : List ℕ) (a : Bool) (from passed at n : ℕ) (p : Past t a from p
 
 -- what comes of a record that stands behind remarks
 module _ (t : List ℕ) (c : Version) (s : State) (bs : List ℕ) (from passed at n : ℕ) (p : Past t s.aux from passed at n) where
-  carried : (o : Onward) (s' : State) (bs' : List ℕ) → Passes t c s bs at n o s' bs' → Passes t c s bs from passed o s' bs'
-  carried (Onward.On x y) s' bs' g =
+  stopped : (bs' : List ℕ) (a : Result HeaderRead Why) → Stops t c s bs at n bs' a → Stops t c s bs from passed bs' a
+  stopped bs' a g = record { same = p.same c s.exponent (slots_of s) (lines_in s.descriptions bs) ∙ g.same; sound = g.sound }
+
+  carried : (x y : ℕ) (o : Held Header) (s' : State) (bs' : List ℕ) → Leads t c s bs at n x y o s' bs' → Leads t c s bs from passed x y o s' bs'
+  carried x y None s' bs' g =
       let b = p.after in
       let d = g.ahead in
       record {
@@ -84,14 +87,21 @@ module _ (t : List ℕ) (c : Version) (s : State) (bs : List ℕ) (from passed a
         passed = g.passed;
         keeps = g.keeps;
       }
-  carried (Onward.Stop h) s' bs' g = record { same = p.same c s.exponent (slots_of s) (lines_in s.descriptions bs) ∙ g.same; sound = g.sound }
+  carried x y (Some h) s' bs' g = stopped bs' _ g
 
-  pub past_over : (m l : ℕ) → feed (suc n) (split (drop at t)) ≡ over (suc m) → l ≡ after_all m → Stops t c s bs from passed s bs (Refused 10 l 0)
-  past_over m l e f = carried (Onward.Stop (Refused 10 l 0)) s bs (stops_over t c s bs at n m l e f)
+  pub past_over : (m : ℕ) → feed (suc n) (split (drop at t)) ≡ over (suc m) → Stops t c s bs from passed bs (Err (why 10 (after_all m) 0))
+  past_over m e = stopped bs _ (stops_over t c s bs at n m e)
 
-  pub past_bad : (k l y : ℕ) → feed (suc n) (split (drop at t)) ≡ bad (why k l y) → Stops t c s bs from passed s bs (Refused k l y)
-  past_bad k l y e = carried (Onward.Stop (Refused k l y)) s bs (stops_bad t c s bs at n k l y e)
+  pub past_bad : (w : Why) → feed (suc n) (split (drop at t)) ≡ bad w → Stops t c s bs from passed bs (Err w)
+  past_bad w e = stopped bs _ (stops_bad t c s bs at n w e)
 
-  pub past_on : (start end next m : ℕ) → LeadsRow t at n start end next m → Keeps s bs → (x : Stepped) (bs' : List ℕ) (e : ℤ) → e ≡ s.exponent
-      → Steps s c bs (pad (take (end - start) (drop start t))) x bs' → Passes t c s bs from passed (onward x.next e next (m + 1)) x.state bs'
-  past_on start end next m z g x bs' e i q = carried (onward x.next e next (m + 1)) x.state bs' (leads_on t c s bs at n start end next m z g x bs' e i q)
+  module _ (start end next m : ℕ) (z : LeadsRow t at n start end next m) (g : Keeps s bs) (s' : State) (bs' : List ℕ) where
+    module _ (x : Result (Held Header) Fault) (q : Steps s c bs (pad (take (end - start) (drop start t))) x s' bs') where
+      its : (y : Result (Held Header) Fault) → x ≡ y → Steps s c bs (pad (take (end - start) (drop start t))) y s' bs'
+      its y e = subst (λ (x : Result (Held Header) Fault). Steps s c bs (pad (take (end - start) (drop start t))) x s' bs') e q
+
+      pub past_on : (o : Held Header) → x ≡ Ok o → Leads t c s bs from passed next (m + 1) o s' bs'
+      past_on o e = carried next (m + 1) o s' bs' (leads_on t c s bs at n start end next m z g o s' bs' (its (Ok o) e))
+
+      pub past_no : (f : Fault) → x ≡ Err f → Stops t c s bs from passed bs' (Err (why f.number (m + 1) f.column))
+      past_no f e = stopped bs' _ (leads_no t c s bs at n start end next m z g f s' bs' (its (Err f) e))

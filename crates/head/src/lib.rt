@@ -6,24 +6,21 @@ use mapset::{Header, Texts};
 pub mod opening;
 mod remarks;
 
-// Refused with 01's number, a line and a column; or accepted: the header record, the exponent in force, where the next line starts,
-// and how many lines were passed.
+// A record of the header that is passed: where the next line starts, after how many lines; and the header record, where it was END
+// OF HEADER.
 #[derive(Clone, Copy)]
-pub enum Headed {
-    Refused(u64, u64, u64),
-    Accepted(Header, i32, usize, u64),
+pub struct Passed {
+    pub next: usize,
+    pub lines: u64,
+    pub header: Option<Header>,
 }
 
-// On from the line that starts there, after so many lines; or the end of the header's reading.
-#[derive(Clone, Copy)]
-pub enum Onward {
-    On(usize, u64),
-    Stop(Headed),
-}
-
-// The texts are blanks on a refusal.
+// An accepted header: its record and its texts, the exponent in force, where the next line starts, and how many lines were passed.
 #[derive(Clone, Copy)]
 pub struct HeaderRead {
-    pub answer: Headed,
+    pub header: Header,
     pub texts: Texts,
+    pub exponent: i32,
+    pub at: usize,
+    pub passed: u64,
 }

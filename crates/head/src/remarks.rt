@@ -31,20 +31,13 @@ pub fn next_record(aux: bool, text: &[u8], from: usize, passed: u64) -> NextRow
     let mut n = passed;
     loop {
         let r = read_lines::row_from(text, at, n);
-        match r {
-            NextRow::Over(_) => {
-                return r;
-            }
-            NextRow::Bad(_, _, _) => {
-                return r;
-            }
-            NextRow::Row(start, end, next, m) => {
-                if !is_remark(aux, &text[start..end]) {
-                    return r;
-                }
-                at = next;
-                n = m + 1;
-            }
+        let NextRow::Row(start, end, next, m) = r else {
+            return r;
+        };
+        if !is_remark(aux, &text[start..end]) {
+            return r;
         }
+        at = next;
+        n = m + 1;
     }
 }

@@ -1,7 +1,9 @@
+use Rattle.std.specs.Prelude.{Option, Some, None, Result, Ok, Err}
 -- What a record says, by the fields that the code reads.
 use mathlib.Core.Path.{◌≡◌, refl, sym, ap, ◌∙◌}
 use mathlib.Core.Bool.{true, false}
 use mathlib.Core.List.{List, [], ◌∷◌}
+use Rattle.std.specs.Prelude.{Ok, Err}
 use Prim.Native.Nat.{ℕ, ◌≤◌, ◌<◌}
 use native.Mathlib.Omega.{arith}
 use lib.ListN.{length, take}
@@ -14,38 +16,31 @@ use Rattle.kit.specs.Range.{natural?}
 use Rattle.kit.specs.Truth.{truth}
 use Rattle.kit.proofs.TruthLaws.{fails, tells}
 use Rattle.kit.proofs.Parts.{lt_true, lt_false}
-use Rattle.calendar.specs.declared.Taken.{Taken}
-use Rattle.calendar.specs.declared.Taken.TheVariants as Taken
 use Rattle.forms.specs.Form as form
 use Rattle.forms.specs.Read.{read_field}
 use Rattle.forms.specs.Columns.{columns}
 use Rattle.forms.specs.Rows.{three_at, number_or}
-use Rattle.forms.specs.declared.Field.{Field}
-use Rattle.forms.specs.declared.Field.TheVariants.{Number, Bad}
-use Rattle.forms.specs.declared.Found.{Found}
-use Rattle.forms.specs.declared.Found.TheVariants.{At, Nowhere}
-use Rattle.forms.specs.declared.Triple.{Triple}
-use Rattle.forms.specs.declared.Triple.TheVariants.{Three, Amiss}
 use Rattle.mapset.specs.Grid.{Line}
 use Rattle.mapset.specs.declared.Axis.{Axis}
-use Rattle.mapset.specs.declared.axes.Judged.TheVariants as J
+use Rattle.mapset.specs.declared.axes.Misfit.TheVariants.{First, Last, Step, Together}
 use Rattle.mapset.specs.Decisions.{end?, step?, together?}
 use Rattle.mapset.specs.Judged.{judged}
 use Rattle.mapset.specs.Header.{count, tenths, epoch as an_epoch, axis, program, mapping, observables, system as a_system, Said, number as number_said, along, words, counts}
 use Rattle.layout.specs.Text.{pad}
-use Rattle.layout.specs.Records.{I, F, X, A}
+use Rattle.layout.specs.Records.{F, X}
 use Rattle.layout.specs.Labels.{exponent, epoch, header_end, items}
 use Rattle.layout.specs.Layout.{Date}
-use Rattle.reading.specs.Feed.{Fault, fault}
+use Rattle.reading.specs.declared.Fault.{Fault}
+use Rattle.reading.specs.Feed.{fault, answer_of}
 use Rattle.reading.specs.Fields.{number, scan, fields, blank_to, unless}
 use Rattle.reading.specs.Maps.{date, on_date}
 use Rattle.mapset.specs.Said.{axis_of}
 use Rattle.reading.specs.Head.{meant}
 use Rattle.reading.proofs.ScanLaws.{read_is}
-use Rattle.maps_records.specs.Records.{one_of}
-use Rattle.head_said.specs.Records.{tenths_in, version_in, system_in, axis_in, entry, told_heard, first_of, two_in, counts_after, ranged_in, judged_as}
-use Rattle.head_said.specs.declared.Heard.{Heard}
-use Rattle.head_said.specs.declared.Heard.TheVariants as Heard
+use Rattle.maps_records.specs.Records.{told_one, one_of}
+use Rattle.head_said.specs.Records.{tenths_in, version_in, system_in, axis_in, entry, told_heard, two_in, counts_after, in_range, ranged_in, judged_as}
+use Rattle.std.specs.Prelude.{Result, Ok, Err}
+use Rattle.head_said.specs.declared.Value.{Value}
 
 -- ---- the records of numbers
 
@@ -58,25 +53,32 @@ module _ (line : List ℕ) (fits : length line ≤ 80) where
   unfolding version_in blank_to
   version_is = read_is line fits (F 8 ∷ X 12 ∷ []) (omega arith)
 
--- three numbers between columns that must be blank
-abbrev three_of : Triple → Found → Answer Fault (ℤ × ℤ × ℤ)
-three_of (Amiss c) g = refused (fault 6 c)
-three_of (Three x y z) g = unless g (ok (x, y, z))
+-- columns that are not blank refuse the record
+pub blank_no : {A : Type 0} (o : Option ℕ) (f : Fault) (r : Result (Unit {0}) Fault) (x : Answer Fault A) → answer_of r ≡ unless o (ok tt) → r ≡ Err f → refused f ≡ unless o x
+blank_no (Some c) f (Ok v) x h e = cc
+blank_no (Some c) f (Err g) x h e = cc
+blank_no None f (Ok v) x h e = cc
+blank_no None f (Err g) x h e = cc
 
-abbrev three_in : Found → Triple → Found → Answer Fault (ℤ × ℤ × ℤ)
+-- three numbers between columns that must be blank
+abbrev three_of : Result (ℤ × ℤ × ℤ) ℕ → Option ℕ → Answer Fault (ℤ × ℤ × ℤ)
+three_of (Err c) g = refused (fault 6 c)
+three_of (Ok v) g = unless g (ok (v.0, v.1, v.2))
+
+abbrev three_in : Option ℕ → Result (ℤ × ℤ × ℤ) ℕ → Option ℕ → Answer Fault (ℤ × ℤ × ℤ)
 three_in f t g = unless f (three_of t g)
 
-three_by : (f : Found) (x y z : Field) (g : Found)
+three_by : (f : Option ℕ) (x y z : Option ℤ) (g : Option ℕ)
     → amap (λ (v : ℤ × (ℤ × (ℤ × Unit {0}))). (v.0, v.1.0, v.1.1.0))
     (unless f (number x 3 (λ a. amap (λ vs. (a, vs)) (number y 9 (λ b. amap (λ vs. (b, vs)) (number z 15 (λ c. amap (λ vs. (c, vs)) (unless g (ok tt)))))))))
-    ≡ three_in f (number_or x (Amiss 3) (λ a. number_or y (Amiss 9) (λ b. number_or z (Amiss 15) (λ c. Three a b c)))) g
+    ≡ three_in f (number_or x (Err 3) (λ a. number_or y (Err 9) (λ b. number_or z (Err 15) (λ c. Ok (a, b, c))))) g
 unfolding amap number
-three_by (At c) x y z g = refl
-three_by Nowhere Bad y z g = refl
-three_by Nowhere (Number a) Bad z g = refl
-three_by Nowhere (Number a) (Number b) Bad g = refl
-three_by Nowhere (Number a) (Number b) (Number d) (At c) = refl
-three_by Nowhere (Number a) (Number b) (Number d) Nowhere = refl
+three_by (Some c) x y z g = refl
+three_by None None y z g = refl
+three_by None (Some a) None z g = refl
+three_by None (Some a) (Some b) None g = refl
+three_by None (Some a) (Some b) (Some d) (Some c) = refl
+three_by None (Some a) (Some b) (Some d) None = refl
 
 module _ (line : List ℕ) (fits : length line ≤ 80) where
   pub axis_is : axis_in (pad line) ≡ three_in (blank_to line 0 2) (three_at form.F1 line 2) (blank_to line 20 60)
@@ -85,16 +87,16 @@ module _ (line : List ℕ) (fits : length line ≤ 80) where
       ap (amap (λ v. (v.0, v.1.0, v.1.1.0))) (read_is line fits (X 2 ∷ F 6 ∷ F 6 ∷ F 6 ∷ X 40 ∷ []) (omega arith))
       ∙ three_by (blank_to line 0 2) (read_field form.F1 (columns line 2 6)) (read_field form.F1 (columns line 8 6)) (read_field form.F1 (columns line 14 6)) (blank_to line 20 60)
 
-two_by : (f : Found) (t : List ℕ) (x y : Field) (g : Found)
+two_by : (f : Option ℕ) (t : List ℕ) (x y : Option ℤ) (g : Option ℕ)
     → amap (λ (v : List ℕ × (ℤ × (ℤ × Unit {0}))). (v.1.0, v.1.1.0))
     (unless f (amap (λ vs. (t, vs)) (number x 7 (λ a. amap (λ vs. (a, vs)) (number y 13 (λ b. amap (λ vs. (b, vs)) (unless g (ok tt))))))))
     ≡ unless f (two_in x y g)
 unfolding amap number
-two_by (At c) t x y g = refl
-two_by Nowhere t Bad y g = refl
-two_by Nowhere t (Number a) Bad g = refl
-two_by Nowhere t (Number a) (Number b) (At c) = refl
-two_by Nowhere t (Number a) (Number b) Nowhere = refl
+two_by (Some c) t x y g = refl
+two_by None t None y g = refl
+two_by None t (Some a) None g = refl
+two_by None t (Some a) (Some b) (Some c) = refl
+two_by None t (Some a) (Some b) None = refl
 
 module _ (line : List ℕ) (fits : length line ≤ 80) where
   pub system_is : system_in (pad line) ≡ unless (blank_to line 0 5) (counts_after line)
@@ -125,17 +127,26 @@ unfolding bind amap
 bind_amap f g (ok a) = refl
 bind_amap f g (refused w) = refl
 
+module _ (low high : ℕ) (x : Result ℤ Fault) (y : Answer Fault (ℤ × Unit {0})) (e : told_one x ≡ y) where
+  pub ranged_on : (z : ℤ) → x ≡ Ok z → in_range low high z ≡ ranged_in low high y
+  unfolding ranged_in bind
+  ranged_on z o = ap (λ (r : Result ℤ Fault). ranged_in low high (told_one r)) (sym o) ∙ ap (ranged_in low high) e
+
+  pub ranged_no : (f : Fault) → x ≡ Err f → refused f ≡ ranged_in low high y
+  unfolding ranged_in bind
+  ranged_no f o = ap (λ (r : Result ℤ Fault). ranged_in low high (told_one r)) (sym o) ∙ ap (ranged_in low high) e
+
 pub count_says : (low high : ℕ) (r : List ℕ) → ranged_in low high (fields exponent r) ≡ entry (count low high) r
-unfolding ranged_in entry meant fields
+unfolding ranged_in in_range entry meant fields
 count_says low high r = refl
 
 -- a number is told alike, whole or in tenths
-pub told_alike : (low high : ℕ) (h : Heard) → told_heard (tenths low high) h ≡ told_heard (count low high) h
-told_alike low high (Heard.Said v) = refl
-told_alike low high (Heard.Refused n c) = refl
+pub told_alike : (low high : ℕ) (h : Result Value Fault) → told_heard (tenths low high) h ≡ told_heard (count low high) h
+told_alike low high (Ok v) = refl
+told_alike low high (Err f) = refl
 
 pub tenths_says : (low high : ℕ) (r : List ℕ) → ranged_in low high (tenths_in r) ≡ entry (tenths low high) r
-unfolding ranged_in tenths_in entry meant
+unfolding ranged_in in_range tenths_in entry meant
 tenths_says low high r = refl
 
 -- what a date says
@@ -144,16 +155,16 @@ unfolding bind amap meant
 dates (refused w) = refl
 dates (ok d) = on (date d)
   where
-    on : (t : Taken) → amap number_said (on_date t ok) ≡ on_date t (λ s. ok (number_said s))
-    on (Taken.At s) = unfold on_date amap in refl
-    on (Taken.Wrong c) = unfold on_date amap in refl
+    on : (t : Result ℕ ℕ) → amap number_said (on_date t ok) ≡ on_date t (λ s. ok (number_said s))
+    on (Ok s) = unfold on_date amap in refl
+    on (Err c) = unfold on_date amap in refl
 
 pub epoch_says : (r : List ℕ) {x : Answer Fault ℕ} → x ≡ bind (fields epoch r) (λ d. on_date (date d) ok) → amap number_said x ≡ entry an_epoch r
 unfolding entry fields
 epoch_says r e = ap (amap number_said) e ∙ dates (fields epoch r)
 
 judged_by : {P Q R S : Type 0} (p : Dec P) (q : Dec Q) (r : Dec R) (s : Dec S) (a : Axis)
-    → judged_as (pick p (pick q (pick r (pick s J.Fine J.Together) J.Step) J.Last) J.First) a ≡ need p (fault 7 3) (need q (fault 7 9) (need r (fault 7 15) (need s (fault 7 0) (ok (along a)))))
+    → judged_as (pick p (pick q (pick r (pick s (Ok tt) (Err Together)) (Err Step)) (Err Last)) (Err First)) a ≡ need p (fault 7 3) (need q (fault 7 9) (need r (fault 7 15) (need s (fault 7 0) (ok (along a)))))
 unfolding pick need
 judged_by (no p) q r s a = refl
 judged_by (yes p) (no q) r s a = refl
@@ -192,23 +203,23 @@ pub observables_says : (line : List ℕ) → length line ≤ 80 → entry observ
 unfolding entry meant bind amap
 observables_says line fits = ap (λ x. bind x (meant observables)) (read_is line fits (items observables) (omega arith))
 
-mapping_by : (f : Found) (t : List ℕ) (g : Found) → bind (unless f (amap (λ vs. (t, vs)) (unless g (ok tt)))) (meant mapping) ≡ unless (first_of f g) (ok (words (t ∷ [])))
+mapping_by : (f : Option ℕ) (t : List ℕ) (g : Option ℕ) → bind (unless f (amap (λ vs. (t, vs)) (unless g (ok tt)))) (meant mapping) ≡ unless f (unless g (ok (words (t ∷ []))))
 unfolding bind amap meant
-mapping_by (At c) t g = refl
-mapping_by Nowhere t (At c) = refl
-mapping_by Nowhere t Nowhere = refl
+mapping_by (Some c) t g = refl
+mapping_by None t (Some c) = refl
+mapping_by None t None = refl
 
-pub mapping_says : (line : List ℕ) → length line ≤ 80 → unless (first_of (blank_to line 0 2) (blank_to line 6 60)) (ok (words (columns line 2 4 ∷ []))) ≡ entry mapping (pad line)
+pub mapping_says : (line : List ℕ) → length line ≤ 80 → unless (blank_to line 0 2) (unless (blank_to line 6 60) (ok (words (columns line 2 4 ∷ [])))) ≡ entry mapping (pad line)
 unfolding entry blank_to
 mapping_says line fits =
     sym (ap (λ x. bind x (meant mapping)) (read_is line fits (items mapping) (omega arith)) ∙ mapping_by (blank_to line 0 2) (columns line 2 4) (blank_to line 6 60))
 
 -- ---- END OF HEADER
 
-blank_by : {A : Type 0} (f : Found) (x : Answer Fault A) → bind (unless {A = Unit {0}} f (ok tt)) (λ v. x) ≡ unless f x
+blank_by : {A : Type 0} (f : Option ℕ) (x : Answer Fault A) → bind (unless {A = Unit {0}} f (ok tt)) (λ v. x) ≡ unless f x
 unfolding bind
-blank_by (At c) x = refl
-blank_by Nowhere x = refl
+blank_by (Some c) x = refl
+blank_by None x = refl
 
 pub blank_says : {A : Type 0} (line : List ℕ) (x : Answer Fault A) → length line ≤ 80 → bind (fields header_end (pad line)) (λ v. x) ≡ unless (blank_to line 0 60) x
 unfolding fields blank_to

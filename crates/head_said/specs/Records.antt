@@ -1,39 +1,27 @@
 -- A record's columns 1 to 60 as the code hands them on, and what a record says.
-use Rattle.std.specs.Prelude.{List, [], ◌∷◌, ℕ, take, ℤ, pos, nat_abs}
+use Rattle.std.specs.Prelude.{List, [], ◌∷◌, ℕ, take, ℤ, nat_abs, Option, Result, Ok, Err}
 use Rattle.kit.specs.Answer.{Answer, ok, refused, need, bind, amap}
 use Rattle.kit.specs.Range.{natural?}
 use Rattle.forms.specs.Form as form
 use Rattle.forms.specs.Read.{read_field}
 use Rattle.forms.specs.Columns.{columns}
-use Rattle.forms.specs.declared.Field.{Field}
-use Rattle.forms.specs.declared.Found.{Found}
-use Rattle.forms.specs.declared.Found.TheVariants.{At, Nowhere}
 use Rattle.mapset.specs.declared.Axis.{Axis}
-use Rattle.mapset.specs.declared.axes.Judged.{Judged}
-use Rattle.mapset.specs.declared.axes.Judged.TheVariants as J
+use Rattle.mapset.specs.declared.axes.Misfit.{Misfit}
+use Rattle.mapset.specs.declared.axes.Misfit.TheVariants.{First, Last, Step, Together}
 use Rattle.mapset.specs.Header.{Content, count, tenths, epoch, axis, program, mapping, observables, system as a_system, Said, number, along, words, counts}
 use Rattle.layout.specs.Records.{F, X}
 use Rattle.layout.specs.Labels.{system, items}
-use Rattle.reading.specs.Feed.{Fault, fault}
+use Rattle.reading.specs.declared.Fault.{Fault}
+use Rattle.reading.specs.Feed.{fault}
 use Rattle.reading.specs.Fields.{number as on_number, scan, fields, blank_to, unless}
-use Rattle.mapset.specs.Said.{axis_of}
 use Rattle.reading.specs.Head.{meant}
 use Rattle.head_said.specs.declared.Value.{Value}
-use Rattle.head_said.specs.declared.Two.{Two}
-use Rattle.head_said.specs.declared.Two.TheVariants as Two
-use Rattle.head_said.specs.declared.Three.{Three}
-use Rattle.head_said.specs.declared.Three.TheVariants as Three
-use Rattle.head_said.specs.declared.Heard.{Heard}
-use Rattle.head_said.specs.declared.Heard.TheVariants as Heard
 
 -- ---- the numbers of a record; ill-formed is 6
-abbrev pub told_two : Two → Answer Fault (ℤ × ℤ)
-told_two (Two.Numbers x y) = ok (x, y)
-told_two (Two.Wrong c) = refused (fault 6 c)
 
-abbrev pub told_three : Three → Answer Fault (ℤ × ℤ × ℤ)
-told_three (Three.Numbers x y z) = ok (x, y, z)
-told_three (Three.Wrong c) = refused (fault 6 c)
+abbrev pub told_axis : Result Axis Fault → Answer Fault (ℤ × ℤ × ℤ)
+told_axis (Ok a) = ok (a.first, a.last, a.step)
+told_axis (Err f) = refused f
 
 -- F8.1,52X
 unfoldable pub tenths_in : List ℕ → Answer Fault (ℤ × Unit {0})
@@ -68,22 +56,14 @@ says program v = words []
 says mapping v = words []
 says observables v = words []
 
-abbrev pub numbered : ℕ → ℕ → Value
-numbered n m = record { number = n; satellites = m; second = 0; axis = axis_of (pos 0) (pos 0) (pos 0) }
-
-abbrev pub told_heard : Content → Heard → Answer Fault Said
-told_heard k (Heard.Said v) = ok (says k v)
-told_heard k (Heard.Refused n c) = refused (fault n c)
+abbrev pub told_heard : Content → Result Value Fault → Answer Fault Said
+told_heard k (Ok v) = ok (says k v)
+told_heard k (Err f) = refused f
 
 -- ---- what the code looks at
 
--- the first of two
-abbrev pub first_of : Found → Found → Found
-first_of (At c) g = At c
-first_of Nowhere g = g
-
 -- two counts, and blanks
-abbrev pub two_in : Field → Field → Found → Answer Fault (ℤ × ℤ)
+abbrev pub two_in : Option ℤ → Option ℤ → Option ℕ → Answer Fault (ℤ × ℤ)
 two_in x y g = on_number x 7 (λ a. on_number y 13 (λ b. unless g (ok (a, b))))
 
 -- the counts of a system
@@ -91,13 +71,16 @@ abbrev pub counts_after : List ℕ → Answer Fault (ℤ × ℤ)
 counts_after line = two_in (read_field form.I (columns line 6 6)) (read_field form.I (columns line 12 6)) (blank_to line 18 60)
 
 -- 7 where a number is out of its range
+unfoldable pub in_range : ℕ → ℕ → ℤ → Answer Fault Said
+in_range low high z = need (natural? low high z) (fault 7 1) (ok (number (nat_abs z)))
+
 unfoldable pub ranged_in : ℕ → ℕ → Answer Fault (ℤ × Unit {0}) → Answer Fault Said
-ranged_in low high x = bind x (λ v. need (natural? low high v.0) (fault 7 1) (ok (number (nat_abs v.0))))
+ranged_in low high x = bind x (λ v. in_range low high v.0)
 
 -- an axis as it is judged
-abbrev pub judged_as : Judged → Axis → Answer Fault Said
-judged_as J.First a = refused (fault 7 3)
-judged_as J.Last a = refused (fault 7 9)
-judged_as J.Step a = refused (fault 7 15)
-judged_as J.Together a = refused (fault 7 0)
-judged_as J.Fine a = ok (along a)
+abbrev pub judged_as : Result (Unit {0}) Misfit → Axis → Answer Fault Said
+judged_as (Err First) a = refused (fault 7 3)
+judged_as (Err Last) a = refused (fault 7 9)
+judged_as (Err Step) a = refused (fault 7 15)
+judged_as (Err Together) a = refused (fault 7 0)
+judged_as (Ok u) a = ok (along a)

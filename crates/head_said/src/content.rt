@@ -1,33 +1,59 @@
 // The records of a header by themselves: what their columns 1 to 60 say.
-ghost use Rattle.std.specs.Prelude.{◌≡◌, ◌≤◌, ◌<◌, length, nat_abs};
+ghost use Rattle.std.specs.Prelude.{◌≡◌, ◌≤◌, length, nat_abs};
 ghost use Rattle.kit.specs.Truth.{truth};
 ghost use Rattle.kit.specs.Range.{natural?};
 ghost use Rattle.mapset.specs.Header.{count, tenths, epoch, axis, system};
 ghost use Rattle.mapset.specs.Judged as J;
 ghost use Rattle.layout.specs.Text.{pad};
-ghost use Rattle.layout.specs.Labels.{content};
+ghost use Rattle.reading.specs.Feed.{answer_of};
 ghost use Rattle.maps_records.specs.Records.{told_one};
-ghost use Rattle.head_said.specs.Records.{told_two, told_three, told_heard, tenths_in, version_in, system_in, axis_in, entry, numbered, counts_after, ranged_in, judged_as};
-ghost use Rattle.head_said.specs.Tables.{kind_of};
+ghost use Rattle.head_said.specs.Records.{told_axis, told_heard, tenths_in, version_in, system_in, axis_in, entry, counts_after, in_range, judged_as};
+ghost use Rattle.head_said.specs.Tables.{numbers_of};
 
-use super::{Heard, Three, Two, Value};
-use forms::{Field, Found, Triple};
-use maps_records::{Dated, One};
+use super::{NOTHING, Value};
 use mapset::Axis;
-use mapset::axes::{Judged, Line};
+use mapset::axes::{Line, Misfit};
+use reading::Fault;
 
-// What the records of the header hold, by their places: 0 a whole number, 1 tenths, 2 an epoch, 3 to 5 an axis, 6 to 8 texts.
-pub const KINDS: [u8; 15] = [6, 2, 2, 0, 0, 7, 1, 8, 0, 0, 1, 0, 3, 4, 5];
+// The numbers of a record: one in a range, one in tenths in a range, an epoch, an axis.
+#[derive(Clone, Copy)]
+pub enum Numbers {
+    Count(u32, u32),
+    Tenths(u32, u32),
+    Epoch,
+    Axis(Line),
+}
 
-// The range of a number.
-const LOWS: [u32; 15] = [0, 0, 0, 0, 1, 0, 0, 0, 0, 0, 10000, 2, 0, 0, 0];
+// What a record of the header holds.
+#[derive(Clone, Copy)]
+pub enum Content {
+    Numbers(Numbers),
+    Program,
+    Mapping,
+    Observables,
+}
 
-const HIGHS: [u32; 15] = [
-    0, 0, 0, 21600, 300, 0, 900, 0, 999999, 999999, 999999, 3, 0, 0, 0,
+// What the records of the header but the systems hold, by their places.
+pub const CONTENTS: [Content; 15] = [
+    Content::Program,
+    Content::Numbers(Numbers::Epoch),
+    Content::Numbers(Numbers::Epoch),
+    Content::Numbers(Numbers::Count(0, 21600)),
+    Content::Numbers(Numbers::Count(1, 300)),
+    Content::Mapping,
+    Content::Numbers(Numbers::Tenths(0, 900)),
+    Content::Observables,
+    Content::Numbers(Numbers::Count(0, 999999)),
+    Content::Numbers(Numbers::Count(0, 999999)),
+    Content::Numbers(Numbers::Tenths(10000, 999999)),
+    Content::Numbers(Numbers::Count(2, 3)),
+    Content::Numbers(Numbers::Axis(Line::Heights)),
+    Content::Numbers(Numbers::Axis(Line::Latitudes)),
+    Content::Numbers(Numbers::Axis(Line::Longitudes)),
 ];
 
 // F8.1,52X
-fn tenths_record(line: &[u8]) -> One
+fn tenths_record(line: &[u8]) -> Result<i32, Fault>
     requires { length line.now ≤ 80 }
     ensures { told_one result ≡ tenths_in (pad line.now) }
 {
@@ -35,7 +61,7 @@ fn tenths_record(line: &[u8]) -> One
 }
 
 // The version record's columns 1 to 20: F8.1,12X
-pub fn version_record(line: &[u8]) -> One
+pub fn version_record(line: &[u8]) -> Result<i32, Fault>
     requires { length line.now ≤ 80 }
     ensures { told_one result ≡ version_in (pad line.now) }
 {
@@ -43,205 +69,168 @@ pub fn version_record(line: &[u8]) -> One
 }
 
 // 2X,3F6.1,40X
-fn axis_record(line: &[u8]) -> Three
+fn axis_record(line: &[u8]) -> Result<Axis, Fault>
     requires { length line.now ≤ 80 }
-    ensures { told_three result ≡ axis_in (pad line.now) }
+    ensures { told_axis result ≡ axis_in (pad line.now) }
 {
-    match fields::first_not_blank(line, 0, 2) {
-        Found::At(column) => Three::Wrong(column as u64),
-        Found::Nowhere => match fields::three_numbers(line, 2, 1) {
-            Triple::Amiss(column) => Three::Wrong(column as u64),
-            Triple::Three(x, y, z) => match fields::first_not_blank(line, 20, 60) {
-                Found::At(column) => Three::Wrong(column as u64),
-                Found::Nowhere => Three::Numbers(x, y, z),
-            },
-        },
-    }
+    maps_records::blank(line, 0, 2)?;
+    let (first, last, step) = match fields::three_numbers(line, 2, 1) {
+        Ok(three) => three,
+        Err(column) => {
+            return Err(Fault {
+                number: 6,
+                column: column as u64,
+            });
+        }
+    };
+    maps_records::blank(line, 20, 60)?;
+    Ok(Axis { first, last, step })
 }
 
-// The counts of a system: I6,I6,42X after its letter.
-fn counts_after(line: &[u8]) -> Two
-    ensures { told_two result ≡ counts_after line.now }
+// The counts of a system, its stations and its satellites: I6,I6,42X after its letter.
+fn counts_after(line: &[u8]) -> Result<(i32, i32), Fault>
+    ensures { answer_of result ≡ counts_after line.now }
 {
-    match fields::int_at(line, 6, 6) {
-        Field::Bad => Two::Wrong(7),
-        Field::Number(x) => match fields::int_at(line, 12, 6) {
-            Field::Bad => Two::Wrong(13),
-            Field::Number(y) => match fields::first_not_blank(line, 18, 60) {
-                Found::At(column) => Two::Wrong(column as u64),
-                Found::Nowhere => Two::Numbers(x, y),
-            },
-        },
-    }
+    let stations = fields::int_at(line, 6, 6).ok_or(Fault {
+        number: 6,
+        column: 7,
+    })?;
+    let satellites = fields::int_at(line, 12, 6).ok_or(Fault {
+        number: 6,
+        column: 13,
+    })?;
+    maps_records::blank(line, 18, 60)?;
+    Ok((stations, satellites))
 }
 
 // 5X,A1,I6,I6,42X
-pub fn system_record(line: &[u8]) -> Two
+pub fn system_record(line: &[u8]) -> Result<(i32, i32), Fault>
     requires { length line.now ≤ 80 }
-    ensures { told_two result ≡ system_in (pad line.now) }
+    ensures { answer_of result ≡ system_in (pad line.now) }
 {
-    match fields::first_not_blank(line, 0, 5) {
-        Found::At(column) => Two::Wrong(column as u64),
-        Found::Nowhere => counts_after(line),
-    }
+    maps_records::blank(line, 0, 5)?;
+    counts_after(line)
 }
 
 // Whether z is one of low to high.
 pub fn natural(z: i32, low: u32, high: u32) -> bool
     ensures { result ≡ truth (natural? low high z) }
 {
-    if kit::less(z, 0) {
+    if z < 0 {
         return false;
     }
-    let n = kit::size(z);
-    if n < low as u64 {
+    let n = z.unsigned_abs();
+    if n < low {
         return false;
     }
-    n <= high as u64
+    n <= high
 }
 
-// A natural as such: at most 31 bits are left of it.
+// A natural as such.
 pub fn unsigned(z: i32) -> u32
     ensures { result ≡ nat_abs z }
 {
-    kit::size(z) as u32
+    z.unsigned_abs()
 }
 
-fn of_numbers(number: u32, satellites: u32) -> Value
-    ensures { result ≡ numbered number satellites }
+fn ranged(z: i32, low: u32, high: u32) -> Result<Value, Fault>
+    ensures { told_heard (count low high) result ≡ in_range low high z }
 {
-    Value {
-        number: number,
-        satellites: satellites,
-        second: 0,
-        axis: Axis {
-            first: 0,
-            last: 0,
-            step: 0,
-        },
+    if !natural(z, low, high) {
+        return Err(Fault {
+            number: 7,
+            column: 1,
+        });
     }
+    Ok(Value {
+        number: unsigned(z),
+        ..NOTHING
+    })
 }
 
-fn ranged(x: One, low: u32, high: u32) -> Heard
-    ensures { told_heard (count low high) result ≡ ranged_in low high (told_one x) }
-{
-    match x {
-        One::Wrong(column) => Heard::Refused(6, column),
-        One::Number(z) => {
-            if natural(z, low, high) {
-                return Heard::Said(of_numbers(unsigned(z), 0));
-            }
-            Heard::Refused(7, 1)
-        }
-    }
-}
-
-fn hear_count(line: &[u8], low: u32, high: u32) -> Heard
+fn hear_count(line: &[u8], low: u32, high: u32) -> Result<Value, Fault>
     requires { length line.now ≤ 80 }
     ensures { told_heard (count low high) result ≡ entry (count low high) (pad line.now) }
 {
-    ranged(maps_records::one_number(line), low, high)
+    let number = maps_records::one_number(line)?;
+    ranged(number, low, high)
 }
 
-fn hear_tenths(line: &[u8], low: u32, high: u32) -> Heard
+fn hear_tenths(line: &[u8], low: u32, high: u32) -> Result<Value, Fault>
     requires { length line.now ≤ 80 }
     ensures { told_heard (tenths low high) result ≡ entry (tenths low high) (pad line.now) }
 {
-    ranged(tenths_record(line), low, high)
+    let number = tenths_record(line)?;
+    ranged(number, low, high)
 }
 
-fn of_second(second: u64) -> Value
-    ensures { result.second ≡ second }
-{
-    Value {
-        number: 0,
-        satellites: 0,
-        second: second,
-        axis: Axis {
-            first: 0,
-            last: 0,
-            step: 0,
-        },
-    }
-}
-
-fn hear_epoch(line: &[u8]) -> Heard
+fn hear_epoch(line: &[u8]) -> Result<Value, Fault>
     requires { length line.now ≤ 80 }
     ensures { told_heard epoch result ≡ entry epoch (pad line.now) }
 {
-    match maps_records::epoch_in(line) {
-        Dated::Refused(number, column) => Heard::Refused(number, column),
-        Dated::At(t) => Heard::Said(of_second(t)),
-    }
+    let second = maps_records::epoch_in(line)?;
+    Ok(Value { second, ..NOTHING })
 }
 
-fn judged(which: Line, a: Axis) -> Heard
+fn judged(which: Line, a: Axis) -> Result<Value, Fault>
     ensures { told_heard (axis (J.line which)) result ≡ judged_as (J.judged (J.line which) a) a }
 {
-    match mapset::axes::judge(which, a) {
-        Judged::First => Heard::Refused(7, 3),
-        Judged::Last => Heard::Refused(7, 9),
-        Judged::Step => Heard::Refused(7, 15),
-        Judged::Together => Heard::Refused(7, 0),
-        Judged::Fine => Heard::Said(Value {
-            number: 0,
-            satellites: 0,
-            second: 0,
-            axis: a,
-        }),
-    }
+    let column = match mapset::axes::judge(which, a) {
+        Ok(()) => {
+            return Ok(Value { axis: a, ..NOTHING });
+        }
+        Err(Misfit::First) => 3,
+        Err(Misfit::Last) => 9,
+        Err(Misfit::Step) => 15,
+        Err(Misfit::Together) => 0,
+    };
+    Err(Fault { number: 7, column })
 }
 
-fn hear_axis(line: &[u8], which: Line) -> Heard
+fn hear_axis(line: &[u8], which: Line) -> Result<Value, Fault>
     requires { length line.now ≤ 80 }
     ensures { told_heard (axis (J.line which)) result ≡ entry (axis (J.line which)) (pad line.now) }
 {
-    match axis_record(line) {
-        Three::Wrong(column) => Heard::Refused(6, column),
-        Three::Numbers(x, y, z) => judged(
-            which,
-            Axis {
-                first: x,
-                last: y,
-                step: z,
-            },
-        ),
-    }
+    let axis = axis_record(line)?;
+    judged(which, axis)
 }
 
 // The counts of a system; apart for the stack, as `hear` is.
 #[inline(never)]
-pub fn hear_system(line: &[u8]) -> Heard
+pub fn hear_system(line: &[u8]) -> Result<Value, Fault>
     requires { length line.now ≤ 80 }
     ensures { told_heard system result ≡ entry system (pad line.now) }
 {
-    match system_record(line) {
-        Two::Wrong(column) => Heard::Refused(6, column),
-        Two::Numbers(x, y) => {
-            if !natural(x, 0, 999999) {
-                return Heard::Refused(7, 7);
-            }
-            if !natural(y, 0, 999999) {
-                return Heard::Refused(7, 13);
-            }
-            Heard::Said(of_numbers(unsigned(x), unsigned(y)))
-        }
+    let (stations, satellites) = system_record(line)?;
+    if !natural(stations, 0, 999999) {
+        return Err(Fault {
+            number: 7,
+            column: 7,
+        });
     }
+    if !natural(satellites, 0, 999999) {
+        return Err(Fault {
+            number: 7,
+            column: 13,
+        });
+    }
+    Ok(Value {
+        number: unsigned(stations),
+        satellites: unsigned(satellites),
+        ..NOTHING
+    })
 }
 
-// What the record of numbers at place i of the header says. What it takes of the stack is given back before the record is kept.
+// What a record of such numbers says. What it takes of the stack is given back before the record is kept.
 #[inline(never)]
-pub fn hear(line: &[u8], i: usize) -> Heard
-    requires { (length line.now ≤ 80) × (i < 15) × (kind_of (content i) ≤ 5) }
-    ensures { told_heard (content i) result ≡ entry (content i) (pad line.now) }
+pub fn hear(line: &[u8], which: Numbers) -> Result<Value, Fault>
+    requires { length line.now ≤ 80 }
+    ensures { told_heard (numbers_of which) result ≡ entry (numbers_of which) (pad line.now) }
 {
-    let kind = KINDS[i];
-    match kind {
-        0 => hear_count(line, LOWS[i], HIGHS[i]),
-        1 => hear_tenths(line, LOWS[i], HIGHS[i]),
-        2 => hear_epoch(line),
-        3 => hear_axis(line, Line::Heights),
-        4 => hear_axis(line, Line::Latitudes),
-        _ => hear_axis(line, Line::Longitudes),
+    match which {
+        Numbers::Count(low, high) => hear_count(line, low, high),
+        Numbers::Tenths(low, high) => hear_tenths(line, low, high),
+        Numbers::Epoch => hear_epoch(line),
+        Numbers::Axis(axis) => hear_axis(line, axis),
     }
 }

@@ -15,22 +15,14 @@ pub struct Value {
     pub axis: Axis,
 }
 
-// A record's numbers, or the column where it is ill-formed.
-#[derive(Clone, Copy)]
-pub enum Two {
-    Numbers(i32, i32),
-    Wrong(u64),
-}
-
-#[derive(Clone, Copy)]
-pub enum Three {
-    Numbers(i32, i32, i32),
-    Wrong(u64),
-}
-
-// What a record of numbers says, or its refusal with 01's number and a column.
-#[derive(Clone, Copy)]
-pub enum Heard {
-    Said(Value),
-    Refused(u64, u64),
-}
+// Zeros: what a record of texts says in numbers.
+pub const NOTHING: Value = Value {
+    number: 0,
+    satellites: 0,
+    second: 0,
+    axis: Axis {
+        first: 0,
+        last: 0,
+        step: 0,
+    },
+};

@@ -1,23 +1,20 @@
 -- What was got of a header so far, and what a line of it does, in the words of `reading`.
-use Rattle.std.specs.Prelude.{false, cond, List, [], ◌∷◌, ℕ, zero, suc, length, get_or, set, ℤ, pos}
-use Rattle.std.proofs.Math.Option.{Option, some}
+use Rattle.std.specs.Prelude.{List, [], ◌∷◌, ℕ, zero, suc, length, get_or, set, ℤ, pos, Some, None, Result, Ok, Err, Option as Held}
+use Rattle.std.proofs.Math.Option.{Option, some, none}
 use Rattle.kit.specs.Answer.{Answer, ok, refused, bind, amap}
 use Rattle.mapset.specs.declared.Version.{Version}
 use Rattle.mapset.specs.declared.Header.{Header}
 use Rattle.mapset.specs.declared.Texts.{Texts}
 use Rattle.mapset.specs.Described.{FullTexts}
-use Rattle.mapset.specs.Header.{Content, count, tenths, epoch, axis, program, mapping, observables, system, Said, words, if_stands}
+use Rattle.mapset.specs.Header.{Content, count, tenths, epoch, axis, program, mapping, observables, system, Said, words}
 use Rattle.layout.specs.Labels.{content}
-use Rattle.layout.specs.Layout.{Slots, Lines, Mode, aux, mode}
-use Rattle.reading.specs.Feed.{Fault, fault}
+use Rattle.layout.specs.Layout.{Slots, Lines, Mode, mode}
+use Rattle.reading.specs.declared.Fault.{Fault}
 use Rattle.reading.specs.Head.{Turn, more, done, made, made_texts, head_step}
 use Rattle.mapset.specs.Said.{axis_of}
 use Rattle.head_said.specs.Records.{says}
 use Rattle.head_said.specs.declared.Value.{Value}
 use Rattle.head_state.specs.declared.State.{State}
-use Rattle.head_state.specs.declared.Next.{Next}
-use Rattle.head_state.specs.declared.Next.TheVariants.{More, Done, Refused}
-use Rattle.head_state.specs.declared.Stepped.{Stepped}
 
 -- ---- what was got
 
@@ -28,23 +25,32 @@ nil = record { number = 0; satellites = 0; second = 0; axis = axis_of (pos 0) (p
 abbrev pub any_version : Version
 any_version = record { tenths = 0; kind = 0; code = 0 }
 
--- what the state holds for a record with the content k at place i
-abbrev pub said : State → ℕ → Content → Said
-said s i program = words (s.program ∷ s.agency ∷ s.date ∷ [])
-said s i mapping = words (s.mapping ∷ [])
-said s i observables = words (s.observables ∷ [])
-said s i (count low high) = says (count low high) (get_or s.values i nil)
-said s i (tenths low high) = says (tenths low high) (get_or s.values i nil)
-said s i epoch = says epoch (get_or s.values i nil)
-said s i (axis l) = says (axis l) (get_or s.values i nil)
-said s i system = says system (get_or s.values i nil)
+-- what the state holds for a record with the content k and these numbers
+abbrev pub said : State → Content → Value → Said
+said s program v = words (s.program ∷ s.agency ∷ s.date ∷ [])
+said s mapping v = words (s.mapping ∷ [])
+said s observables v = words (s.observables ∷ [])
+said s (count low high) v = says (count low high) v
+said s (tenths low high) v = says (tenths low high) v
+said s epoch v = says epoch v
+said s (axis l) v = says (axis l) v
+said s system v = says system v
 
--- what it holds for a record of numbers there: zeros where none was got
+-- what f says of what is held
+abbrev pub if_held : (Value → Said) → Held Value → Option Said
+if_held f (Some v) = some (f v)
+if_held f None = none
+
+-- the numbers that are held: zeros where there are none
+abbrev pub or_nil : Held Value → Value
+or_nil (Some v) = v
+or_nil None = nil
+
 abbrev pub value_in : State → ℕ → Value
-value_in s i = cond (get_or s.seen i false) (get_or s.values i nil) nil
+value_in s i = or_nil (get_or s.values i None)
 
 unfoldable pub slot : State → ℕ → Option Said
-slot s i = if_stands (get_or s.seen i false) (said s i (content i))
+slot s i = if_held (said s (content i)) (get_or s.values i None)
 
 -- what f says of n places from the i-th on
 abbrev pub places : {A : Type 0} → (ℕ → A) → ℕ → ℕ → List A
@@ -68,22 +74,31 @@ pub data Went : Type 0 where
   went : Mode → ℤ → Slots → ℕ → Went
   ended : Header → Texts → Went
 
-abbrev pub told_next : Next → State → Answer Fault Went
-told_next More s = ok (went (mode s.aux) s.exponent (slots_of s) s.descriptions)
-told_next (Done h) s = ok (ended h (texts_of s))
-told_next (Refused n c) s = refused (fault n c)
+-- on with what was got so far
+abbrev pub so_far : State → Went
+so_far s = went (mode s.aux) s.exponent (slots_of s) s.descriptions
 
-abbrev pub told : Stepped → Answer Fault Went
-told r = told_next r.next r.state
+-- what a line tells that leaves the state s: the header record where it is END OF HEADER
+abbrev pub told : Result (Held Header) Fault → State → Answer Fault Went
+told (Ok None) s = ok (so_far s)
+told (Ok (Some h)) s = ok (ended h (texts_of s))
+told (Err f) s = refused f
+
+abbrev pub told_kept : Result (Unit {0}) Fault → State → Answer Fault Went
+told_kept (Ok u) s = ok (so_far s)
+told_kept (Err f) s = refused f
 
 -- the same of `reading`, under the version record c, with `got` and n DESCRIPTION lines got so far
 abbrev pub gone : Version → Slots → ℕ → Turn → Went
 gone c got n (more a e got' ds') = went a e got' (length ds')
 gone c got n done = ended (made c got n) (five (made_texts got []))
 
--- a record that stands for the first time
+-- a record that stands for the first time, at place i
+abbrev pub with : State → ℕ → Said → Went
+with s i y = went (mode s.aux) s.exponent (set (slots_of s) i (some y)) s.descriptions
+
 unfoldable pub kept : State → ℕ → Answer Fault Said → Answer Fault Went
-kept s i x = bind x (λ y. ok (went (mode s.aux) s.exponent (set (slots_of s) i (some y)) s.descriptions))
+kept s i x = bind x (λ y. ok (with s i y))
 
 -- what `reading` does with a row, with the DESCRIPTION lines ds got so far
 unfoldable pub turned : State → Version → Lines → List ℕ → Answer Fault Turn

@@ -1,54 +1,37 @@
 // What was got of a header so far, and the header record of it.
 #![tactic(auto)]
 
-ghost use Rattle.std.specs.Prelude.{◌≡◌, false, ◌+◌, ◌≤◌, ◌<◌, length, get_or, negsuc};
+ghost use Rattle.std.specs.Prelude.{◌≡◌, false, ◌≤◌, ◌<◌, length, get_or, negsuc};
 ghost use Rattle.std.proofs.Math.Option.{none};
-ghost use Rattle.kit.specs.Answer.{refused};
+ghost use Rattle.kit.specs.Answer.{ok};
 ghost use Rattle.kit.specs.Truth.{truth};
-ghost use Rattle.mapset.specs.Header.{program, mapping, observables, starred};
+ghost use Rattle.mapset.specs.Header.{epoch, program, mapping, observables, system, starred};
 ghost use Rattle.layout.specs.Text.{pad};
 ghost use Rattle.layout.specs.Labels.{content};
-ghost use Rattle.reading.specs.Feed.{fault};
 ghost use Rattle.mapset.specs.Said.{number_in, axis_in, counted_in, system_in};
 ghost use Rattle.reading.specs.Head.{made, complete?};
 ghost use Rattle.reading.specs.Read.{nothing_yet};
-ghost use Rattle.reading.specs.Fields.{blank_to};
-ghost use Rattle.head_said.specs.Records.{told_heard, entry, first_of};
-ghost use Rattle.head_said.specs.Tables.{kind_of, Numbers};
-ghost use Rattle.head_state.specs.Got.{any_version, slots_of, value_in, told, kept};
+ghost use Rattle.head_said.specs.Records.{says, entry};
+ghost use Rattle.head_said.specs.Tables.{OneNumber, AnAxis, OfNumbers};
+ghost use Rattle.head_state.specs.Got.{any_version, slots_of, value_in, nil, so_far, with, told_kept, kept};
 
-use forms::Found;
-use head_said::{Heard, Value};
+use head_said::{NOTHING, Value};
 use mapset::{Axis, Counted, Grid, Header, Model, System, Systems, Times, Version};
+use reading::Fault;
 
-// What was got of a header so far, by the places of its records in 01's list; whether an aux block is open; the exponent in force; the number of
-// DESCRIPTION lines, whose bytes are lent beside it.
+// What was got of a header so far: the numbers of its records, by their places in 01's list, where a record of texts stands with zeros, and
+// these texts; whether an aux block is open; the exponent in force; the number of DESCRIPTION lines, whose bytes are lent beside it.
 #[derive(Clone, Copy)]
 pub struct State {
     pub aux: bool,
     pub exponent: i32,
-    pub seen: [bool; 22],
-    pub values: [Value; 22],
+    pub values: [Option<Value>; 22],
     pub program: [u8; 20],
     pub agency: [u8; 20],
     pub date: [u8; 20],
     pub mapping: [u8; 4],
     pub observables: [u8; 60],
     pub descriptions: u32,
-}
-
-// On with the header; or END OF HEADER, with the header record; or refused with 01's number and a column.
-#[derive(Clone, Copy)]
-pub enum Next {
-    More,
-    Done(Header),
-    Refused(u64, u64),
-}
-
-#[derive(Clone, Copy)]
-pub struct Stepped {
-    pub next: Next,
-    pub state: State,
 }
 
 // Which records may be missing.
@@ -64,17 +47,7 @@ pub fn nothing() -> State
     State {
         aux: false,
         exponent: -1,
-        seen: [false; 22],
-        values: [Value {
-            number: 0,
-            satellites: 0,
-            second: 0,
-            axis: Axis {
-                first: 0,
-                last: 0,
-                step: 0,
-            },
-        }; 22],
+        values: [None; 22],
         program: [b' '; 20],
         agency: [b' '; 20],
         date: [b' '; 20],
@@ -84,172 +57,105 @@ pub fn nothing() -> State
     }
 }
 
-pub fn refuse(s: State, number: u64, column: u64) -> Stepped
-    ensures { told result ≡ refused (fault number column) }
+// What the record of numbers at place i says is kept.
+pub fn keep(s: &mut State, i: usize, value: Value)
+    requires { (i < 22) × OfNumbers (content i) }
+    ensures { so_far s.new ≡ with s.old i (says (content i) value) }
 {
-    Stepped {
-        next: Next::Refused(number, column),
-        state: s,
-    }
+    s.values[i] = Some(value);
 }
 
-// A record of numbers at place i is kept.
-pub fn keep(s: State, i: usize, h: Heard) -> Stepped
-    requires { (i < 22) × Numbers (content i) }
-    ensures { told result ≡ kept s i (told_heard (content i) h) }
-{
-    match h {
-        Heard::Refused(number, column) => refuse(s, number, column),
-        Heard::Said(v) => {
-            let mut t = s;
-            t.seen[i] = true;
-            t.values[i] = v;
-            Stepped {
-                next: Next::More,
-                state: t,
-            }
-        }
-    }
-}
-
-// 3A20. Apart, as are the two others of texts, so that no copy of a state is cut at their places on the stack.
+// 3A20. Apart, as are the two others of texts, so that what they take of the stack is given back.
 #[inline(never)]
-pub fn keep_program(s: State, line: &[u8]) -> Stepped
+pub fn keep_program(s: &mut State, line: &[u8])
     requires { length line.now ≤ 80 }
-    ensures { told result ≡ kept s 0 (entry program (pad line.now)) }
+    ensures { ok (so_far s.new) ≡ kept s.old 0 (entry program (pad line.now)) }
 {
-    let program = fields::text20(line, 0);
-    let agency = fields::text20(line, 20);
-    let date = fields::text20(line, 40);
-    let mut t = s;
-    t.seen[0] = true;
-    t.program = program;
-    t.agency = agency;
-    t.date = date;
-    Stepped {
-        next: Next::More,
-        state: t,
-    }
-}
-
-// Columns 1 and 2, and 7 to 60, must be blank: the first of them that is not.
-fn beside_mapping(line: &[u8]) -> Found
-    ensures { result ≡ first_of (blank_to line.now 0 2) (blank_to line.now 6 60) }
-{
-    match fields::first_not_blank(line, 0, 2) {
-        Found::At(column) => Found::At(column),
-        Found::Nowhere => fields::first_not_blank(line, 6, 60),
-    }
+    s.values[0] = Some(NOTHING);
+    s.program = fields::text(line, 0);
+    s.agency = fields::text(line, 20);
+    s.date = fields::text(line, 40);
 }
 
 // 2X,A4,54X
 #[inline(never)]
-pub fn keep_mapping(s: State, line: &[u8]) -> Stepped
+pub fn keep_mapping(s: &mut State, line: &[u8]) -> Result<(), Fault>
     requires { length line.now ≤ 80 }
-    ensures { told result ≡ kept s 5 (entry mapping (pad line.now)) }
+    ensures { told_kept result s.new ≡ kept s.old 5 (entry mapping (pad line.now)) }
 {
-    match beside_mapping(line) {
-        Found::At(column) => refuse(s, 6, column as u64),
-        Found::Nowhere => {
-            let mapping = fields::text4(line, 2);
-            let mut t = s;
-            t.seen[5] = true;
-            t.mapping = mapping;
-            Stepped {
-                next: Next::More,
-                state: t,
-            }
-        }
-    }
+    maps_records::blank(line, 0, 2)?;
+    maps_records::blank(line, 6, 60)?;
+    s.values[5] = Some(NOTHING);
+    s.mapping = fields::text(line, 2);
+    Ok(())
 }
 
 // A60
 #[inline(never)]
-pub fn keep_observables(s: State, line: &[u8]) -> Stepped
+pub fn keep_observables(s: &mut State, line: &[u8])
     requires { length line.now ≤ 80 }
-    ensures { told result ≡ kept s 7 (entry observables (pad line.now)) }
+    ensures { ok (so_far s.new) ≡ kept s.old 7 (entry observables (pad line.now)) }
 {
-    let observables = fields::text60(line);
-    let mut t = s;
-    t.seen[7] = true;
-    t.observables = observables;
-    Stepped {
-        next: Next::More,
-        state: t,
-    }
+    s.values[7] = Some(NOTHING);
+    s.observables = fields::text(line, 0);
 }
 
 // ---- the header record
 
 // What was got for the record at place i: zeros where it was not.
-fn value_in(s: State, i: usize) -> Value
+fn value_in(s: &State, i: usize) -> Value
     requires { i < 22 }
-    ensures { result ≡ value_in s i }
+    ensures { result ≡ value_in s.now i }
 {
-    if s.seen[i] {
-        return s.values[i];
-    }
-    Value {
-        number: 0,
-        satellites: 0,
-        second: 0,
-        axis: Axis {
-            first: 0,
-            last: 0,
-            step: 0,
-        },
-    }
+    s.values[i].unwrap_or(NOTHING)
 }
 
-fn number_in(s: State, i: usize) -> u32
-    requires { (i < 22) × (kind_of (content i) ≤ 1) }
-    ensures { result ≡ number_in (get_or (slots_of s) i none) }
+fn number_in(s: &State, i: usize) -> u32
+    requires { (i < 22) × OneNumber (content i) }
+    ensures { result ≡ number_in (get_or (slots_of s.now) i none) }
 {
-    let v = value_in(s, i);
-    v.number
+    value_in(s, i).number
 }
 
-fn second_in(s: State, i: usize) -> u64
-    requires { (i < 22) × (kind_of (content i) ≡ 2) }
-    ensures { result ≡ number_in (get_or (slots_of s) i none) }
+fn second_in(s: &State, i: usize) -> u64
+    requires { (i < 22) × (content i ≡ epoch) }
+    ensures { result ≡ number_in (get_or (slots_of s.now) i none) }
 {
-    let v = value_in(s, i);
-    v.second
+    value_in(s, i).second
 }
 
-fn axis_in(s: State, i: usize) -> Axis
-    requires { (i < 22) × (3 ≤ kind_of (content i)) × (kind_of (content i) ≤ 5) }
-    ensures { result ≡ axis_in (get_or (slots_of s) i none) }
+fn axis_in(s: &State, i: usize) -> Axis
+    requires { (i < 22) × AnAxis (content i) }
+    ensures { result ≡ axis_in (get_or (slots_of s.now) i none) }
 {
-    let v = value_in(s, i);
-    v.axis
+    value_in(s, i).axis
 }
 
-fn counted_in(s: State, i: usize) -> Counted
-    requires { (i < 22) × (kind_of (content i) ≤ 1) }
-    ensures { result ≡ counted_in (get_or (slots_of s) i none) }
+fn counted_in(s: &State, i: usize) -> Counted
+    requires { (i < 22) × OneNumber (content i) }
+    ensures { result ≡ counted_in (get_or (slots_of s.now) i none) }
 {
     let v = value_in(s, i);
     Counted {
-        stands: s.seen[i],
+        stands: s.values[i].is_some(),
         count: v.number,
     }
 }
 
-fn system_in(s: State, i: usize) -> System
-    requires { (i < 22) × (kind_of (content i) ≡ 9) }
-    ensures { result ≡ system_in (get_or (slots_of s) i none) }
+fn system_in(s: &State, i: usize) -> System
+    requires { (i < 22) × (content i ≡ system) }
+    ensures { result ≡ system_in (get_or (slots_of s.now) i none) }
 {
     let v = value_in(s, i);
     System {
-        stands: s.seen[i],
+        stands: s.values[i].is_some(),
         stations: v.number,
         satellites: v.satellites,
     }
 }
 
-fn times_of(s: State) -> Times
-    ensures { result ≡ (made any_version (slots_of s) 0).times }
+fn times_of(s: &State) -> Times
+    ensures { result ≡ (made any_version (slots_of s.now) 0).times }
 {
     Times {
         first: second_in(s, 1),
@@ -259,8 +165,8 @@ fn times_of(s: State) -> Times
     }
 }
 
-fn model_of(s: State) -> Model
-    ensures { result ≡ (made any_version (slots_of s) 0).model }
+fn model_of(s: &State) -> Model
+    ensures { result ≡ (made any_version (slots_of s.now) 0).model }
 {
     Model {
         cutoff: number_in(s, 6),
@@ -269,8 +175,8 @@ fn model_of(s: State) -> Model
     }
 }
 
-fn grid_of(s: State) -> Grid
-    ensures { result ≡ (made any_version (slots_of s) 0).grid }
+fn grid_of(s: &State) -> Grid
+    ensures { result ≡ (made any_version (slots_of s.now) 0).grid }
 {
     Grid {
         heights: axis_in(s, 12),
@@ -279,8 +185,8 @@ fn grid_of(s: State) -> Grid
     }
 }
 
-fn systems_of(s: State) -> Systems
-    ensures { result ≡ (made any_version (slots_of s) 0).systems }
+fn systems_of(s: &State) -> Systems
+    ensures { result ≡ (made any_version (slots_of s.now) 0).systems }
 {
     Systems {
         g: system_in(s, 15),
@@ -294,11 +200,11 @@ fn systems_of(s: State) -> Systems
 }
 
 // The header record of what was got, under this version record.
-pub fn header_of(s: State, version: Version) -> Header
-    ensures { result ≡ made version (slots_of s) s.descriptions }
+pub fn header_of(s: &State, version: Version) -> Header
+    ensures { result ≡ made version (slots_of s.now) s.now.descriptions }
 {
     Header {
-        version: version,
+        version,
         times: times_of(s),
         model: model_of(s),
         grid: grid_of(s),
@@ -309,19 +215,15 @@ pub fn header_of(s: State, version: Version) -> Header
     }
 }
 
-// No record is missing but starred ones. Apart, for its loop would have each copy of a state cut into small pieces on the stack.
+// No record is missing but starred ones. By an index: `all` over the two zipped was tried, and its proof didn't close.
 #[inline(never)]
-pub fn complete(s: State) -> bool
-    ensures { result ≡ truth (complete? starred (slots_of s)) }
+pub fn complete(s: &State) -> bool
+    ensures { result ≡ truth (complete? starred (slots_of s.now)) }
 {
-    let mut i: usize = 0;
-    while i < 22 {
-        if !STARRED[i] {
-            if !s.seen[i] {
-                return false;
-            }
+    for i in 0..22 {
+        if !(STARRED[i] | s.values[i].is_some()) {
+            return false;
         }
-        i += 1;
     }
     true
 }

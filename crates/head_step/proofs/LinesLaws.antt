@@ -19,9 +19,10 @@ use Rattle.reading.specs.Feed.{fault}
 use Rattle.reading.specs.Fields.{fields}
 use Rattle.reading.specs.Head.{more, on_description}
 use Rattle.reading.proofs.ScanLaws.{read_is}
-use Rattle.head_state.specs.Got.{slots_of, went, told}
+use Rattle.std.specs.Prelude.{Result}
+use Rattle.reading.specs.declared.Fault.{Fault}
+use Rattle.head_state.specs.Got.{slots_of, went, told_kept}
 use Rattle.head_state.specs.declared.State.{State}
-use Rattle.head_state.specs.declared.Stepped.{Stepped}
 use Rattle.head_step.specs.Step.{described_in, Holds, after, Describes}
 
 -- ---- bytes
@@ -66,11 +67,11 @@ unfolding columns
 columns_width line = length-take-le 60 (line ++ replicate 60 32) (simp (length-append, length-replicate) (omega arith))
 
 -- ---- what the code does
-module _ (s : State) (bs line : List ℕ) (w : Holds s.descriptions bs) (x : Stepped) where
+module _ (s : State) (bs line : List ℕ) (w : Holds s.descriptions bs) (x : Result (Unit {0}) Fault) (s' : State) where
   abbrev got : Lines
   got = lines_in s.descriptions bs
 
-  pub twenty_first : most_lines ≤ s.descriptions → told x ≡ refused (fault 5 61) → Describes s bs (pad line) x bs
+  pub twenty_first : most_lines ≤ s.descriptions → told_kept x s' ≡ refused (fault 5 61) → Describes s bs (pad line) x s' bs
   unfolding described_in on_description
   twenty_first h e =
       record {
@@ -87,7 +88,7 @@ module _ (s : State) (bs line : List ℕ) (w : Holds s.descriptions bs) (x : Ste
 
   pub one_more : length line ≤ 80 → s.descriptions < most_lines → (bs' : List ℕ)
       → bs' ≡ take (line_width * s.descriptions) bs ++ (columns line 0 60 ++ drop line_width (drop (line_width * s.descriptions) bs))
-      → told x ≡ ok (went (mode s.aux) s.exponent (slots_of s) (s.descriptions + 1)) → Describes s bs (pad line) x bs'
+      → told_kept x s' ≡ ok (went (mode s.aux) s.exponent (slots_of s) (s.descriptions + 1)) → Describes s bs (pad line) x s' bs'
   unfolding described_in
   one_more fits h bs' q e =
       record {

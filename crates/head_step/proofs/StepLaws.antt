@@ -1,13 +1,13 @@
 -- A row of the header by what the code looks at: the number of its label, what is kept, END OF HEADER.
-use mathlib.Core.Path.{◌≡◌, refl, sym, ap, ap₂, ◌∙◌}
-use mathlib.Core.Bool.{Bool, true, false, not, ◌||◌, cond}
+use mathlib.Core.Path.{◌≡◌, refl, sym, ap, ap₂, subst, ◌∙◌}
+use mathlib.Core.Bool.{Bool, true, false, not}
 use mathlib.Core.Option.{Option, none, some}
 use mathlib.Core.List.{List, [], ◌∷◌, ◌++◌, map}
 use Prim.Native.Nat.{ℕ, zero, suc, ◌+◌, ◌-◌, ◌≤◌, ◌<◌}
 use native.Mathlib.Decide.{ℕ_discrete, dec_lt}
 use native.Mathlib.Omega.{arith}
-use lib.Dec.{T, eqb}
-use borrow.Author.Tests.{eqb-true, eqb-false, ne_eqb}
+use lib.Dec.{T, eqb, ltb, ltb→lt}
+use borrow.Author.Tests.{eqb-true, eqb-false}
 use lib.ListN.{length, get_or, set, take, drop, replicate, length-append, get_or-map}
 use lib.IntN.{ℤ}
 use Rattle.kit.specs.Answer.{Answer, ok, refused, need, bind, amap, get, same}
@@ -25,20 +25,24 @@ use Rattle.layout.specs.Text.{pad}
 use Rattle.layout.specs.Labels.{Label, version, description, comment, system, exponent, aux_start, aux_end, header_end, epoch, block, file_end, head, start, end, name, labels, content, letters}
 use Rattle.layout.specs.Layout.{Slots, Lines, plain, aux, mode, exponent?}
 use Rattle.layout.specs.Names.{names, number_of}
-use Rattle.reading.specs.Feed.{Fault, fault}
+use Rattle.reading.specs.declared.Fault.{Fault}
+use Rattle.reading.specs.Feed.{fault}
 use Rattle.reading.specs.Fields.{scan, fields, unless, blank_to}
 use Rattle.reading.proofs.LabelLaws.{label_known, label_unknown, named, aux_number}
 use Rattle.reading.specs.Maps.{missing}
 use Rattle.reading.specs.Head.{Turn, more, done, meant, place, none?, Complete, complete?, made, once, on_description, on_system, on_end, at_head, head_step}
 use Rattle.head_said.specs.Records.{system_in, entry}
-use Rattle.head_state.specs.Got.{said, slot, slots_of, texts_of, Went, went, ended, gone, told, kept, turned}
-use Rattle.head_said.specs.Tables.{action, place_at}
+use Rattle.std.specs.Prelude.{Some, None, Result, Ok, Err, is_some, Option as Held}
+use Rattle.head_said.specs.Records.{told_heard, says}
+use Rattle.head_said.specs.declared.Value.{Value}
+use Rattle.head_state.specs.Got.{said, slot, slots_of, texts_of, Went, went, ended, gone, so_far, with, told, told_kept, kept, turned}
 use Rattle.head_said.proofs.RecordLaws.{blank_says, bind_amap, bind_same}
 use Rattle.head_state.proofs.GotLaws.{stands, is_missing, texts_got}
 use Rattle.head_state.specs.declared.State.{State}
-use Rattle.head_state.specs.declared.Stepped.{Stepped}
-use Rattle.labels.specs.Letters.{if_below}
-use Rattle.head_step.specs.Step.{ended_in, fresh, exponent_in, system_at, by_letter, described_in, acted, Holds, after, Describes, Steps}
+use Rattle.labels.specs.Letters.{found}
+use Rattle.head_step.specs.Step.{ended_in, fresh, exponent_in, system_at, by_letter, described_in, action, acted, Holds, after, Describes, Steps}
+use Rattle.head_step.specs.declared.Action.{Action}
+use Rattle.head_step.specs.declared.Action.TheVariants as A
 
 amap_need : {A B P : Type 0} (f : A → B) (d : Dec P) (w : Fault) (x : Answer Fault A) → amap f (need d w x) ≡ need d w (amap f x)
 unfolding amap need
@@ -54,7 +58,7 @@ amap_bind f (refused w) g = refl
 
 -- another exponent, an aux block opened or closed, or one more DESCRIPTION line leaves what was got
 pub same_slots : (s : State) (a : Bool) (e : ℤ) (n : ℕ)
-    → slots_of (record { aux = a; exponent = e; seen = s.seen; values = s.values; program = s.program; agency = s.agency; date = s.date; mapping = s.mapping; observables = s.observables; descriptions = n }) ≡ slots_of s
+    → slots_of (record { aux = a; exponent = e; values = s.values; program = s.program; agency = s.agency; date = s.date; mapping = s.mapping; observables = s.observables; descriptions = n }) ≡ slots_of s
 unfolding slots_of slot
 same_slots s a e n = refl
 
@@ -100,15 +104,23 @@ module _ (s : State) (c : Version) where
 -- ---- each record at most once
 
 module _ (s : State) (i : ℕ) (x : Answer Fault Said) (inside : i < 22) where
-  pub is_fresh : get_or s.seen i false ≡ false → fresh s i x ≡ kept s i x
+  pub is_fresh : is_some (get_or s.values i None) ≡ false → fresh s i x ≡ kept s i x
   unfolding fresh
-  is_fresh e = need_yes (none? (get_or (slots_of s) i none)) (fault 5 61) (kept s i x) (is_missing s i inside e)
+  is_fresh e = need_yes (none? (get_or (slots_of s) i none)) (fault 5 61) (kept s i x) (is_missing s i inside (by (get_or s.values i None) e))
+    where
+      by : (o : Held Value) → is_some o ≡ false → o ≡ None
+      by None q = refl
+      by (Some v) q = cc
 
-  pub is_repeated : get_or s.seen i false ≡ true → fresh s i x ≡ refused (fault 5 61)
+  pub is_repeated : is_some (get_or s.values i None) ≡ true → fresh s i x ≡ refused (fault 5 61)
   unfolding fresh
   is_repeated e =
       need_no (none? (get_or (slots_of s) i none)) (fault 5 61) (kept s i x)
-      (λ q. let p : some (said s i (content i)) ≡ none = sym (stands s i inside e) ∙ q in let z : ◌≡◌ {A = ℕ} 0 1 = cc in omega arith)
+      (λ q. let h = by (get_or s.values i None) e in let p : some (said s (content i) h.0) ≡ none = sym (stands s i inside h.0 h.1) ∙ q in let z : ◌≡◌ {A = ℕ} 0 1 = cc in omega arith)
+    where
+      by : (o : Held Value) → is_some o ≡ true → (v : Value) × (o ≡ Some v)
+      by None q = let z : ◌≡◌ {A = ℕ} 0 1 = cc in absurd (omega arith)
+      by (Some v) q = (v, refl)
 
 gone_refused : (c : Version) (got : Slots) (n : ℕ) (w : Fault) → amap (gone c got n) (refused w) ≡ refused w
 unfolding amap
@@ -127,9 +139,24 @@ module _ (s : State) (c : Version) (ds : Lines) (count : length ds ≡ s.descrip
       ∙ bind_same x _ _ (λ y. gone_more s.exponent (set (slots_of s) i (some y))))
 
 -- where its content is known
-pub fresh_at : (s : State) (i j : ℕ) (k : Content) (r : List ℕ) → i ≡ j → content i ≡ k → i < 22 → get_or s.seen i false ≡ false
+pub fresh_at : (s : State) (i j : ℕ) (k : Content) (r : List ℕ) → i ≡ j → content i ≡ k → i < 22 → is_some (get_or s.values i None) ≡ false
     → kept s j (entry k r) ≡ fresh s i (entry (content i) r)
 fresh_at s i j k r e f h n = ap₂ (λ (m : ℕ) (x : Content). kept s m (entry x r)) (sym e) (sym f) ∙ sym (is_fresh s i (entry (content i) r) h n)
+
+-- what a record of numbers says is kept, or refuses it
+module _ (s : State) (i : ℕ) (k : Content) (r : List ℕ) (e : content i ≡ k) (h : i < 22) (n : is_some (get_or s.values i None) ≡ false) (x : Result Value Fault)
+    (q : told_heard k x ≡ entry k r) where
+  pub heard_ok : (v : Value) → x ≡ Ok v → ok (with s i (says (content i) v)) ≡ fresh s i (entry k r)
+  unfolding kept bind
+  heard_ok v o =
+      let p : ok (says (content i) v) ≡ entry k r = ap (λ (k : Content). ok (says k v)) e ∙ ap (told_heard k) (sym o) ∙ q in
+      ap (kept s i) p ∙ sym (is_fresh s i (entry k r) h n)
+
+  pub heard_no : (f : Fault) → x ≡ Err f → refused f ≡ fresh s i (entry k r)
+  unfolding kept bind
+  heard_no f o =
+      let p : refused f ≡ entry k r = ap (told_heard k) (sym o) ∙ q in
+      ap (kept s i) p ∙ sym (is_fresh s i (entry k r) h n)
 
 -- ---- SYS / #STA / #SAT
 
@@ -140,10 +167,9 @@ padded_at [] (suc n) (suc i) = padded_at [] n i
 padded_at (x ∷ l) n zero = refl
 padded_at (x ∷ l) n (suc i) = padded_at l n i
 
-pub letter_is : (s : State) (line : List ℕ) (j b : ℕ) → b ≡ get_or line 5 32 → if_below 7 j ≡ place ℕ_discrete b letters
-    → system_at s (pad line) (if_below 7 j) ≡ by_letter s (pad line)
+pub letter_is : (s : State) (line : List ℕ) (o : Held ℕ) (b : ℕ) → b ≡ get_or line 5 32 → found o ≡ place ℕ_discrete b letters → system_at s (pad line) (found o) ≡ by_letter s (pad line)
 unfolding by_letter pad
-letter_is s line j b e f = ap (system_at s (pad line)) (f ∙ ap (λ (x : ℕ). place ℕ_discrete x letters) (e ∙ sym (padded_at line (80 - length line) 5)))
+letter_is s line o b e f = ap (system_at s (pad line)) (f ∙ ap (λ (x : ℕ). place ℕ_discrete x letters) (e ∙ sym (padded_at line (80 - length line) 5)))
 
 -- ---- what is done at a label, by its number in the table of actions
 
@@ -154,9 +180,9 @@ module _ (s : State) (c : Version) (ds : Lines) (count : length ds ≡ s.descrip
   abbrev at : Label → Answer Fault Turn
   at l = at_head c s.exponent (slots_of s) ds l r
 
-  comment_is : amap goes (at comment) ≡ ok (went plain s.exponent (slots_of s) s.descriptions)
+  comment_is : amap goes (at comment) ≡ ok (so_far s)
   unfolding at_head fields scan bind amap
-  comment_is = ap (λ n. ok (went plain s.exponent (slots_of s) n)) count
+  comment_is = ap₂ (λ (b : Bool) (n : ℕ). ok (went (mode b) s.exponent (slots_of s) n)) (sym shut) count
 
   opened_is : amap goes (at aux_start) ≡ ok (went aux s.exponent (slots_of s) s.descriptions)
   unfolding at_head fields scan bind amap
@@ -174,7 +200,7 @@ module _ (s : State) (c : Version) (ds : Lines) (count : length ds ≡ s.descrip
   system_is none = amap_bind goes (fields system r) _ ∙ bind_same (fields system r) _ _ (λ v. gone_refused c (slots_of s) s.descriptions (fault 7 6)) ∙ sym (bind_amap _ _ (fields system r))
   system_is (some j) = once_is s c ds count shut (15 + j) (entry a_system r)
 
-  by_action : (l : Label) → ¬ (l ≡ description) → amap goes (at l) ≡ acted (action l) (place_at l) s c r
+  by_action : (l : Label) → ¬ (l ≡ description) → amap goes (at l) ≡ acted (action l) s c r
   unfolding acted
   by_action description n = absurd (n refl)
   by_action comment n = comment_is
@@ -245,11 +271,49 @@ module _ (c : Version) (e : ℤ) (got : Slots) (ds : Lines) (r : List ℕ) where
   head_same block n = y_no
   head_same file_end n = y_no
 
--- DESCRIPTION is the second label after the first
-no_description : (k : ℕ) → k < 32 → ¬ (k ≡ 2) → ¬ (get_or labels k version ≡ description)
-no_description k h n e =
-    let t : T (eqb k 2 || not (eqb (action (get_or labels k version)) 7)) = tested_at (λ j. eqb j 2 || not (eqb (action (get_or labels j version)) 7)) 32 tt k h in
-    (rw (ne_eqb k 2 n, e) at t)
+-- what is done where no DESCRIPTION stands
+abbrev pub NoDescription : Action → Type 0
+NoDescription A.Description = ⊥
+NoDescription A.Misplaced = Unit {0}
+NoDescription A.Skipped = Unit {0}
+NoDescription A.Exponent = Unit {0}
+NoDescription (A.Record i) = Unit {0}
+NoDescription A.System = Unit {0}
+NoDescription A.AuxStart = Unit {0}
+NoDescription A.HeaderEnd = Unit {0}
+
+-- a record of the header is no system
+abbrev below_15 : Action → Bool
+below_15 (A.Record i) = ltb i 15
+below_15 A.Description = true
+below_15 A.Misplaced = true
+below_15 A.Skipped = true
+below_15 A.Exponent = true
+below_15 A.System = true
+below_15 A.AuxStart = true
+below_15 A.HeaderEnd = true
+
+pub place_below : (k i : ℕ) → k < 32 → get_or (map action labels) k A.Misplaced ≡ A.Record i → i < 15
+place_below k i h e =
+    let t : T (below_15 (get_or (map action labels) k A.Misplaced)) = tested_at (λ j. below_15 (get_or (map action labels) j A.Misplaced)) 32 tt k h in
+    ltb→lt i 15 (rw e at t)
+
+-- which label an action is of
+described_by : (l : Label) → action l ≡ A.Description → l ≡ description
+described_by description e = refl
+described_by comment e = cc
+described_by exponent e = cc
+described_by (head i) e = cc
+described_by system e = cc
+described_by aux_start e = cc
+described_by header_end e = cc
+described_by version e = cc
+described_by aux_end e = cc
+described_by (start k) e = cc
+described_by (end k) e = cc
+described_by epoch e = cc
+described_by block e = cc
+described_by file_end e = cc
 
 -- ---- a row
 
@@ -260,11 +324,11 @@ module _ (s : State) (c : Version) (bs line : List ℕ) (fits : length line ≤ 
   counted : length before ≡ s.descriptions
   counted = lines_length s.descriptions bs
 
-  pub unknown_is : s.aux ≡ false → 32 ≤ number_of line → (x : Stepped) → told x ≡ refused (fault 4 61) → Steps s c bs (pad line) x bs
+  pub unknown_is : s.aux ≡ false → 32 ≤ number_of line → Steps s c bs (pad line) (Err (fault 4 61)) s bs
   unfolding turned head_step get amap
-  unknown_is shut h x e =
+  unknown_is shut h =
       record {
-        goes = e ∙ (rw (ap mode shut, label_unknown line fits h) refl);
+        goes = rw (ap mode shut, label_unknown line fits h) refl;
         lines = rw (ap mode shut, label_unknown line fits h) refl;
       }
 
@@ -273,25 +337,28 @@ module _ (s : State) (c : Version) (bs line : List ℕ) (fits : length line ≤ 
     unfolding turned head_step get
     known = rw (ap mode shut, label_known line fits (rw e at h), ← e) refl
 
-    pub known_is : ¬ (k ≡ 2) → (x : Stepped) → told x ≡ acted (get_or (map action labels) k 0) (get_or (map place_at labels) k 0) s c (pad line) → Steps s c bs (pad line) x bs
-    known_is n x q =
-        let l = get_or labels k version in
-        let d = no_description k h n in
-        let p : amap (gone c (slots_of s) s.descriptions) (turned s c before (pad line)) ≡ acted (get_or (map action labels) k 0) (get_or (map place_at labels) k 0) s c (pad line) =
-        rw known (by_action s c before counted (pad line) shut l d ∙ (rw (← (get_or-map action labels k version), ← (get_or-map place_at labels k version)) refl)) in
-        record {
-          goes = q ∙ sym p;
-          lines = sym (rw known (after_same before bs w.tidy _ (head_same c s.exponent (slots_of s) before (pad line) l d)));
-        }
+    module _ (a : Action) (q : get_or (map action labels) k A.Misplaced ≡ a) where
+      its : action (get_or labels k version) ≡ a
+      its = sym (get_or-map action labels k version) ∙ q
 
-    pub description_step : k ≡ 2 → (x : Stepped) (bs' : List ℕ) → Describes s bs (pad line) x bs' → Steps s c bs (pad line) x bs'
-    unfolding at_head
-    description_step q x bs' y =
-        let p : turned s c before (pad line) ≡ on_description s.exponent (slots_of s) before (pad line) = known ∙ (rw q refl) in
-        record {
-          goes = y.goes ∙ sym (rw p (description_is s c before counted (pad line) shut));
-          lines = y.lines ∙ ap (λ z. after z bs) (sym p);
-        }
+      pub known_is : NoDescription a → (x : Result (Held Header) Fault) (s' : State) → told x s' ≡ acted a s c (pad line) → Steps s c bs (pad line) x s' bs
+      known_is n x s' p =
+          let l = get_or labels k version in
+          let d : ¬ (l ≡ description) = λ o. subst NoDescription (sym its ∙ ap action o) n in
+          record {
+            goes = p ∙ ap (λ (b : Action). acted b s c (pad line)) (sym its) ∙ sym (ap (amap (gone c (slots_of s) s.descriptions)) known ∙ by_action s c before counted (pad line) shut l d);
+            lines = sym (rw known (after_same before bs w.tidy _ (head_same c s.exponent (slots_of s) before (pad line) l d)));
+          }
+
+      pub description_step : a ≡ A.Description → (x : Result (Held Header) Fault) (y : Result (Unit {0}) Fault) (s' : State) (bs' : List ℕ) → told x s' ≡ told_kept y s'
+          → Describes s bs (pad line) y s' bs' → Steps s c bs (pad line) x s' bs'
+      unfolding at_head
+      description_step o x y s' bs' t z =
+          let p : turned s c before (pad line) ≡ on_description s.exponent (slots_of s) before (pad line) = known ∙ (rw (described_by (get_or labels k version) (its ∙ o)) refl) in
+          record {
+            goes = t ∙ z.goes ∙ sym (rw p (description_is s c before counted (pad line) shut));
+            lines = z.lines ∙ ap (λ u. after u bs) (sym p);
+          }
 
   aux_ended : s.aux ≡ true → number_of line ≡ 21 → turned s c before (pad line) ≡ ok (more plain s.exponent (slots_of s) before)
   unfolding turned head_step fields scan bind
@@ -303,18 +370,18 @@ module _ (s : State) (c : Version) (bs line : List ℕ) (fits : length line ≤ 
   unfolding turned head_step
   aux_skipped o n = rw (ap mode o, pick_no (same (drop 60 (pad line)) (name aux_end)) _ _ (λ e. n (aux_number line fits e))) refl
 
-  pub aux_is : s.aux ≡ true → (k : ℕ) → k ≡ number_of line → (x : Stepped)
-      → told x ≡ cond (eqb k 21) (ok (went plain s.exponent (slots_of s) s.descriptions)) (ok (went (mode s.aux) s.exponent (slots_of s) s.descriptions))
-      → Steps s c bs (pad line) x bs
-  unfolding amap
-  aux_is o k e x = by (eqb k 21) refl
+  abbrev in_aux : Bool → State
+  in_aux b =
+      record { aux = b; exponent = s.exponent; values = s.values; program = s.program; agency = s.agency; date = s.date; mapping = s.mapping; observables = s.observables; descriptions = s.descriptions }
+
+  pub aux_is : s.aux ≡ true → (k : ℕ) → k ≡ number_of line → Steps s c bs (pad line) (Ok None) (in_aux (not (eqb k 21))) bs
+  unfolding amap slots_of slot
+  aux_is o k e = by (eqb k 21) refl
     where
-      by : (t : Bool) → eqb k 21 ≡ t
-          → told x ≡ cond t (ok (went plain s.exponent (slots_of s) s.descriptions)) (ok (went (mode s.aux) s.exponent (slots_of s) s.descriptions))
-          → Steps s c bs (pad line) x bs
-      by true q g =
+      by : (t : Bool) → eqb k 21 ≡ t → Steps s c bs (pad line) (Ok None) (in_aux (not t)) bs
+      by true q =
           let p = aux_ended o (sym e ∙ eqb-true k 21 q) in
-          record { goes = g ∙ sym (rw (p, counted) refl); lines = sym (rw p w.tidy) }
-      by false q g =
+          record { goes = sym (rw (p, counted) refl); lines = sym (rw p w.tidy) }
+      by false q =
           let p = aux_skipped o (λ n. eqb-false k 21 q (e ∙ n)) in
-          record { goes = g ∙ sym (rw (p, counted, o) refl); lines = sym (rw p w.tidy) }
+          record { goes = sym (rw (p, counted) refl); lines = sym (rw p w.tidy) }

@@ -1,29 +1,25 @@
+use Rattle.std.specs.Prelude.{Option, Some, None}
 -- The version record by what the code looks at.
 use mathlib.Core.Path.{◌≡◌, refl, sym, ap, ◌∙◌}
-use mathlib.Core.Bool.{Bool, true, false, ◌&&◌}
 use mathlib.Core.Option.{none, some}
 use mathlib.Core.List.{List, [], ◌∷◌}
-use Prim.Native.Nat.{ℕ, suc, ◌≤◌, ◌<◌}
+use Prim.Native.Nat.{ℕ, zero, suc, ◌≤◌, ◌<◌}
 use native.Mathlib.Omega.{arith}
-use lib.Dec.{eqb}
 use lib.ListN.{length, get_or, drop}
 use lib.IntN.{ℤ}
-use Rattle.kit.specs.Answer.{Answer, ok, refused, bind, amap, pick, same}
+use Rattle.kit.specs.Answer.{Answer, ok, refused, bind, amap, same}
 use Rattle.kit.proofs.AnswerLaws.{need_yes, need_no, pick_yes, pick_no}
 use Rattle.forms.specs.Form as form
 use Rattle.forms.specs.Read.{read_field}
 use Rattle.forms.specs.Columns.{columns}
 use Rattle.forms.proofs.ColumnLaws.{one_column}
-use Rattle.forms.specs.declared.Field.{Field}
-use Rattle.forms.specs.declared.Field.TheVariants.{Number, Bad}
-use Rattle.forms.specs.declared.Found.{Found}
-use Rattle.forms.specs.declared.Found.TheVariants.{At, Nowhere}
 use Rattle.layout.specs.Text.{pad}
-use Rattle.layout.specs.Labels.{version, name, layout, codes}
-use Rattle.layout.specs.Names.{holds, place_of, names, number_of}
-use Rattle.reading.specs.Feed.{Fault, fault}
+use Rattle.layout.specs.Labels.{version, name, layout}
+use Rattle.layout.specs.Names.{names, number_of}
+use Rattle.reading.specs.declared.Fault.{Fault}
+use Rattle.reading.specs.Feed.{fault}
 use Rattle.reading.specs.Fields.{number, fields, unless, blank_to}
-use Rattle.reading.proofs.LabelLaws.{placed, placed_yes, placed_no, place_is, named, version_number}
+use Rattle.reading.proofs.LabelLaws.{named, version_number}
 use Rattle.reading.specs.Head.{place, next}
 use Rattle.reading.specs.Read.{versioned, version_of}
 use Rattle.reading.proofs.ScanLaws.{read_is}
@@ -41,61 +37,30 @@ type_no line n e = let f : get_or line 20 32 ∷ [] ≡ 73 ∷ [] = sym (one_col
 
 -- ---- the code
 
--- columns that hold a name of three bytes
-three_and : (a b c : Bool) → ((a && b) && c) ≡ (a && (b && (c && true)))
-three_and true true true = refl
-three_and true true false = refl
-three_and true false c = refl
-three_and false b c = refl
-
-pub three_hold : (s : List ℕ) (a : ℕ) (n : List ℕ) → length n ≡ 3
-    → ((eqb (get_or s a 32) (get_or n 0 0) && eqb (get_or s (suc a) 32) (get_or n 1 0)) && eqb (get_or s (suc (suc a)) 32) (get_or n 2 0)) ≡ holds s a n
-three_hold s a [] e = absurd (omega arith)
-three_hold s a (x ∷ []) e = absurd (omega arith)
-three_hold s a (x ∷ y ∷ []) e = absurd (omega arith)
-three_hold s a (x ∷ y ∷ z ∷ []) e = three_and (eqb (get_or s a 32) x) (eqb (get_or s (suc a) 32) y) (eqb (get_or s (suc (suc a)) 32) z)
-three_hold s a (x ∷ y ∷ z ∷ w ∷ n) e = absurd (omega arith)
-
 module _ (u : List ℕ) where
-  found : (ns : List (List ℕ)) → placed u ns < length ns → place same u ns ≡ some (placed u ns)
+  pub place_here : (ns : List (List ℕ)) (i : ℕ) → i < length ns → get_or ns i [] ≡ u → ((j : ℕ) → j < i → ¬ (get_or ns j [] ≡ u)) → place same u ns ≡ some i
   unfolding place
-  found [] h = absurd (omega arith)
-  found (n ∷ ns) h = by (same u n) (found ns)
-    where
-      by : Dec (u ≡ n) → (placed u ns < length ns → place same u ns ≡ some (placed u ns)) → pick (same u n) (some 0) (next (place same u ns)) ≡ some (placed u (n ∷ ns))
-      by (yes e) ih = pick_yes (same u n) (some 0) (next (place same u ns)) e ∙ ap some (sym (placed_yes u n ns e))
-      by (no e) ih =
-          let k = placed_no u n ns e in
-          pick_no (same u n) (some 0) (next (place same u ns)) e ∙ ap next (ih (omega arith)) ∙ ap some (sym k)
+  place_here [] i h e n = absurd (omega arith)
+  place_here (x ∷ ns) zero h e n = pick_yes (same u x) (some 0) (next (place same u ns)) (sym e)
+  place_here (x ∷ ns) (suc i) h e n =
+      pick_no (same u x) (some 0) (next (place same u ns)) (λ q. n 0 (omega arith) (sym q))
+      ∙ ap next (place_here ns i (omega arith) e (λ j l. n (suc j) (omega arith)))
 
-  lost : (ns : List (List ℕ)) → length ns ≤ placed u ns → place same u ns ≡ none
+  pub place_nowhere : (ns : List (List ℕ)) → ((j : ℕ) → j < length ns → ¬ (get_or ns j [] ≡ u)) → place same u ns ≡ none
   unfolding place
-  lost [] h = refl
-  lost (n ∷ ns) h = by (same u n) (lost ns)
-    where
-      by : Dec (u ≡ n) → (length ns ≤ placed u ns → place same u ns ≡ none) → pick (same u n) (some 0) (next (place same u ns)) ≡ none
-      by (yes e) ih = let k = placed_yes u n ns e in absurd (omega arith)
-      by (no e) ih = let k = placed_no u n ns e in pick_no (same u n) (some 0) (next (place same u ns)) e ∙ ap next (ih (omega arith))
-
-module _ (line : List ℕ) (k : ℕ) (e : k ≡ place_of line 40 codes) where
-  in_codes : k ≡ placed (columns line 40 3) codes
-  in_codes = e ∙ place_is line 40 3 codes tt
-
-  pub code_known : k < 11 → place same (columns line 40 3) codes ≡ some k
-  code_known h = found (columns line 40 3) codes (rw in_codes at h) ∙ ap some (sym in_codes)
-
-  pub code_unknown : 11 ≤ k → place same (columns line 40 3) codes ≡ none
-  code_unknown h = lost (columns line 40 3) codes (rw in_codes at h)
+  place_nowhere [] n = refl
+  place_nowhere (x ∷ ns) n =
+      pick_no (same u x) (some 0) (next (place same u ns)) (λ q. n 0 (omega arith) (sym q)) ∙ ap next (place_nowhere ns (λ j l. n (suc j) (omega arith)))
 
 -- ---- the record
 
-version_by : {A : Type 0} (z : Field) (f : Found) (t u : List ℕ) (k : ℤ → List ℕ → List ℕ → Answer Fault A)
+version_by : {A : Type 0} (z : Option ℤ) (f : Option ℕ) (t u : List ℕ) (k : ℤ → List ℕ → List ℕ → Answer Fault A)
     → bind {B = ℤ × (List ℕ × (List ℕ × Unit {0}))} (number z 1 (λ x. amap (λ vs. (x, vs)) (unless {A = List ℕ × (List ℕ × Unit {0})} f (amap (λ vs. (t, vs)) (amap (λ vs. (u, vs)) (ok tt)))))) (λ v. k v.0 v.1.0 v.1.1.0)
     ≡ bind (one_of z f) (λ v. k v.0 t u)
 unfolding bind amap number
-version_by (Number z) (At c) t u k = refl
-version_by (Number z) Nowhere t u k = refl
-version_by Bad f t u k = refl
+version_by (Some z) (Some c) t u k = refl
+version_by (Some z) None t u k = refl
+version_by None f t u k = refl
 
 module _ (line : List ℕ) (fits : length line ≤ 80) where
   pub not_version : ¬ (number_of line ≡ 0) → version_of (pad line) ≡ refused (fault 3 61)

@@ -12,7 +12,7 @@ use Rattle.kit.proofs.AnswerLaws.{pick_no}
 use Rattle.kit.proofs.TruthLaws.{clash}
 use Rattle.mapset.specs.MapSet.{MapSet}
 use Rattle.mapset.specs.Described.{FullTexts}
-use Rattle.reading.specs.Feed.{Why}
+use Rattle.reading.specs.declared.Why.{Why}
 use Rattle.reading.specs.Read.{read}
 use Rattle.reading.proofs.Exact.{made_read}
 use Rattle.areas.specs.Flat.{areas}

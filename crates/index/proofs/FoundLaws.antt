@@ -18,7 +18,8 @@ use Rattle.layout.specs.Text.{Clean, pad}
 use Rattle.layout.specs.Records.{Vals, Cells, ValueRows, v_last, v_full}
 use Rattle.layout.specs.Labels.{name, block, layout, Rec}
 use Rattle.layout.specs.Layout.{Opens}
-use Rattle.reading.specs.Feed.{Fault, row, front, opens?, split, feed, NoRow}
+use Rattle.reading.specs.declared.Fault.{Fault}
+use Rattle.reading.specs.Feed.{row, front, opens?, split, feed, NoRow}
 use Rattle.reading.specs.Fields.{fields, cells}
 use Rattle.reading.specs.Maps.{on_row}
 use Rattle.reading.proofs.LineLaws.{padded}

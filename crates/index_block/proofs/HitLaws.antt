@@ -1,4 +1,5 @@
 -- A block's values, line by line, as the code goes over them.
+use Rattle.std.specs.Prelude.{Option, Some, None, Ok, Err}
 use mathlib.Core.Path.{◌≡◌, refl, sym, ap, subst, ◌∙◌}
 use mathlib.Core.Bool.{true}
 use mathlib.Core.Option.{none, some}
@@ -16,10 +17,9 @@ use Rattle.kit.proofs.TruthLaws.{clash}
 use Rattle.kit.proofs.ListLaws.{drop_take}
 use Rattle.forms.specs.Form.{I}
 use Rattle.forms.specs.Read.{read_field, is_number}
-use Rattle.forms.specs.declared.Field.{Field}
-use Rattle.forms.specs.declared.Field.TheVariants.{Number, Bad}
 use Rattle.layout.specs.Text.{pad}
-use Rattle.reading.specs.Feed.{Fault, fault, NoRow}
+use Rattle.reading.specs.declared.Fault.{Fault}
+use Rattle.reading.specs.Feed.{fault, NoRow}
 use Rattle.reading.specs.Fields.{cells, number}
 use Rattle.reading.specs.Maps.{on_row}
 use Rattle.reading.proofs.LineLaws.{padded}
@@ -28,13 +28,10 @@ use Rattle.read_lines.specs.Cuts.{cuts}
 use Rattle.read_lines.specs.Lines as L
 use Rattle.read_lines.specs.declared.Line.TheVariants as line
 use Rattle.read_values.specs.Values.{value_field, Judges}
-use Rattle.read_values.specs.declared.Cells.{Cells}
-use Rattle.read_values.specs.declared.Cells.TheVariants.{Fine, Wrong}
 use Rattle.read_values.proofs.ValueLaws.{field_of, field_short, field_whole}
 use Rattle.index.specs.Found.{in_front, values_at}
 use Rattle.index.proofs.FoundLaws.{in_front_none, in_front_twice, skip_line, row_line, wrong_line, no_values_ahead}
-use Rattle.index_block.specs.Hits.{between, values_from, Skips, Holds, Stepped, spot_of, Reads, At}
-use Rattle.index_block.specs.declared.Step.{Step}
+use Rattle.index_block.specs.Hits.{between, values_from, Skips, Holds, spot_of, Reads, At}
 
 -- ---- a field of a row
 
@@ -51,8 +48,8 @@ module _ (t : List ℕ) (at c : ℕ) (inside : at ≤ length t) where
   pub at_over : L.Stands (drop at t) line.Over → values_from t at c ≡ none
   at_over h = no_values_ahead c 0 (drop at t) (subst NoRow (sym (h 0)) tt)
 
-  pub at_bad : (k col : ℕ) → L.Stands (drop at t) (line.Bad k col) → values_from t at c ≡ none
-  at_bad k col h = no_values_ahead c 0 (drop at t) (subst NoRow (sym (h 0)) tt)
+  pub at_bad : (f : Fault) → L.Stands (drop at t) (line.Bad f) → values_from t at c ≡ none
+  at_bad f h = no_values_ahead c 0 (drop at t) (subst NoRow (sym (h 0)) tt)
 
   -- where the next line starts
   onward : (next : ℕ) → next ≤ length (drop at t) → at + next ≤ length t
@@ -77,16 +74,15 @@ module _ (t : List ℕ) (at c : ℕ) (inside : at ≤ length t) where
     judged : (m : ℕ) → m ≡ on_row c → (r : Answer Fault (List ℤ)) → cells 1 m (pad (take (at + w - at) (drop at t))) ≡ r → cells 1 (on_row c) (pad (take w (drop at t))) ≡ r
     judged m e r x = (λ i. cells 1 (sym e i) (pad (sym (upto w) i))) ∙ x
 
-    pub at_wrong : (m : ℕ) → m ≡ on_row c → (r : Cells) (col : ℕ) → Judges r (cells 1 m (pad (take (at + w - at) (drop at t)))) → r ≡ Wrong col → values_from t at c ≡ none
-    at_wrong m e r col j x =
+    pub at_wrong : (m : ℕ) → m ≡ on_row c → (f : Fault) → Judges (Err f) (cells 1 m (pad (take (at + w - at) (drop at t)))) → values_from t at c ≡ none
+    at_wrong m e f j =
         let s = h.starts in
-        let y = judged m e (refused (fault 6 col)) (subst (λ o. Judges o (cells 1 m (pad (take (at + w - at) (drop at t))))) x j) in
+        let y = judged m e (refused f) j in
         ap (values_at c) s.cut ∙ wrong_line c (take w (drop at t)) s.end (cuts (drop next (drop at t))) h.clean h.full y
 
-    pub at_row : (m : ℕ) → m ≡ on_row c → (r : Cells) → Judges r (cells 1 m (pad (take (at + w - at) (drop at t)))) → r ≡ Fine → Holds t at c (at + w) (at + next)
-    at_row m e r j x =
+    pub at_row : (m : ℕ) → m ≡ on_row c → Judges (Ok tt) (cells 1 m (pad (take (at + w - at) (drop at t)))) → Holds t at c (at + w) (at + next)
+    at_row m e q =
         let s = h.starts in
-        let q = subst (λ o. Judges o (cells 1 m (pad (take (at + w - at) (drop at t))))) x j in
         let zs : List ℤ = q.0 in
         let y = judged m e (ok zs) q.1 in
         let u : List ℕ = drop at t in
@@ -111,20 +107,20 @@ module _ (c m : ℕ) (bs : List ℕ) (zs : List ℤ) (z : ℤ) where
   tail_of (ok ys) e = (ys, (refl, cc))
   tail_of (refused w) e = clash (cc)
 
-  number_of : (f : Field) (g : ℤ → Answer Fault (List ℤ)) → number f c g ≡ ok zs → (y : ℤ) × ((f ≡ Number y) × (g y ≡ ok zs))
+  number_of : (f : Option ℤ) (g : ℤ → Answer Fault (List ℤ)) → number f c g ≡ ok zs → (y : ℤ) × ((f ≡ Some y) × (g y ≡ ok zs))
   unfolding number
-  number_of (Number y) g e = (y, (refl, e))
-  number_of Bad g e = clash (cc)
+  number_of (Some y) g e = (y, (refl, e))
+  number_of None g e = clash (cc)
 
 -- the first field, or one of those behind it
-field_or : (bs : List ℕ) (z : ℤ) (ys zs : List ℤ) (k : ℕ) → read_field I (take 5 bs) ≡ Number z → zs ≡ z ∷ ys
-    → ((j : ℕ) → suc j ≡ k → read_field I (take 5 (drop (j * 5) (drop 5 bs))) ≡ Number (get_or ys j (pos 0))) → read_field I (take 5 (drop (k * 5) bs)) ≡ Number (get_or zs k (pos 0))
-field_or bs z ys zs zero a b f = a ∙ ap (λ (l : List ℤ). Number (get_or l 0 (pos 0))) (sym b)
+field_or : (bs : List ℕ) (z : ℤ) (ys zs : List ℤ) (k : ℕ) → read_field I (take 5 bs) ≡ Some z → zs ≡ z ∷ ys
+    → ((j : ℕ) → suc j ≡ k → read_field I (take 5 (drop (j * 5) (drop 5 bs))) ≡ Some (get_or ys j (pos 0))) → read_field I (take 5 (drop (k * 5) bs)) ≡ Some (get_or zs k (pos 0))
+field_or bs z ys zs zero a b f = a ∙ ap (λ (l : List ℤ). Some (get_or l 0 (pos 0))) (sym b)
 field_or bs z ys zs (suc j) a b f =
     let e : suc j * 5 ≡ 5 + j * 5 = omega arith in
-    ap (λ i. read_field I (take 5 (drop i bs))) e ∙ ap (λ l. read_field I (take 5 l)) (sym (drop-drop (j * 5) 5 bs)) ∙ f j refl ∙ ap (λ (l : List ℤ). Number (get_or l (suc j) (pos 0))) (sym b)
+    ap (λ i. read_field I (take 5 (drop i bs))) e ∙ ap (λ l. read_field I (take 5 l)) (sym (drop-drop (j * 5) 5 bs)) ∙ f j refl ∙ ap (λ (l : List ℤ). Some (get_or l (suc j) (pos 0))) (sym b)
 
-cells_field : (m c : ℕ) (bs : List ℕ) (zs : List ℤ) → cells c m bs ≡ ok zs → (k : ℕ) → k < m → read_field I (take 5 (drop (k * 5) bs)) ≡ Number (get_or zs k (pos 0))
+cells_field : (m c : ℕ) (bs : List ℕ) (zs : List ℤ) → cells c m bs ≡ ok zs → (k : ℕ) → k < m → read_field I (take 5 (drop (k * 5) bs)) ≡ Some (get_or zs k (pos 0))
 unfolding cells
 cells_field zero c bs zs e k h = absurd (omega arith)
 cells_field (suc m) c bs zs e k h =
@@ -164,7 +160,7 @@ module _ (t : List ℕ) (at c end to : ℕ) (h : Holds t at c end to) where
       let g = h.fits in
       let d = length-drop at t in
       let z : length (take n u) ≡ n = length-take-le n u (omega arith) in
-      let f : value_field (take n u) k ≡ Number (get_or h.have k (pos 0)) = field_of (take n u) k (omega arith) (omega arith) ∙ cells_field (on_row c) 1 (pad (take n u)) h.have h.row k l in
+      let f : value_field (take n u) k ≡ Some (get_or h.have k (pos 0)) = field_of (take n u) k (omega arith) (omega arith) ∙ cells_field (on_row c) 1 (pad (take n u)) h.have h.row k l in
       let r : k * 5 + 5 ≤ n = subst (λ j. k * 5 + 5 ≤ j) z (room (take n u) k (ap is_number f)) in
       let p : k * 5 + 5 - k * 5 ≡ 5 = omega arith in
       let q : at + k * 5 + 5 - (at + k * 5) ≡ 5 = omega arith in
@@ -294,6 +290,3 @@ module _ {t : List ℕ} {from c column at left spot : ℕ} (g : Going t from c c
               ∙ ap (λ j. some (g.have ++ h.have, j)) (between_join t from at end (omega arith) (omega arith));
           reads = spot_reads s e (omega arith);
         }
-
-pub stepped : (t : List ℕ) (at c : ℕ) (r o : Step) → Stepped t at c r → r ≡ o → Stepped t at c o
-stepped t at c r o h e = subst (Stepped t at c) e h

@@ -25,7 +25,8 @@ use Rattle.layout.specs.Records.{Vals}
 use Rattle.layout.specs.Labels.{Label, version, description, comment, system, exponent, aux_start, aux_end, header_end, epoch, block, file_end, head, start, end, name, labels, layout}
 use Rattle.layout.specs.Layout.{per_map, node, HeightOf, Opens}
 use Rattle.layout.specs.Names.{names, number_of}
-use Rattle.reading.specs.Feed.{Fault, feed, split, NoRow}
+use Rattle.reading.specs.declared.Fault.{Fault}
+use Rattle.reading.specs.Feed.{feed, split, NoRow}
 use Rattle.reading.specs.Fields.{lookup, label, fields}
 use Rattle.reading.proofs.LabelLaws.{label_known, label_unknown, named}
 use Rattle.reading.proofs.RecordLaws.{known_maps}
@@ -38,7 +39,8 @@ use Rattle.index.specs.Found.{clean?, agrees?, BlockFound, in_front, on_ok, valu
 use Rattle.index.proofs.FoundLaws.{opening_found, named_full, firsts, cuts_split, first_rowless}
 use Rattle.index_block.specs.Hits.{between, values_from, At, Hits, OpensAs, block_from}
 use Rattle.index_block.specs.declared.Hit.{Hit}
-use Rattle.index_block.specs.declared.Hit.TheVariants as hit
+use Rattle.std.specs.Prelude.{Option as Perhaps, Some, None}
+use Rattle.std.specs.Option.{is_some}
 use Rattle.index_block.proofs.HitLaws.{between_join}
 
 -- ---- the label
@@ -94,18 +96,26 @@ module _ (l : List ℕ) (fits : length l ≤ 80) where
 
 -- ---- the five numbers
 
-differing_none : (a : Axis) (x y z : ℤ) → differing a x y z ≡ 0 → (x ≡ a.first) × ((y ≡ a.last) × (z ≡ a.step))
+differing_none : (a : Axis) (x y z : ℤ) → differing a x y z ≡ None → (x ≡ a.first) × ((y ≡ a.last) × (z ≡ a.step))
 unfolding differing
 differing_none a x y z =
-    pick_elim (λ n. n ≡ 0 → (x ≡ a.first) × ((y ≡ a.last) × (z ≡ a.step))) (int? x a.first)
-    (λ p. pick_elim (λ n. n ≡ 0 → (x ≡ a.first) × ((y ≡ a.last) × (z ≡ a.step))) (int? y a.last)
-    (λ q. pick_elim (λ n. n ≡ 0 → (x ≡ a.first) × ((y ≡ a.last) × (z ≡ a.step))) (int? z a.step) (λ r _. (p, (q, r))) (λ _ e. absurd (omega arith)))
-    (λ _ e. absurd (omega arith)))
-    (λ _ e. absurd (omega arith))
+    pick_elim (λ n. n ≡ None → (x ≡ a.first) × ((y ≡ a.last) × (z ≡ a.step))) (int? x a.first)
+    (λ p. pick_elim (λ n. n ≡ None → (x ≡ a.first) × ((y ≡ a.last) × (z ≡ a.step))) (int? y a.last)
+    (λ q. pick_elim (λ n. n ≡ None → (x ≡ a.first) × ((y ≡ a.last) × (z ≡ a.step))) (int? z a.step) (λ r _. (p, (q, r))) (λ _ e. clash (cc)))
+    (λ _ e. clash (cc)))
+    (λ _ e. clash (cc))
 
-none_differing : (a : Axis) (x y z : ℤ) → x ≡ a.first → y ≡ a.last → z ≡ a.step → differing a x y z ≡ 0
+none_differing : (a : Axis) (x y z : ℤ) → x ≡ a.first → y ≡ a.last → z ≡ a.step → differing a x y z ≡ None
 unfolding differing
 none_differing a x y z p q r = pick_yes (int? x a.first) _ _ p ∙ pick_yes (int? y a.last) _ _ q ∙ pick_yes (int? z a.step) _ _ r
+
+pub some_found : (o : Perhaps ℕ) → true ≡ is_some o → ¬ (o ≡ None)
+some_found (Some x) e f = clash (cc)
+some_found None e f = clash (cc)
+
+pub none_found : (o : Perhaps ℕ) → false ≡ is_some o → o ≡ None
+none_found (Some x) e = clash (cc)
+none_found None e = refl
 
 module _ (h : Header) (d left : ℕ) (u : d < per_map h) (e : left ≡ per_map h - d) (v : Vals (layout block)) where
   back : per_map h - left ≡ d
@@ -117,14 +127,14 @@ module _ (h : Header) (d left : ℕ) (u : d < per_map h) (e : left ≡ per_map h
   pub row_wrong : truth (int? v.0 (node h.grid.latitudes ((per_map h - left) % rows h.grid))) ≡ false → false ≡ truth (agrees? h d v)
   row_wrong f = fails (agrees? h d v) (λ o. truth_false (int? v.0 (node h.grid.latitudes ((per_map h - left) % rows h.grid))) f (subst Row (sym back) o.latitude))
 
-  pub line_wrong : ¬ (differing h.grid.longitudes v.1.0 v.1.1.0 v.1.1.1.0 ≡ 0) → false ≡ truth (agrees? h d v)
+  pub line_wrong : ¬ (differing h.grid.longitudes v.1.0 v.1.1.0 v.1.1.1.0 ≡ None) → false ≡ truth (agrees? h d v)
   line_wrong n = fails (agrees? h d v) (λ o. n (none_differing h.grid.longitudes _ _ _ o.first o.last o.step))
 
-  pub height_wrong : truth (height? h (per_map h - left) v.1.1.1.1.0) ≡ false → false ≡ truth (agrees? h d v)
+  height_wrong : truth (height? h (per_map h - left) v.1.1.1.1.0) ≡ false → false ≡ truth (agrees? h d v)
   height_wrong f =
       fails (agrees? h d v) (λ o. truth_false (height? h (per_map h - left) v.1.1.1.1.0) f (subst (λ j. HeightOf h j v.1.1.1.1.0) (sym back) o.height))
 
-  pub all_right : truth (int? v.0 (node h.grid.latitudes ((per_map h - left) % rows h.grid))) ≡ true → differing h.grid.longitudes v.1.0 v.1.1.0 v.1.1.1.0 ≡ 0
+  all_right : truth (int? v.0 (node h.grid.latitudes ((per_map h - left) % rows h.grid))) ≡ true → differing h.grid.longitudes v.1.0 v.1.1.0 v.1.1.1.0 ≡ None
       → truth (height? h (per_map h - left) v.1.1.1.1.0) ≡ true → true ≡ truth (agrees? h d v)
   all_right f g k =
       let a = differing_none h.grid.longitudes _ _ _ g in
@@ -136,6 +146,11 @@ module _ (h : Header) (d left : ℕ) (u : d < per_map h) (e : left ≡ per_map h
         step = a.1.1;
         height = subst (λ j. HeightOf h j v.1.1.1.1.0) back (truth_true (height? h (per_map h - left) v.1.1.1.1.0) k);
       })
+
+  pub height_tells : truth (int? v.0 (node h.grid.latitudes ((per_map h - left) % rows h.grid))) ≡ true → differing h.grid.longitudes v.1.0 v.1.1.0 v.1.1.1.0 ≡ None
+      → (b : Bool) → b ≡ truth (height? h (per_map h - left) v.1.1.1.1.0) → b ≡ truth (agrees? h d v)
+  height_tells f g true q = all_right f g (sym q)
+  height_tells f g false q = height_wrong (sym q)
 
 -- ---- the line
 
@@ -195,8 +210,8 @@ module _ (h : Header) (d : ℕ) where
     pub from_over : L.Stands (drop at t) line.Over → block_from h d t at ≡ none
     from_over s = rowless (drop at t) (subst NoRow (sym (s 0)) tt)
 
-    pub from_bad : (k col : ℕ) → L.Stands (drop at t) (line.Bad k col) → block_from h d t at ≡ none
-    from_bad k col s = rowless (drop at t) (subst NoRow (sym (s 0)) tt)
+    pub from_bad : (f : Fault) → L.Stands (drop at t) (line.Bad f) → block_from h d t at ≡ none
+    from_bad f s = rowless (drop at t) (subst NoRow (sym (s 0)) tt)
 
     pub from_skip : (next : ℕ) → L.Skips (drop at t) next → block_from h d t at ≡ none
     from_skip next s = ap (block_at h d) s.starts.cut ∙ blank_none _ _ _ s.blank
@@ -218,25 +233,20 @@ module _ (h : Header) (d : ℕ) where
           ∙ opening_found h d (take w (drop at t)) s.starts.end (cuts (drop next (drop at t))) q.0 s.clean q.1.0 q.1.1.0 ∙ pick_yes (agrees? h d q.0) _ _ q.1.1.1
           ∙ (λ i. in_front [] ((sym s.starts.whole ∙ sym (upto next)) i) (values_at (columns h.grid) (cuts (drop-drop next at t i))))
 
-      hits_front : (column from : ℕ) (g f : BlockFound) → at ≤ from → f ≡ in_front [] (between t at from) g → (r : Hit) → Hits t from column g r → Hits t at column f r
-      hits_front column from g f l e (hit.At en spot) k =
+      hits_front : (column from : ℕ) (g f : BlockFound) → at ≤ from → f ≡ in_front [] (between t at from) g → (r : Perhaps Hit) → Hits t from column g r → Hits t at column f r
+      hits_front column from g f l e (Some o) k =
           let a = k.ahead in
           record {
             ahead = omega arith;
             within = k.within;
             have = k.have;
-            found = e ∙ ap (in_front [] (between t at from)) k.found ∙ ap (λ j. some (k.have, j)) (between_join t at from en l a);
+            found = e ∙ ap (in_front [] (between t at from)) k.found ∙ ap (λ j. some (k.have, j)) (between_join t at from o.end l a);
             reads = k.reads;
           }
-      hits_front column from g f l e hit.Nothing k = e ∙ ap (in_front [] (between t at from)) k
+      hits_front column from g f l e None k = e ∙ ap (in_front [] (between t at from)) k
 
-      pub from_row : (column c : ℕ) → c ≡ columns h.grid → (b : Bool) → OpensAs h d (take (at + w - at) (drop at t)) b → b ≡ true → (r : Hit)
+      pub from_row : (column c : ℕ) → c ≡ columns h.grid → (b : Bool) → OpensAs h d (take (at + w - at) (drop at t)) b → b ≡ true → (r : Perhaps Hit)
           → Hits t (at + next) column (values_from t (at + next) c) r → Hits t at column (block_from h d t at) r
       from_row column c z b o e r k =
           hits_front column (at + next) (values_from t (at + next) c) (block_from h d t at) (omega arith)
           (from_opening b o e ∙ ap (λ j. in_front [] (between t at (at + next)) (values_from t (at + next) j)) (sym z)) r k
-
--- ---- what is hit, where it is told
-
-pub hits_as : (t : List ℕ) (at column : ℕ) (f : BlockFound) (r o : Hit) → Hits t at column f r → r ≡ o → Hits t at column f o
-hits_as t at column f r o h e = subst (Hits t at column f) e h

@@ -1,11 +1,10 @@
 -- A block's values from a line's start on, and what the code finds of them.
-use Rattle.std.specs.Prelude.{◌≡◌, Bool, true, false, List, [], ◌∷◌, ℕ, ◌+◌, ◌-◌, ◌*◌, ◌≤◌, ◌<◌, ℤ, pos, length, get_or, take, drop}
+use Rattle.std.specs.Prelude.{◌≡◌, Bool, true, false, List, [], ◌∷◌, ℕ, ◌+◌, ◌-◌, ◌*◌, ◌≤◌, ◌<◌, ℤ, pos, length, get_or, take, drop, Option, Some, None}
 use Rattle.std.proofs.Math.Option.{none, some}
 use Rattle.std.proofs.Math.Decide.{dec_le}
 use Rattle.kit.specs.Answer.{ok, pick}
 use Rattle.forms.specs.Form.{I}
 use Rattle.forms.specs.Read.{read_field}
-use Rattle.forms.specs.declared.Field.TheVariants.{Number}
 use Rattle.layout.specs.Text.{pad}
 use Rattle.mapset.specs.declared.Header.{Header}
 use Rattle.layout.specs.Records.{Vals}
@@ -16,9 +15,8 @@ use Rattle.reading.specs.Maps.{on_row}
 use Rattle.read_lines.specs.Cuts.{Cut, cuts}
 use Rattle.index.specs.Found.{BlockFound, in_front, values_at, block_at}
 use Rattle.index_block.specs.declared.Step.{Step}
-use Rattle.index_block.specs.declared.Step.TheVariants.{Skip, Row, Nothing}
+use Rattle.index_block.specs.declared.Step.TheVariants.{Skip, Row}
 use Rattle.index_block.specs.declared.Hit.{Hit}
-use Rattle.index_block.specs.declared.Hit.TheVariants as hit
 
 -- the bytes of a text from one position to another
 abbrev pub between : List ℕ → ℕ → ℕ → List ℕ
@@ -45,10 +43,10 @@ pub record Holds (t : List ℕ) (at c end to : ℕ) : Type 0 where
   pub row : cells 1 (on_row c) (pad (between t at end)) ≡ ok have
   pub on : values_from t at c ≡ pick (dec_le c 16) (some (have, between t at end)) (in_front have (between t at to) (values_from t to (c - 16)))
 
-abbrev pub Stepped : List ℕ → (at c : ℕ) → Step → Type 0
-Stepped t at c (Skip to) = Skips t at c to
-Stepped t at c (Row end to) = Holds t at c end to
-Stepped t at c Nothing = values_from t at c ≡ none
+abbrev pub Stepped : List ℕ → (at c : ℕ) → Option Step → Type 0
+Stepped t at c (Some (Skip to)) = Skips t at c to
+Stepped t at c (Some (Row end to)) = Holds t at c end to
+Stepped t at c None = values_from t at c ≡ none
 
 -- where the five columns of a value stand, if it is one of the row's after `done` others, else where they stood before
 unfoldable pub spot_of : (at done column spot : ℕ) → ℕ
@@ -57,7 +55,7 @@ spot_of at done column spot = pick (dec_le done column) (pick (dec_le (column - 
 -- five columns hold z
 pub record Reads (t : List ℕ) (spot : ℕ) (z : ℤ) : Type 0 where
   pub within : spot + 5 ≤ length t
-  pub five : read_field I (between t spot (spot + 5)) ≡ Number z
+  pub five : read_field I (between t spot (spot + 5)) ≡ Some z
 
 -- the values are found: the last one's line ends at `end`, and the one in a column stands at `spot`
 pub record At (t : List ℕ) (from column end spot : ℕ) (f : BlockFound) : Type 0 where
@@ -67,9 +65,9 @@ pub record At (t : List ℕ) (from column end spot : ℕ) (f : BlockFound) : Typ
   pub found : f ≡ some (have, between t from end)
   pub reads : Reads t spot (get_or have column (pos 0))
 
-abbrev pub Hits : List ℕ → (from column : ℕ) → BlockFound → Hit → Type 0
-Hits t from column f (hit.At end spot) = At t from column end spot f
-Hits t from column f hit.Nothing = f ≡ none
+abbrev pub Hits : List ℕ → (from column : ℕ) → BlockFound → Option Hit → Type 0
+Hits t from column f (Some h) = At t from column h.end h.spot f
+Hits t from column f None = f ≡ none
 
 -- ---- the opening line
 

@@ -17,43 +17,40 @@ use maps_agree::grid;
 use maps_records::Opening;
 use mapset::Header;
 use read_lines::Line;
-use read_values::Cells;
 
-// One line of a block's values: blank, up to where; a row, where it ends and where the next line starts; or no line of values.
+// One line of a block's values: blank, up to where; or a row, where it ends and where the next line starts.
 #[derive(Clone, Copy)]
 pub enum Step {
     Skip(usize),
     Row(usize, usize),
-    Nothing,
 }
 
-// Where a block's last line ends, and where the five columns of one of its values stand; or that no block stands there.
+// Where a block's last line ends, and where the five columns of one of its values stand.
 #[derive(Clone, Copy)]
-pub enum Hit {
-    At(usize, usize),
-    Nothing,
+pub struct Hit {
+    pub end: usize,
+    pub spot: usize,
 }
 
 // How many of the values that are left stand on the next row.
 fn on_row(left: usize) -> usize
     ensures { result ≡ on_row left }
 {
-    if left < 16 { left } else { 16 }
+    left.min(16)
 }
 
-fn step_at(text: &[u8], ends: &[u8; 80], at: usize, left: usize) -> Step
+fn step_at(text: &[u8], ends: &[u8; 80], at: usize, left: usize) -> Option<Step>
     requires { (at ≤ length text.now) × ((0 < left) × (ends.now ≡ last_columns)) }
     ensures { Stepped text.now at left result }
 {
     match read_lines::line_in(&text[at..]) {
-        Line::Over => Step::Nothing,
-        Line::Bad(_, _) => Step::Nothing,
-        Line::Skip(next) => Step::Skip(at + next),
+        Line::Over => None,
+        Line::Bad(_) => None,
+        Line::Skip(next) => Some(Step::Skip(at + next)),
         Line::Row(width, next) => {
-            let m = on_row(left);
-            match read_values::row_at(text, ends, at, width, m) {
-                Cells::Wrong(_) => Step::Nothing,
-                Cells::Fine => Step::Row(at + width, at + next),
+            match read_values::row_at(text, ends, at, width, on_row(left)) {
+                Err(_) => None,
+                Ok(()) => Some(Step::Row(at + width, at + next)),
             }
         }
     }
@@ -75,7 +72,7 @@ fn spot_of(at: usize, done: usize, column: usize, spot: usize) -> usize
 }
 
 // The next `count` values, from the line that starts at `from`: every one is looked at.
-fn values_from(text: &[u8], from: usize, count: usize, column: usize) -> Hit
+fn values_from(text: &[u8], from: usize, count: usize, column: usize) -> Option<Hit>
     requires { (from ≤ length text.now) × (column < count) }
     ensures { Hits text.now from column (values_from text.now from count) result }
 {
@@ -84,24 +81,19 @@ fn values_from(text: &[u8], from: usize, count: usize, column: usize) -> Hit
     let mut left = count;
     let mut spot = from;
     while 0 < left {
-        match step_at(text, &ends, at, left) {
-            Step::Nothing => {
-                return Hit::Nothing;
-            }
-            Step::Skip(to) => {
-                at = to;
-            }
+        match step_at(text, &ends, at, left)? {
+            Step::Skip(to) => at = to,
             Step::Row(end, to) => {
                 spot = spot_of(at, count - left, column, spot);
                 if left <= 16 {
-                    return Hit::At(end, spot);
+                    return Some(Hit { end, spot });
                 }
                 at = to;
                 left -= 16;
             }
         }
     }
-    Hit::Nothing
+    None
 }
 
 // Whether columns 61 to 80 hold the label of a block's opening.
@@ -113,29 +105,18 @@ fn is_opening(line: &[u8]) -> bool
 }
 
 // Whether five numbers open the block after d others of its map.
-fn agrees(
-    header: Header,
-    d: u64,
-    latitude: i32,
-    first: i32,
-    last: i32,
-    step: i32,
-    height: i32,
-) -> bool
+fn agrees(header: Header, d: u64, o: Opening) -> bool
     requires { Limits header.times.maps header.grid × (d < per_map header) }
-    ensures { result ≡ truth (agrees? header d (latitude, (first, (last, (step, (height, tt)))))) }
+    ensures { result ≡ truth (agrees? header d (o.latitude, (o.first, (o.last, (o.step, (o.height, tt)))))) }
 {
     let left = mapset::axes::per_map(header.grid) - d;
-    if !grid::row_agrees(header.grid, left, latitude) {
+    if !grid::row_agrees(header.grid, left, o.latitude) {
         return false;
     }
-    if grid::differs(header.grid.longitudes, first, last, step) != 0 {
+    if grid::differs(header.grid.longitudes, o.first, o.last, o.step).is_some() {
         return false;
     }
-    if !grid::height_agrees(header.grid, header.model.dimension, left, height) {
-        return false;
-    }
-    true
+    grid::height_agrees(header.grid, header.model.dimension, left, o.height)
 }
 
 fn opens(line: &[u8], header: Header, d: u64) -> bool
@@ -146,29 +127,27 @@ fn opens(line: &[u8], header: Header, d: u64) -> bool
         return false;
     }
     match maps_records::opening_in(line) {
-        Opening::Wrong(_) => false,
-        Opening::Numbers(latitude, first, last, step, height) => {
-            agrees(header, d, latitude, first, last, step, height)
-        }
+        Err(_) => false,
+        Ok(o) => agrees(header, d, o),
     }
 }
 
 // The block after d others of its map at a position of a text, which may be any number.
-pub fn block_from(text: &[u8], header: Header, at: usize, d: u64, column: usize) -> Hit
+pub fn block_from(text: &[u8], header: Header, at: usize, d: u64, column: usize) -> Option<Hit>
     requires { Limits header.times.maps header.grid × ((d < per_map header) × (column < columns header.grid)) }
     ensures { Hits text.now at column (block_from header d text.now at) result }
 {
     if text.len() <= at {
-        return Hit::Nothing;
+        return None;
     }
     match read_lines::line_in(&text[at..]) {
-        Line::Over => Hit::Nothing,
-        Line::Bad(_, _) => Hit::Nothing,
-        Line::Skip(_) => Hit::Nothing,
+        Line::Over => None,
+        Line::Bad(_) => None,
+        Line::Skip(_) => None,
         Line::Row(width, next) => {
             let e = at + width;
             if !opens(&text[at..e], header, d) {
-                return Hit::Nothing;
+                return None;
             }
             let count = mapset::axes::nodes(header.grid.longitudes) as usize;
             values_from(text, at + next, count, column)

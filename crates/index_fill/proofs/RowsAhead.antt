@@ -8,6 +8,7 @@ use lib.ListN.{length, take, drop, length-append, drop_of_length-le}
 use lib.Seq.{drop-drop, length-take-le}
 use Rattle.kit.proofs.AnswerLaws.{pick_no}
 use Rattle.layout.specs.Text.{Clean, pad}
+use Rattle.reading.specs.declared.Fault.{Fault}
 use Rattle.reading.specs.Feed.{feed, split, NoRow}
 use Rattle.read_lines.specs.Cuts.{Cut, cuts, Starts}
 use Rattle.read_lines.specs.Lines as L
@@ -34,8 +35,8 @@ no_rows t at h = rowless (cuts (drop at t)) at 0 (subst (λ ls. NoRow (feed 0 ls
 pub over_rows : (t : List ℕ) (at : ℕ) → L.Stands (drop at t) line.Over → placed_from t at ≡ []
 over_rows t at h = no_rows t at (subst NoRow (sym (h 0)) tt)
 
-pub bad_rows : (t : List ℕ) (at k c : ℕ) → L.Stands (drop at t) (line.Bad k c) → placed_from t at ≡ []
-bad_rows t at k c h = no_rows t at (subst NoRow (sym (h 0)) tt)
+pub bad_rows : (t : List ℕ) (at : ℕ) (f : Fault) → L.Stands (drop at t) (line.Bad f) → placed_from t at ≡ []
+bad_rows t at f h = no_rows t at (subst NoRow (sym (h 0)) tt)
 
 pub end_rows : (t : List ℕ) (at : ℕ) → length t ≤ at → placed_from t at ≡ []
 unfolding placed cuts

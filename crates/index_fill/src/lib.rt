@@ -81,7 +81,7 @@ fn walk_at(text: &[u8], at: usize, aux: bool, exponent: i32) -> Walk
             aux,
             exponent,
         },
-        Line::Bad(_, _) => Walk {
+        Line::Bad(_) => Walk {
             at: text.len(),
             ended: false,
             aux,
@@ -136,20 +136,12 @@ pub struct Step {
     pub state: State,
 }
 
-fn less_16(due: usize) -> usize
-    ensures { result ≡ due - 16 }
-{
-    if due < 16 { 0 } else { due - 16 }
-}
-
 fn due_of(event: Event, columns: usize) -> usize
     ensures { result ≡ due columns event }
 {
     match event {
-        Event::Nothing => 0,
-        Event::Epoch(_, _) => 0,
-        Event::Marked(_, _) => 0,
         Event::Block(_, _, _, _) => columns,
+        _ => 0,
     }
 }
 
@@ -172,11 +164,11 @@ fn step_at(text: &[u8], at: usize, values: usize, s: State, columns: usize) -> S
 {
     match read_lines::line_in(&text[at..]) {
         Line::Over => passed(text.len(), values, s),
-        Line::Bad(_, _) => passed(text.len(), values, s),
+        Line::Bad(_) => passed(text.len(), values, s),
         Line::Skip(next) => passed(at + next, values, s),
         Line::Row(width, next) => {
             if 0 < values {
-                return passed(at + next, less_16(values), s);
+                return passed(at + next, values.saturating_sub(16), s);
             }
             let e = at + width;
             let b = read_events::brought_by(s, &text[at..e]);
@@ -265,16 +257,6 @@ fn scan(
 
 // ---- All of it
 
-fn clear_positions(positions: &mut [u64])
-    ensures { positions.new ≡ replicate (length positions.old) 0 }
-{
-    let mut j = 0;
-    while j < positions.len() {
-        positions[j] = 0;
-        j += 1;
-    }
-}
-
 // An absent map's entries hold position 0 and exponent -1.
 fn prefill(size: Size, positions: &mut [u64], exponents: &mut [i32], marks: &mut [u8])
     requires { (3 * (size.maps * size.blocks) ≤ length positions.old) × ((3 * (size.maps * size.blocks) ≤ length exponents.old) × (size.maps ≤ length marks.old)) }
@@ -283,7 +265,7 @@ fn prefill(size: Size, positions: &mut [u64], exponents: &mut [i32], marks: &mut
 {
     let n = size.maps;
     let all = 3 * (n * size.blocks);
-    clear_positions(&mut positions[..all]);
+    positions[..all].fill(0);
     read_stores::clear_front(exponents, all, -1);
     read_stores::clear_marks(&mut marks[..n]);
 }

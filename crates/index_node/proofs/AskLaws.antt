@@ -1,3 +1,4 @@
+use Rattle.std.specs.Prelude.{Some}
 -- From the tests of the code to the refusals of `index`, one law for each.
 use mathlib.Core.Path.{◌≡◌, refl, sym, subst}
 use mathlib.Core.Bool.{Bool, true, false}
@@ -16,7 +17,6 @@ use Rattle.kit.specs.Truth.{truth, Says}
 use Rattle.kit.proofs.TruthLaws.{truth_true, truth_false}
 use Rattle.forms.specs.Form.{I}
 use Rattle.forms.specs.Read.{read_field}
-use Rattle.forms.specs.declared.Field.TheVariants.{Number}
 use Rattle.mapset.specs.Areas.{Present, blocks}
 use Rattle.mapset.specs.Grid.{layers, rows, columns, Limits}
 use Rattle.mapset.specs.Sound.{HeaderSays}
@@ -31,10 +31,11 @@ use Rattle.index.proofs.FoundLaws.{stands_found, found_stands}
 use Rattle.mapset.proofs.FirstLaws.{first_in}
 use Rattle.index.proofs.AsRead.{done_in, before_in}
 use Rattle.index_block.specs.Hits.{between, block_from, At}
-use Rattle.index_node.specs.Told.{InGrid, told_part, Inside as InText, Numbers, Finds, Bounded}
+use Rattle.index_node.specs.Told.{InGrid, Numbers, Finds}
 use Rattle.index_node.specs.declared.Why.TheVariants.{Unknown, Unfit, Outside, Absent, Astray}
-use Rattle.index_node.specs.declared.Reply.{Reply}
-use Rattle.index_node.specs.declared.Reply.TheVariants.{Given, Refused}
+use Rattle.std.specs.Prelude.{Result, Ok, Err}
+use Rattle.index_node.specs.declared.Why.{Why}
+use Rattle.index_node.specs.declared.Found.{Found}
 
 -- ---- 31
 
@@ -87,10 +88,10 @@ pub five_long : (t : List ℕ) (s : ℕ) → s + 5 ≤ length t → length (betw
 five_long t s h = omega (arith, length-take-le (s + 5 - s) (drop s t) (omega (arith, length-drop s t)))
 
 module _ (h : Header) (d : ℕ) (t : List ℕ) (at : ℕ) (e : ℤ) (c : ℕ) where
-  pub no_exponent : ¬ Exponent e → Numbers h d t at e c (Refused Astray)
+  pub no_exponent : ¬ Exponent e → Numbers h d t at e c (Err Astray)
   no_exponent n = record { answers = stop (λ p. n p.exponent); inside = tt; starts = tt }
 
-  pub no_block : block_from h d t at ≡ none → Numbers h d t at e c (Refused Astray)
+  pub no_block : block_from h d t at ≡ none → Numbers h d t at e c (Err Astray)
   no_block z =
       record {
         answers = stop (λ p. let k : ◌≡◌ {A = ℕ} 0 1 = cc (z, stands_found h d p.stands) in omega arith);
@@ -98,7 +99,7 @@ module _ (h : Header) (d : ℕ) (t : List ℕ) (at : ℕ) (e : ℤ) (c : ℕ) wh
         starts = tt;
       }
 
-  pub a_number : Exponent e → (end spot : ℕ) → At t at c end spot (block_from h d t at) → (z : ℤ) → Number z ≡ read_field I (between t spot (spot + 5)) → Numbers h d t at e c (Given z e at end)
+  pub a_number : Exponent e → (end spot : ℕ) → At t at c end spot (block_from h d t at) → (z : ℤ) → Some z ≡ read_field I (between t spot (spot + 5)) → Numbers h d t at e c (Ok (record { number = z; exponent = e; start = at; end = end }))
   a_number x end spot f z r =
       let v : z ≡ get_or f.have c (pos 0) = cc (r, f.reads.five) in
       record {
@@ -110,28 +111,21 @@ module _ (h : Header) (d : ℕ) (t : List ℕ) (at : ℕ) (e : ℤ) (c : ℕ) wh
 -- ---- the refusals in their order
 
 module _ (x : Index) (t : List ℕ) (q : Node) where
-  pub unknown : 3 ≤ q.kind → Finds x t q (Refused Unknown)
+  pub unknown : 3 ≤ q.kind → Finds x t q (Err Unknown)
   unknown h = record { replies = stop (λ k. omega (arith, h, k)); inside = tt; starts = tt }
 
   module _ (k : q.kind < 3) where
-    pub unfit : ¬ Fit x → Finds x t q (Refused Unfit)
+    pub unfit : ¬ Fit x → Finds x t q (Err Unfit)
     unfit n = record { replies = go k (stop n); inside = tt; starts = tt }
 
     module _ (f : Fit x) where
-      pub outside : ¬ Inside x.header q → Finds x t q (Refused Outside)
+      pub outside : ¬ Inside x.header q → Finds x t q (Err Outside)
       outside n = record { replies = go k (go f (stop n)); inside = tt; starts = tt }
 
       module _ (i : Inside x.header q) where
-        pub absent : ¬ Present (kind_of q.kind) (get_or x.marks (q.map - 1) 0) → Finds x t q (Refused Absent)
+        pub absent : ¬ Present (kind_of q.kind) (get_or x.marks (q.map - 1) 0) → Finds x t q (Err Absent)
         absent n = record { replies = go k (go f (go i (stop n))); inside = tt; starts = tt }
 
-        pub numbered : Present (kind_of q.kind) (get_or x.marks (q.map - 1) 0) → (r : Reply)
+        pub numbered : Present (kind_of q.kind) (get_or x.marks (q.map - 1) 0) → (r : Result Found Why)
             → Numbers x.header (done x.header q) t (position x q) (exponent x q) q.column r → Finds x t q r
         numbered p r n = record { replies = go k (go f (go i (go p n.answers))); inside = n.inside; starts = n.starts }
-
--- ---- the part
-
-pub bounds_given : (t : List ℕ) (r : Reply) (z e : ℤ) (a b : ℕ) → r ≡ Given z e a b → InText t r → Bounded t (told_part t r) (record { start = a; end = b })
-bounds_given t r z e a b q h =
-    let k : InText t (Given z e a b) = subst (InText t) q h in
-    subst (λ s. Bounded t (told_part t s) (record { start = a; end = b })) (sym q) (record { order = k.0; within = k.1; part = refl })

@@ -14,8 +14,8 @@ use Rattle.index_block.specs.Hits.{between}
 use Rattle.index_node.specs.Told.{number, told, Inside, Starts, Finds, HandsBack}
 use Rattle.index_node.specs.declared.Why.{Why}
 use Rattle.index_node.specs.declared.Why.TheVariants.{Unknown, Unfit, Outside, Absent, Astray}
-use Rattle.index_node.specs.declared.Reply.{Reply}
-use Rattle.index_node.specs.declared.Reply.TheVariants.{Given, Refused}
+use Rattle.std.specs.Prelude.{Result, Ok, Err}
+use Rattle.index_node.specs.declared.Found.{Found}
 
 unfoldable why_of : ℕ → Why
 why_of n = pick (ℕ_discrete n 23) Unknown (pick (ℕ_discrete n 31) Unfit (pick (ℕ_discrete n 21) Outside (pick (ℕ_discrete n 22) Absent Astray)))
@@ -34,20 +34,20 @@ between_length t a b h k = length-take-le (b - a) (drop a t) (omega (arith, leng
 same_end : (t : List ℕ) (at a b a' b' : ℕ) → a ≡ at → a' ≡ at → a ≤ b → b ≤ length t → a' ≤ b' → b' ≤ length t → between t a b ≡ between t a' b' → b ≡ b'
 same_end t at a b a' b' p p' h k h' k' e = omega (arith, between_length t a b h k, between_length t a' b' h' k', ap length e)
 
-same_told : (t : List ℕ) (at : ℕ) (r s : Reply) → Inside t r → Starts at r → Inside t s → Starts at s → told t r ≡ told t s → r ≡ s
-same_told t at (Given z e a b) (Given z' e' a' b') h p h' p' q =
-    let k : z ≡ z' = cc in
-    let l : e ≡ e' = cc in
-    let m : between t a b ≡ between t a' b' = cc in
-    let n : a ≡ a' = p ∙ sym p' in
-    let o : b ≡ b' = same_end t at a b a' b' p p' h.0 h.1 h'.0 h'.1 m in
-    λ i. Given (k i) (l i) (n i) (o i)
-same_told t at (Given z e a b) (Refused w) h p h' p' q = let z : ◌≡◌ {A = ℕ} 0 1 = cc in absurd (omega arith)
-same_told t at (Refused w) (Given z e a b) h p h' p' q = let z : ◌≡◌ {A = ℕ} 0 1 = cc in absurd (omega arith)
-same_told t at (Refused w) (Refused v) h p h' p' q = let k : number w ≡ number v = cc in ap Refused (sym (back w) ∙ ap why_of k ∙ back v)
+same_told : (t : List ℕ) (at : ℕ) (r s : Result Found Why) → Inside t r → Starts at r → Inside t s → Starts at s → told t r ≡ told t s → r ≡ s
+same_told t at (Ok f) (Ok g) h p h' p' q =
+    let k : f.number ≡ g.number = cc in
+    let l : f.exponent ≡ g.exponent = cc in
+    let m : between t f.start f.end ≡ between t g.start g.end = cc in
+    let n : f.start ≡ g.start = p ∙ sym p' in
+    let o : f.end ≡ g.end = same_end t at f.start f.end g.start g.end p p' h.0 h.1 h'.0 h'.1 m in
+    λ i. Ok (record { number = k i; exponent = l i; start = n i; end = o i })
+same_told t at (Ok f) (Err w) h p h' p' q = let z : ◌≡◌ {A = ℕ} 0 1 = cc in absurd (omega arith)
+same_told t at (Err w) (Ok f) h p h' p' q = let z : ◌≡◌ {A = ℕ} 0 1 = cc in absurd (omega arith)
+same_told t at (Err w) (Err v) h p h' p' q = let k : number w ≡ number v = cc in ap Err (sym (back w) ∙ ap why_of k ∙ back v)
 
 module _ (x : Index) (t : List ℕ) (q : Node) where
-  pub node_once : (r s : Reply) → Finds x t q r → Finds x t q s → r ≡ s
+  pub node_once : (r s : Result Found Why) → Finds x t q r → Finds x t q s → r ≡ s
   node_once r s f g = same_told t _ r s f.inside f.starts g.inside g.starts (reply_once x t q _ _ f.replies g.replies)
 
   pub block_once : (l m : List ℕ) → HandsBack x t q l → HandsBack x t q m → l ≡ m

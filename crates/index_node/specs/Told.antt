@@ -1,5 +1,5 @@
 -- What the code's answer tells, by the replies of `index`.
-use Rattle.std.specs.Prelude.{◌≡◌, List, ℕ, ◌≤◌, ◌<◌, ℤ, length, drop}
+use Rattle.std.specs.Prelude.{◌≡◌, List, ℕ, ◌≤◌, ◌<◌, ℤ, length, drop, Result, Ok, Err}
 use Rattle.kit.specs.Range.{Within}
 use Rattle.mapset.specs.Grid.{layers, rows, columns}
 use Rattle.mapset.specs.declared.Header.{Header}
@@ -8,9 +8,7 @@ use Rattle.index.specs.Index.{Index, Node, position, Answered, Replies, part}
 use Rattle.index_block.specs.Hits.{between}
 use Rattle.index_node.specs.declared.Why.{Why}
 use Rattle.index_node.specs.declared.Why.TheVariants.{Unknown, Unfit, Outside, Absent, Astray}
-use Rattle.index_node.specs.declared.Bounds.{Bounds}
-use Rattle.index_node.specs.declared.Reply.{Reply}
-use Rattle.index_node.specs.declared.Reply.TheVariants.{Given, Refused}
+use Rattle.index_node.specs.declared.Found.{Found}
 
 -- the map is one of 1 to n, and the node in the grid
 abbrev pub InGrid : Header → (map layer row column : ℕ) → Type 0
@@ -25,40 +23,31 @@ number Absent = 22
 number Astray = 50
 
 -- a number, an exponent, and the bytes between two positions of the text t
-abbrev pub told : List ℕ → Reply → index.Reply
-told t (Given z e a b) = index.given z e (between t a b)
-told t (Refused w) = index.refused (number w)
-
-abbrev pub told_part : List ℕ → Reply → List ℕ
-told_part t r = part (told t r)
+abbrev pub told : List ℕ → Result Found Why → index.Reply
+told t (Ok f) = index.given f.number f.exponent (between t f.start f.end)
+told t (Err w) = index.refused (number w)
 
 -- the two positions stand in the text
-abbrev pub Inside : List ℕ → Reply → Type 0
-Inside t (Given z e a b) = (a ≤ b) × (b ≤ length t)
-Inside t (Refused w) = Unit {0}
+abbrev pub Inside : List ℕ → Result Found Why → Type 0
+Inside t (Ok f) = (f.start ≤ f.end) × (f.end ≤ length t)
+Inside t (Err w) = Unit {0}
 
 -- and the first of them is `at`
-abbrev pub Starts : ℕ → Reply → Type 0
-Starts at (Given z e a b) = a ≡ at
-Starts at (Refused w) = Unit {0}
+abbrev pub Starts : ℕ → Result Found Why → Type 0
+Starts at (Ok f) = f.start ≡ at
+Starts at (Err w) = Unit {0}
 
 -- what an entry's position and exponent answer, of the number in a column
-pub record Numbers (h : Header) (d : ℕ) (t : List ℕ) (at : ℕ) (e : ℤ) (column : ℕ) (r : Reply) : Type 0 where
+pub record Numbers (h : Header) (d : ℕ) (t : List ℕ) (at : ℕ) (e : ℤ) (column : ℕ) (r : Result Found Why) : Type 0 where
   pub answers : Answered h d (drop at t) e column (told t r)
   pub inside : Inside t r
   pub starts : Starts at r
 
 -- what is answered of a node
-pub record Finds (x : Index) (t : List ℕ) (q : Node) (r : Reply) : Type 0 where
+pub record Finds (x : Index) (t : List ℕ) (q : Node) (r : Result Found Why) : Type 0 where
   pub replies : Replies x t q (told t r)
   pub inside : Inside t r
   pub starts : Starts (position x q) r
-
--- a part of a text, by its start and end
-pub record Bounded (t l : List ℕ) (b : Bounds) : Type 0 where
-  pub order : b.start ≤ b.end
-  pub within : b.end ≤ length t
-  pub part : between t b.start b.end ≡ l
 
 -- the lines that are handed back are the reply's
 abbrev pub HandsBack : Index → List ℕ → Node → List ℕ → Type 0

@@ -10,9 +10,8 @@ ghost use Rattle.layout.specs.Layout.{per_map};
 ghost use Rattle.areas.specs.Places.{before};
 ghost use Rattle.ask_nodes.specs.Value.{kind_of};
 ghost use Rattle.index.specs.Index.{entries, index, node, Fit};
-ghost use Rattle.index_node.specs.Told.{InGrid, Inside as InText, Numbers, Finds, told_part, Bounded, HandsBack};
+ghost use Rattle.index_node.specs.Told.{InGrid, Numbers, Finds, HandsBack};
 
-use index_block::Hit;
 use mapset::{Header, Texts, axes};
 
 // Why there is no answer: 23, 31, 21, 22 and 50.
@@ -25,16 +24,11 @@ pub enum Why {
     Astray,
 }
 
-// The number as written, its exponent, and where the block's lines start and end in the text; or why not.
+// The number as written, its exponent, and where the block's lines start and end in the text.
 #[derive(Clone, Copy)]
-pub enum Reply {
-    Given(i32, i32, usize, usize),
-    Refused(Why),
-}
-
-// From start up to, not including, end.
-#[derive(Clone, Copy)]
-pub struct Bounds {
+pub struct Found {
+    pub number: i32,
+    pub exponent: i32,
     pub start: usize,
     pub end: usize,
 }
@@ -106,20 +100,28 @@ fn entry_of(header: Header, kind: u64, map: u64, d: u64) -> usize
 }
 
 // What an entry's position and exponent answer.
-fn number_at(text: &[u8], header: Header, at: usize, e: i32, d: u64, column: usize) -> Reply
+fn number_at(
+    text: &[u8],
+    header: Header,
+    at: usize,
+    e: i32,
+    d: u64,
+    column: usize,
+) -> Result<Found, Why>
     requires { Limits header.times.maps header.grid × ((d < per_map header) × (column < columns header.grid)) }
     ensures { Numbers header d text.now at e column result }
 {
     if !kit::between(-3, 0, e) {
-        return Reply::Refused(Why::Astray);
+        return Err(Why::Astray);
     }
     match index_block::block_from(text, header, at, d, column) {
-        Hit::Nothing => Reply::Refused(Why::Astray),
-        Hit::At(end, spot) => {
-            let behind = spot + 5;
-            let z = fields::int_value(&text[spot..behind]);
-            Reply::Given(z, e, at, end)
-        }
+        None => Err(Why::Astray),
+        Some(hit) => Ok(Found {
+            number: fields::int_value(&text[hit.spot..hit.spot + 5]),
+            exponent: e,
+            start: at,
+            end: hit.end,
+        }),
     }
 }
 
@@ -137,42 +139,28 @@ pub fn find_node(
     layer: u64,
     row: u64,
     column: u64,
-) -> Reply
+) -> Result<Found, Why>
     ensures { Finds (index header (full texts descriptions.now)
         (entries positions.now exponents.now marks.now))
         text.now (node kind map layer row column) result }
 {
     if 3 <= kind {
-        return Reply::Refused(Why::Unknown);
+        return Err(Why::Unknown);
     }
     if !fits(header, texts, descriptions, positions, exponents, marks) {
-        return Reply::Refused(Why::Unfit);
+        return Err(Why::Unfit);
     }
     if !in_grid(header, map, layer, row, column) {
-        return Reply::Refused(Why::Outside);
+        return Err(Why::Outside);
     }
     let m = (map - 1) as usize;
     if !ask_nodes::is_present(kind, marks[m]) {
-        return Reply::Refused(Why::Absent);
+        return Err(Why::Absent);
     }
     let d = done_before(header, layer, row);
     let i = entry_of(header, kind, map, d);
     let at = positions[i] as usize;
     number_at(text, header, at, exponents[i], d, column as usize)
-}
-
-// Start and end of the lines that are handed back; 0 and 0 where there are none.
-fn bounds_of(text: &[u8], reply: Reply) -> Bounds
-    requires { InText text.now reply }
-    ensures { Bounded text.now (told_part text.now reply) result }
-{
-    match reply {
-        Reply::Given(_, _, start, end) => Bounds {
-            start: start,
-            end: end,
-        },
-        Reply::Refused(_) => Bounds { start: 0, end: 0 },
-    }
 }
 
 // The lines of a node's block as a part of the text, its opening line to its last value line without the line end; empty exactly where the node is refused.
@@ -195,7 +183,7 @@ pub fn find_block<'a>(
         (entries positions.now exponents.now marks.now))
         text.now (node kind map layer row column) result.now }
 {
-    let reply = find_node(
+    match find_node(
         text,
         header,
         texts,
@@ -208,9 +196,8 @@ pub fn find_block<'a>(
         layer,
         row,
         column,
-    );
-    let b = bounds_of(text, reply);
-    let start = b.start;
-    let end = b.end;
-    &text[start..end]
+    ) {
+        Ok(found) => &text[found.start..found.end],
+        Err(_) => &text[..0],
+    }
 }

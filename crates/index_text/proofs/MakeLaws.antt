@@ -17,7 +17,7 @@ use Rattle.mapset.specs.MapSet.{MapSet}
 use Rattle.mapset.specs.Areas.{Areas, six, Room, first_of}
 use Rattle.mapset.proofs.SoundLaws.{few_blocks}
 use Rattle.layout.specs.Layout.{per_map, plain, Rows, Makes, makes}
-use Rattle.reading.specs.Feed.{why}
+use Rattle.reading.specs.declared.Why.{Why}
 use Rattle.reading.specs.Read.{read}
 use Rattle.reading.proofs.Exact.{made_read}
 use Rattle.areas.specs.Flat.{areas}
@@ -164,6 +164,6 @@ module _ (t : List ℕ) (h : Header) (x : FullTexts) (a : ReadAs t h x) where
           let g : l' ≡ fronts (entries_of m t) l = f ∙ (λ i. entered (p i) (q i) (o i) t l) ∙ all_entered r.1.0 t r.1.1 l roomy in
           ap (λ z. record { told = accepted h; texts = x; entries = z }) g ∙ sym (made_is ∙ ap (with_room m t l) e)
 
-pub made_refused : (t : List ℕ) (l : Entries) (k n c : ℕ) → read t ≡ refused (why k n c) → record { told = at_place k n c; texts = no_texts; entries = l } ≡ made t l
+pub made_refused : (t : List ℕ) (l : Entries) (w : Why) → read t ≡ refused w → record { told = at_place w.number w.line w.column; texts = no_texts; entries = l } ≡ made t l
 unfolding made_of
-made_refused t l k n c e = sym (ap (λ r. made_of r t l) e)
+made_refused t l w e = sym (ap (λ r. made_of r t l) e)

@@ -4,20 +4,20 @@ use mathlib.Core.Option.{Option, none, some}
 use mathlib.Core.List.{List}
 use Prim.Native.Nat.{ℕ, ◌-◌, ◌<◌}
 use lib.ListN.{get_or}
+use Rattle.std.specs.Prelude.{Ok}
 use Rattle.kit.specs.Answer.{refused}
 use Rattle.kit.proofs.TruthLaws.{clash}
 use Rattle.mapset.specs.declared.Header.{Header}
 use Rattle.mapset.specs.MapSet.{MapSet}
 use Rattle.mapset.specs.Areas.{Areas, Present}
 use Rattle.layout.specs.Layout.{Makes}
-use Rattle.reading.specs.Feed.{Why}
+use Rattle.reading.specs.declared.Why.{Why}
 use Rattle.reading.specs.Read.{read}
 use Rattle.reading.proofs.Exact.{read_made}
 use Rattle.areas.specs.Flat.{areas}
 use Rattle.ask_nodes.specs.Value.{kind_of}
 use Rattle.read_needs.specs.Needs.{first_short}
 use Rattle.read_outcome.specs.Outcome.{accepted, outcome_of, outcome, told, texts_in}
-use Rattle.read_outcome.specs.declared.Reading.TheVariants.{Accepted}
 use Rattle.read_outcome.specs.declared.ReadOut.{ReadOut}
 use Rattle.read_outcome.proofs.Once.{told_once, texts_once}
 use Rattle.index.specs.Index.{Entries, index, Node, Inside, number_in, exponent_in, Reply, given, Replies}
@@ -46,7 +46,7 @@ pub record Given (m : MapSet) (t : List ℕ) (l : Entries) (h : Header) (r : Rea
   pub texts : texts_in r ≡ m.texts
   pub entries : l' ≡ fronts (entries_of m t) l
 
-module _ (t : List ℕ) (l : Entries) (r : ReadOut) (l' : Entries) (c : Indexes t l r l') (m : MapSet) (k : Makes m t) (h : Header) (a : r.answer ≡ Accepted h) where
+module _ (t : List ℕ) (l : Entries) (r : ReadOut) (l' : Entries) (c : Indexes t l r l') (m : MapSet) (k : Makes m t) (h : Header) (a : r.answer ≡ Ok h) where
   given_index : Given m t l h r l'
   unfolding made_of with_room
   given_index = by (first_short 1 (needed_and_lent (entries_of m t) l)) (c ∙ ap (λ x. made_of x t l) (read_made k))

@@ -5,7 +5,7 @@ use Rattle.kit.specs.Answer.{Answer, ok, refused}
 use Rattle.mapset.specs.declared.Header.{Header}
 use Rattle.mapset.specs.Described.{FullTexts}
 use Rattle.mapset.specs.MapSet.{Maps, MapSet}
-use Rattle.reading.specs.Feed.{Why}
+use Rattle.reading.specs.declared.Why.{Why}
 use Rattle.reading.specs.Read.{read}
 use Rattle.read_needs.specs.Needs.{first_short}
 use Rattle.read_judge.specs.Scanned.{set_of}

@@ -6,8 +6,7 @@ ghost use Rattle.ask_all.specs.AskAll.{places, slots, AsksAll, told as told_all}
 ghost use Rattle.c_answers.specs.AskExported.{asks, AskCrosses};
 ghost use Rattle.c_answers.specs.AskAllExported.{AskAllCrosses};
 
-use ask::Asked;
-use ask_all::AllAsked;
+use ask::{Value, Why};
 use c_given::{END, LINES};
 use mapset::{Header, Texts};
 
@@ -28,7 +27,7 @@ pub fn ask(
     lat: i32,
     lon: i32,
     second: u64,
-) -> Asked
+) -> Result<Value, Why>
     ensures outcome { Answers (question header (full texts descriptions.now)
         (six tec.now rms.now height.now exponents.now epochs.now marks.now)
         kind method layer lat lon second) (told result) }
@@ -120,7 +119,7 @@ pub fn ask_all(
     seconds: &[u64],
     answers: &mut [u8],
     values: &mut [i32],
-) -> AllAsked
+) -> Result<(), Why>
     ensures outcome { AsksAll (question header (full texts descriptions.now)
         (six tec.now rms.now height.now exponents.now epochs.now marks.now)
         kind method layer) (places lats.now lons.now seconds.now)

@@ -4,10 +4,16 @@ ghost use Rattle.bias_fill.specs.Flat.{lent};
 ghost use Rattle.bias_text.specs.Biased.{outcome, comes};
 ghost use Rattle.c_biases.specs.BiasesExported.{crossed, biases_crossed};
 
-use bias_text::Biased;
+use bias_scan::Counts;
+use read_outcome::Reason;
 
 // A text's biases into three lent areas: four numbers for each satellite, three numbers and 20 bytes for each station; or the reason why not.
-pub fn biases(text: &[u8], satellites: &mut [i32], stations: &mut [i32], names: &mut [u8]) -> Biased
+pub fn biases(
+    text: &[u8],
+    satellites: &mut [i32],
+    stations: &mut [i32],
+    names: &mut [u8],
+) -> Result<Counts, Reason>
     ensures outcome { comes result (lent satellites.new stations.new names.new)
         ≡ outcome text.now (lent satellites.old stations.old names.old) }
 {

@@ -7,14 +7,13 @@ ghost use Rattle.ask_delay.specs.AskDelay.{AskDelays, told as told_asked};
 ghost use Rattle.c_answers.specs.AskExported.{asks};
 ghost use Rattle.c_answers.specs.DelayExported.{TecuDelayCrosses, DelayCrosses};
 
-use ask::MilliTecu;
-use ask_delay::AskedDelay;
+use ask::{MilliTecu, Why};
 use c_given::{END, LINES};
-use delay::Delayed;
+use delay::Delay;
 use mapset::{Header, Texts};
 
 // The delay of so many thousandths of a TECU at a carrier in hertz; or 25.
-pub fn tecu_delay(x: MilliTecu, carrier: f64) -> Delayed
+pub fn tecu_delay(x: MilliTecu, carrier: f64) -> Option<Delay>
     ensures outcome { Delays x carrier (told_delay result) }
 {
     delay::delay_of(x, carrier)
@@ -38,7 +37,7 @@ pub fn ask_delay(
     lon: i32,
     second: u64,
     carrier: f64,
-) -> AskedDelay
+) -> Result<Option<Delay>, Why>
     ensures outcome { AskDelays (question header (full texts descriptions.now)
         (six tec.now rms.now height.now exponents.now epochs.now marks.now)
         kind method layer lat lon second) carrier (told_asked result) }

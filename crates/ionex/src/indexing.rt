@@ -8,7 +8,7 @@ ghost use Rattle.c_index.specs.Crossed.{NodeCrosses, BlockCrosses};
 ghost use Rattle.c_index.specs.IndexExported.{crossed, index_crossed};
 
 use c_given::{END, LINES};
-use index_node::Reply;
+use index_node::{Found, Why};
 use mapset::{Header, Texts};
 use read_outcome::ReadOut;
 
@@ -39,7 +39,7 @@ pub fn indexed_node(
     layer: u64,
     row: u64,
     column: u64,
-) -> Reply
+) -> Result<Found, Why>
     ensures outcome { Finds (index header (full texts descriptions.now)
         (entries positions.now exponents.now marks.now))
         text.now (node kind map layer row column) result }

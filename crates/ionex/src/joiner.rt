@@ -8,7 +8,7 @@ ghost use Rattle.c_answers.specs.ReadExported.{crossed};
 ghost use Rattle.c_answers.specs.JoinExported.{join_crossed};
 
 use c_given::{END, LINES};
-use join_areas::Joining;
+use join_areas::Refusal;
 use mapset::{Header, Texts};
 
 // Two map sets, the earlier first, into six lent areas: the header of both, or the reason why not. The texts are the later set's.
@@ -37,7 +37,7 @@ pub fn join(
     exponents: &mut [i32],
     epochs: &mut [u64],
     marks: &mut [u8],
-) -> Joining
+) -> Result<Header, Refusal>
     ensures outcome { comes result (full ltexts ldescriptions.now)
         (six tec.new rms.new height.new exponents.new epochs.new marks.new)
         ≡ came (join_into (lent_of early (full etexts edescriptions.now)

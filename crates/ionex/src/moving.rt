@@ -2,19 +2,15 @@
 ghost use Rattle.calendar.specs.Calendar.{told_when, The};
 ghost use Rattle.c_answers.specs.MoveExported.{Moves, MoveCrosses};
 
-use calendar::{DateFound, Epoch, When};
+use calendar::Epoch;
 
 // A second for a second: the date of the one, moved, is the date of the other.
-fn moved_second(second: u64, by: i64) -> When
+fn moved_second(second: u64, by: i64) -> Option<u64>
     ensures outcome { The (Moves second by) (told_when result) }
 {
-    match Epoch::at_second(second) {
-        DateFound::Refused => When::Refused,
-        DateFound::Date(from) => match from.moved(by) {
-            DateFound::Refused => When::Refused,
-            DateFound::Date(to) => to.seconds(),
-        },
-    }
+    let from = Epoch::at_second(second)?;
+    let to = from.moved(by)?;
+    to.seconds()
 }
 
 // An epoch moved by so many seconds: 0, with the epoch; or 7 where it or the result lies outside 1900 to 2199.

@@ -6,7 +6,9 @@ ghost use Rattle.read_outcome.specs.Measures.{Measures};
 ghost use Rattle.c_answers.specs.ReadExported.{crossed, read_crossed};
 ghost use Rattle.c_answers.specs.NeedsExported.{NeedsCross};
 
-use read_outcome::{Measured, ReadOut};
+use read_needs::Elements;
+use read_outcome::ReadOut;
+use reading::Why;
 
 // A text into six lent areas: the map set's header record and texts, or the reason why not.
 pub fn read(
@@ -56,7 +58,7 @@ pub extern "C" fn ionex_read(
 }
 
 // What each of the six areas needs for a text, or the reason why it is refused.
-pub fn needs(text: &[u8]) -> Measured
+pub fn needs(text: &[u8]) -> Result<Elements, Why>
     ensures outcome { Measures text.now result }
 {
     read_measure::measure(text)

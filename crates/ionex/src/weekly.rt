@@ -8,7 +8,7 @@ ghost use Rattle.c_week.specs.WeekExported.{crossed, week_crossed};
 
 use c_given::{END, LINES};
 use mapset::{Header, Texts};
-use week::{Added, Week};
+use week::{Week, Why};
 
 // The new week, with the set's figures in front of the rows; or 60, 31, or 11 with the numbers that the rows need, in this order.
 pub fn add(
@@ -23,7 +23,7 @@ pub fn add(
     epochs: &[u64],
     marks: &[u8],
     rows: &mut [i64],
-) -> Added
+) -> Result<Week, Why>
     ensures outcome { comes result rows.new ≡ outcome week (given_as header (full texts descriptions.now)
         (six tec.now rms.now height.now exponents.now epochs.now marks.now)
         rows.old) }

@@ -7,7 +7,7 @@ ghost use Rattle.c_answers.specs.WriteExported.{crossed, write_crossed};
 
 use c_given::{END, LINES};
 use mapset::{Header, Texts};
-use write_text::Written;
+use write_text::Unwritten;
 
 // The number of bytes, with the text in front of the output; or 31; or 30 with the bytes needed, found before a byte is written.
 pub fn write(
@@ -21,7 +21,7 @@ pub fn write(
     epochs: &[u64],
     marks: &[u8],
     out: &mut [u8],
-) -> Written
+) -> Result<u64, Unwritten>
     ensures outcome { ◌≡◌ {A = ToldWriting × List ℕ} (told result, out.new) (written header (full texts descriptions.now)
         (six tec.now rms.now height.now exponents.now epochs.now marks.now)
         out.old) }

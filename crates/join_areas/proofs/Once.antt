@@ -17,8 +17,7 @@ use Rattle.join_areas.specs.Joined.{told_why, comes}
 use Rattle.join_areas.specs.Contract.{Joins, Given}
 use Rattle.join_areas.specs.declared.Refusal.{Refusal}
 use Rattle.join_areas.specs.declared.Refusal.TheVariants.{NotValid, Unlike, Apart, TooMany, AreaTooShort}
-use Rattle.join_areas.specs.declared.Joining.{Joining}
-use Rattle.join_areas.specs.declared.Joining.TheVariants.{Done, Refused}
+use Rattle.std.specs.Prelude.{Result, Ok, Err}
 
 -- ---- no second answer
 unfoldable reason : ℕ → Refusal
@@ -28,9 +27,9 @@ abbrev back_why : Why → Refusal
 back_why (because n) = reason n
 back_why (short a n) = AreaTooShort a n
 
-abbrev back : Answer Why Lent → Joining
-back (ok u) = Done u.header
-back (refused w) = Refused (back_why w)
+abbrev back : Answer Why Lent → Result Header Refusal
+back (ok u) = Ok u.header
+back (refused w) = Err (back_why w)
 
 back_told : (w : Refusal) → back_why (told_why w) ≡ w
 unfolding reason pick ℕ_discrete
@@ -41,15 +40,15 @@ back_told TooMany = refl
 back_told (AreaTooShort a n) = refl
 
 module _ (x y : Lent) (l : Areas) where
-  told_is : (r : Joining) (l' : Areas) → back (comes r y.texts l').told ≡ r
-  told_is (Done h) l' = refl
-  told_is (Refused w) l' = ap Refused (back_told w)
+  told_is : (r : Result Header Refusal) (l' : Areas) → back (comes r y.texts l').told ≡ r
+  told_is (Ok h) l' = refl
+  told_is (Err w) l' = ap Err (back_told w)
 
-  areas_is : (r : Joining) (l' : Areas) → (comes r y.texts l').areas ≡ l'
-  areas_is (Done h) l' = refl
-  areas_is (Refused w) l' = refl
+  areas_is : (r : Result Header Refusal) (l' : Areas) → (comes r y.texts l').areas ≡ l'
+  areas_is (Ok h) l' = refl
+  areas_is (Err w) l' = refl
 
-  pub joins_once : (r s : Joining) (l' l'' : Areas) → Joins x y l r l' → Joins x y l s l'' → (r ≡ s) × (l' ≡ l'')
+  pub joins_once : (r s : Result Header Refusal) (l' l'' : Areas) → Joins x y l r l' → Joins x y l s l'' → (r ≡ s) × (l' ≡ l'')
   joins_once r s l' l'' p q =
       let e = p ∙ sym q in
       (sym (told_is r l') ∙ ap (λ o. back o.told) e ∙ told_is s l'', sym (areas_is r l') ∙ ap (λ o. o.areas) e ∙ areas_is s l'')
@@ -60,7 +59,7 @@ module _ (x y : Lent) (l : Areas) where
   left_refused (ok u) e = let z : ◌≡◌ {A = ℕ} 0 1 = cc in absurd (omega arith)
   left_refused (refused w) e = refl
 
-  pub untouched : (w : Refusal) (l' : Areas) → Joins x y l (Refused w) l' → l' ≡ l
+  pub untouched : (w : Refusal) (l' : Areas) → Joins x y l (Err w) l' → l' ≡ l
   untouched w l' e = ap (λ o. o.areas) e ∙ left_refused (join_into x y l) (sym (ap (λ o. o.told) e))
 
   -- ---- what is given is the joined set, and the sets may be joined
@@ -81,6 +80,6 @@ module _ (x y : Lent) (l : Areas) where
   from o (too_many p q r s n) e = let z : ◌≡◌ {A = ℕ} 0 1 = cc in absurd (omega arith)
   from o (given j) e = record { may = j; set = roomy (joined (meaning x) (meaning y)) _ e }
 
-  pub done_given : (h : Header) (l' : Areas) → Joins x y l (Done h) l' → Given x y l (lent_of h y.texts l')
+  pub done_given : (h : Header) (l' : Areas) → Joins x y l (Ok h) l' → Given x y l (lent_of h y.texts l')
   unfolding join_into
   done_given h l' e = from (lent_join x y) (lent_exactly x y) (sym (ap (λ o. o.told) e))

@@ -38,8 +38,8 @@ use Rattle.join.proofs.IntoLaws.{lent_areas}
 use Rattle.join.proofs.IntoExactly.{given, lent_once}
 use Rattle.join_areas.specs.Joined.{some_of, kinds_left, kept, some_left, kind_beside, KindFits, Fillable, all_beside, short_of, Ready, puts, by_room, stored, told_why, comes, came}
 use Rattle.join_areas.specs.declared.Refusal.{Refusal}
-use Rattle.join_areas.specs.declared.Joining.{Joining}
-use Rattle.join_areas.specs.declared.Joining.TheVariants.{Done, Refused}
+use Rattle.std.specs.Prelude.{Result, Ok, Err}
+use Rattle.mapset.specs.declared.Header.{Header}
 use Rattle.layout.specs.Layout.{per_map}
 
 -- ---- kinds
@@ -298,15 +298,15 @@ module _ (x y : Lent) (j : MayLent x y) where
   by_room_is : (l : Areas) (o : Option (ℕ × ℕ))
       → comes (by_room x.header.times y.header x.areas y.areas l o).answer y.texts (by_room x.header.times y.header x.areas y.areas l o).areas ≡ came (with_room both l o) l
   unfolding by_room with_room left
-  by_room_is l none = ap (λ a. comes (Done (header_from x.header.times y.header)) y.texts a) (all_is l)
+  by_room_is l none = ap (λ a. comes (Ok (header_from x.header.times y.header)) y.texts a) (all_is l)
   by_room_is l (some s) = refl
 
-  pub stored_is : (l : Areas) (r : Joining) (l' : Areas) → puts r l' ≡ stored x.header.times y.header x.areas y.areas l → comes r y.texts l' ≡ came (join_into x y l) l
+  pub stored_is : (l : Areas) (r : Result Header Refusal) (l' : Areas) → puts r l' ≡ stored x.header.times y.header x.areas y.areas l → comes r y.texts l' ≡ came (join_into x y l) l
   unfolding stored
   stored_is l r l' e =
       (λ i. comes (e i).answer y.texts (e i).areas) ∙ by_room_is l (short_of x.header.times y.header x.areas y.areas l) ∙ ap (λ o. came o l) (sym (into_is l))
 
 -- ---- a refusal leaves all areas as found
-pub refused_is : (x y : Lent) (l : Areas) (w : Refusal) → lent_join x y ≡ refused (told_why w) → comes (Refused w) y.texts l ≡ came (join_into x y l) l
+pub refused_is : (x y : Lent) (l : Areas) (w : Refusal) → lent_join x y ≡ refused (told_why w) → comes (Err w) y.texts l ≡ came (join_into x y l) l
 unfolding join_into bind left
 refused_is x y l w e = sym (ap (λ o. came (bind o (λ m. with_room m l (first_short 1 (needed_and_lent (areas m) l)))) l) e)

@@ -15,7 +15,7 @@ use Rattle.read_needs.specs.declared.Others.{Others}
 use Rattle.join.specs.Join.{header_from}
 use Rattle.join_areas.specs.Joined.{kinds_left, Fillable, all_beside, count_of, short_of, Ready, puts, by_room, stored}
 use Rattle.join_areas.specs.declared.Refusal.TheVariants.{AreaTooShort}
-use Rattle.join_areas.specs.declared.Joining.TheVariants.{Done, Refused}
+use Rattle.std.specs.Prelude.{Ok, Err}
 
 -- the header of both, n, L-as-R and C
 module _ (e : Times) (h : Header) {H : Header} (p : H ≡ header_from e h) {N B C : ℕ} (q : N ≡ H.times.maps) (r : B ≡ per_map H) (s : C ≡ columns H.grid) where
@@ -36,7 +36,7 @@ module _ (e : Times) (h : Header) {H : Header} (p : H ≡ header_from e h) {N B 
     room_is : first_short 1 (pairs E (lengths l)) ≡ short_of e h a b l
     room_is = ap (λ z. first_short 1 (pairs z (lengths l))) (u ∙ (λ i. needs_of (maps_is i) (blocks_is i) (columns_is i) (t i)))
 
-    pub short_put : (i k : ℕ) → first_short 1 (pairs E (lengths l)) ≡ some (i, k) → puts (Refused (AreaTooShort i k)) l ≡ stored e h a b l
+    pub short_put : (i k : ℕ) → first_short 1 (pairs E (lengths l)) ≡ some (i, k) → puts (Err (AreaTooShort i k)) l ≡ stored e h a b l
     unfolding stored by_room
     short_put i k x = sym (ap (by_room e h a b l) (sym room_is ∙ x))
 
@@ -44,8 +44,8 @@ module _ (e : Times) (h : Header) {H : Header} (p : H ≡ header_from e h) {N B 
       pub fillable_by : Ready e h a b → Fillable e.maps h.times.maps B C a b l
       fillable_by y = rw (blocks_is, columns_is) (y.fits l (sym room_is ∙ x))
 
-      pub done_put : (l' : Areas) → l' ≡ all_beside e.maps h.times.maps B C a b l → puts (Done H) l' ≡ stored e h a b l
+      pub done_put : (l' : Areas) → l' ≡ all_beside e.maps h.times.maps B C a b l → puts (Ok H) l' ≡ stored e h a b l
       unfolding stored by_room
       done_put l' z =
           let w : l' ≡ all_beside e.maps h.times.maps (per_map h) (columns h.grid) a b l = z ∙ (λ i. all_beside e.maps h.times.maps (blocks_is i) (columns_is i) a b l) in
-          (λ i. puts (Done (p i)) (w i)) ∙ sym (ap (by_room e h a b l) (sym room_is ∙ x))
+          (λ i. puts (Ok (p i)) (w i)) ∙ sym (ap (by_room e h a b l) (sym room_is ∙ x))

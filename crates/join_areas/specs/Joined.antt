@@ -1,5 +1,5 @@
 -- What the parts of the code ask for and answer: on lists and numbers up to `stored`, then in the words of `join_into`.
-use Rattle.std.specs.Prelude.{◌≡◌, Bool, true, false, ◌||◌, cond, List, ◌++◌, ℕ, ◌+◌, ◌-◌, ◌*◌, ◌≤◌, length, take, ℤ}
+use Rattle.std.specs.Prelude.{Result, Ok, Err, ◌≡◌, Bool, true, false, ◌||◌, cond, List, ◌++◌, ℕ, ◌+◌, ◌-◌, ◌*◌, ◌≤◌, length, take, ℤ}
 use Rattle.std.proofs.Math.Option.{Option, none, some}
 use Rattle.kit.specs.Answer.{Answer, ok, refused, pick}
 use Rattle.kit.specs.Lists.{front}
@@ -17,10 +17,6 @@ use Rattle.join.specs.Join.{header_from}
 use Rattle.join.specs.Into.{Lent, lent_of, Why, because, short, lent_join, left, MayLent}
 use Rattle.join_areas.specs.declared.Refusal.{Refusal}
 use Rattle.join_areas.specs.declared.Refusal.TheVariants.{NotValid, Unlike, Apart, TooMany, AreaTooShort}
-use Rattle.join_areas.specs.declared.Joining.{Joining}
-use Rattle.join_areas.specs.declared.Joining.TheVariants.{Done, Refused}
-use Rattle.join_areas.specs.declared.Verdict.{Verdict}
-use Rattle.join_areas.specs.declared.Verdict.TheVariants.{Fine, Wrong}
 use Rattle.layout.specs.Layout.{per_map}
 
 -- ---- kinds
@@ -97,15 +93,15 @@ pub record Ready (early : Times) (late : Header) (a b : Areas) : Type 0 where
   pub fits : (l : Areas) → short_of early late a b l ≡ none → Fillable early.maps late.times.maps (per_map late) (columns late.grid) a b l
 
 pub record Put : Type 0 where
-  pub answer : Joining
+  pub answer : Result Header Refusal
   pub areas : Areas
 
-abbrev pub puts : Joining → Areas → Put
+abbrev pub puts : Result Header Refusal → Areas → Put
 puts r l = record { answer = r; areas = l }
 
 unfoldable pub by_room : (early : Times) (late : Header) (a b l : Areas) → Option (ℕ × ℕ) → Put
-by_room e h a b l none = puts (Done (header_from e h)) (all_beside e.maps h.times.maps (per_map h) (columns h.grid) a b l)
-by_room e h a b l (some s) = puts (Refused (AreaTooShort s.0 s.1)) l
+by_room e h a b l none = puts (Ok (header_from e h)) (all_beside e.maps h.times.maps (per_map h) (columns h.grid) a b l)
+by_room e h a b l (some s) = puts (Err (AreaTooShort s.0 s.1)) l
 
 unfoldable pub stored : (early : Times) (late : Header) (a b l : Areas) → Put
 stored e h a b l = by_room e h a b l (short_of e h a b l)
@@ -119,9 +115,9 @@ told_why TooMany = because 42
 told_why (AreaTooShort a n) = short a n
 
 -- the refusals but for 11
-abbrev pub Said : (earlier later : Lent) → Verdict → Type 0
-Said x y Fine = MayLent x y
-Said x y (Wrong w) = lent_join x y ≡ refused (told_why w)
+abbrev pub Said : (earlier later : Lent) → Result (Unit {0}) Refusal → Type 0
+Said x y (Ok u) = MayLent x y
+Said x y (Err w) = lent_join x y ≡ refused (told_why w)
 
 -- what is answered, and what is then in the areas
 pub record Outcome : Type 0 where
@@ -129,9 +125,9 @@ pub record Outcome : Type 0 where
   pub areas : Areas
 
 -- of the code's answer: the joined set has the later texts t
-abbrev pub comes : Joining → FullTexts → Areas → Outcome
-comes (Done h) t l = record { told = ok (lent_of h t l); areas = l }
-comes (Refused w) t l = record { told = refused (told_why w); areas = l }
+abbrev pub comes : Result Header Refusal → FullTexts → Areas → Outcome
+comes (Ok h) t l = record { told = ok (lent_of h t l); areas = l }
+comes (Err w) t l = record { told = refused (told_why w); areas = l }
 
 abbrev pub came : Answer Why Lent → Areas → Outcome
 came o l = record { told = o; areas = left o l }

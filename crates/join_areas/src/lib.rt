@@ -6,10 +6,11 @@ ghost use Rattle.kit.specs.Lists.{front};
 ghost use Rattle.mapset.specs.Described.{full};
 ghost use Rattle.mapset.specs.Areas.{six};
 ghost use Rattle.join.specs.Into.{lent_of, join_into};
+ghost use Rattle.join_areas.specs.declared.Refusal.TheVariants.{AreaTooShort};
 ghost use Rattle.join_areas.specs.Joined.{some_of, kinds_left, KindFits, kind_beside, Fillable, all_beside, Ready, puts, stored, Said, comes, came};
 
 use mapset::{Header, Kind, Texts, Times};
-use read_needs::{Elements, LentRoom, Others};
+use read_needs::{Elements, Others, Short};
 
 // 31, 40, 41 and 42 of document 02; and 11, with the area and the elements it needs.
 #[derive(Clone, Copy)]
@@ -21,18 +22,13 @@ pub enum Refusal {
     AreaTooShort(u64, u64),
 }
 
-// The header of the joined set, whose texts are the later set's.
-#[derive(Clone, Copy)]
-pub enum Joining {
-    Done(Header),
-    Refused(Refusal),
-}
+// An area that is too short.
+impl From<Short> for Refusal {
+    ghost from_gives = { λ s e. e ≡ AreaTooShort s.area s.need };
 
-// Whether two sets may be joined, room for them apart.
-#[derive(Clone, Copy)]
-enum Verdict {
-    Fine,
-    Wrong(Refusal),
+    fn from(s: Short) -> Refusal {
+        Refusal::AreaTooShort(s.area, s.need)
+    }
 }
 
 // Whether some map of the kind is there.
@@ -163,7 +159,7 @@ fn store(
     exponents: &mut [i32],
     epochs: &mut [u64],
     marks: &mut [u8],
-) -> Joining
+) -> Result<Header, Refusal>
     requires { Ready early late
         (six atec.now arms.now aheight.now aexponents.now aepochs.now amarks.now)
         (six btec.now brms.now bheight.now bexponents.now bepochs.now bmarks.now) }
@@ -188,36 +184,32 @@ fn store(
         epochs: epochs.len(),
         marks: marks.len(),
     };
-    match read_needs::room_for(need, lent) {
-        LentRoom::Short(area, elements) => Joining::Refused(Refusal::AreaTooShort(area, elements)),
-        LentRoom::Enough => {
-            fill_all(
-                m,
-                n,
-                size.blocks,
-                size.columns,
-                atec,
-                arms,
-                aheight,
-                aexponents,
-                aepochs,
-                amarks,
-                btec,
-                brms,
-                bheight,
-                bexponents,
-                bepochs,
-                bmarks,
-                tec,
-                rms,
-                height,
-                exponents,
-                epochs,
-                marks,
-            );
-            Joining::Done(header)
-        }
-    }
+    read_needs::room_for(need, lent)?;
+    fill_all(
+        m,
+        n,
+        size.blocks,
+        size.columns,
+        atec,
+        arms,
+        aheight,
+        aexponents,
+        aepochs,
+        amarks,
+        btec,
+        brms,
+        bheight,
+        bexponents,
+        bepochs,
+        bmarks,
+        tec,
+        rms,
+        height,
+        exponents,
+        epochs,
+        marks,
+    );
+    Ok(header)
 }
 
 // The refusals but for 11, in their order.
@@ -240,7 +232,7 @@ fn judged(
     bexponents: &[i32],
     bepochs: &[u64],
     bmarks: &[u8],
-) -> Verdict
+) -> Result<(), Refusal>
     ensures { Said (lent_of early (full etexts edescriptions.now)
         (six atec.now arms.now aheight.now aexponents.now aepochs.now amarks.now))
         (lent_of late (full ltexts ldescriptions.now)
@@ -258,7 +250,7 @@ fn judged(
         aepochs,
         amarks,
     ) {
-        return Verdict::Wrong(Refusal::NotValid);
+        return Err(Refusal::NotValid);
     }
     if !valid::valid(
         late,
@@ -271,21 +263,21 @@ fn judged(
         bepochs,
         bmarks,
     ) {
-        return Verdict::Wrong(Refusal::NotValid);
+        return Err(Refusal::NotValid);
     }
     if !join_head::alike(early, late) {
-        return Verdict::Wrong(Refusal::Unlike);
+        return Err(Refusal::Unlike);
     }
     if !join_head::meet(early, late) {
-        return Verdict::Wrong(Refusal::Apart);
+        return Err(Refusal::Apart);
     }
     if !join_head::in_limits(early.times, late) {
-        return Verdict::Wrong(Refusal::TooMany);
+        return Err(Refusal::TooMany);
     }
-    Verdict::Fine
+    Ok(())
 }
 
-// Two map sets joined into six lent areas: the header of both, or the reason why not.
+// Two map sets joined into six lent areas: the header of both, whose texts are the later set's, or the reason why not.
 pub fn join_sets(
     early: Header,
     etexts: Texts,
@@ -311,7 +303,7 @@ pub fn join_sets(
     exponents: &mut [i32],
     epochs: &mut [u64],
     marks: &mut [u8],
-) -> Joining
+) -> Result<Header, Refusal>
     ensures { comes result (full ltexts ldescriptions.now)
         (six tec.new rms.new height.new exponents.new epochs.new marks.new)
         ≡ came (join_into (lent_of early (full etexts edescriptions.now)
@@ -321,7 +313,7 @@ pub fn join_sets(
         (six tec.old rms.old height.old exponents.old epochs.old marks.old))
         (six tec.old rms.old height.old exponents.old epochs.old marks.old) }
 {
-    match judged(
+    judged(
         early,
         etexts,
         edescriptions,
@@ -340,29 +332,27 @@ pub fn join_sets(
         bexponents,
         bepochs,
         bmarks,
-    ) {
-        Verdict::Wrong(why) => Joining::Refused(why),
-        Verdict::Fine => store(
-            early.times,
-            late,
-            atec,
-            arms,
-            aheight,
-            aexponents,
-            aepochs,
-            amarks,
-            btec,
-            brms,
-            bheight,
-            bexponents,
-            bepochs,
-            bmarks,
-            tec,
-            rms,
-            height,
-            exponents,
-            epochs,
-            marks,
-        ),
-    }
+    )?;
+    store(
+        early.times,
+        late,
+        atec,
+        arms,
+        aheight,
+        aexponents,
+        aepochs,
+        amarks,
+        btec,
+        brms,
+        bheight,
+        bexponents,
+        bepochs,
+        bmarks,
+        tec,
+        rms,
+        height,
+        exponents,
+        epochs,
+        marks,
+    )
 }

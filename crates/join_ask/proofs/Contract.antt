@@ -18,14 +18,14 @@ use Rattle.join.specs.Join.{Agree}
 use Rattle.join_areas.specs.Joined.{comes}
 use Rattle.join_areas.specs.Contract.{Joins, Given}
 use Rattle.join_areas.proofs.Once.{done_given}
-use Rattle.join_areas.specs.declared.Joining.{Joining}
-use Rattle.join_areas.specs.declared.Joining.TheVariants.{Done, Refused}
+use Rattle.std.specs.Prelude.{Result, Ok, Err}
+use Rattle.join_areas.specs.declared.Refusal.{Refusal}
 use Rattle.join_ask.specs.Calls as calls
 use Rattle.join_ask.specs.Calls.{Leftwards, Rightwards}
 use Rattle.join_ask.proofs.AskLent.{asking_lent, ask_lent_late, ask_lent_early}
 
 -- ---- two sets
-module _ (x y : Lent) (l : Areas) (h : Header) (l' : Areas) (j : Joins x y l (Done h) l') where
+module _ (x y : Lent) (l : Areas) (h : Header) (l' : Areas) (j : Joins x y l (Ok h) l') where
   abbrev out : Lent
   out = lent_of h y.texts l'
 
@@ -52,18 +52,18 @@ module _ (x y : Lent) (l : Areas) (h : Header) (l' : Areas) (j : Joins x y l (Do
 -- ---- three sets, joined by two calls
 
 module _ (x y z : Lent) where
-  told : (x y : Lent) (l : Areas) (r : Joining) (l' : Areas) → Joins x y l r l' → (comes r y.texts l').told ≡ join_into x y l
+  told : (x y : Lent) (l : Areas) (r : Result Header Refusal) (l' : Areas) → Joins x y l r l' → (comes r y.texts l').told ≡ join_into x y l
   told x y l r l' j = ap (λ o. o.told) j
 
   leftwards_is : (l₁ l : Areas) {o : Answer Why Lent} → Leftwards x y z l₁ l o → o ≡ join_leftwards x y z l₁ l
   unfolding bind
-  leftwards_is l₁ l (calls.stopped w l₁' j) = ap (λ a. bind a (λ u. join_into u z l)) (told x y l₁ (Refused w) l₁' j)
-  leftwards_is l₁ l (calls.went h l₁' j r l' k) = told (lent_of h y.texts l₁') z l r l' k ∙ ap (λ a. bind a (λ u. join_into u z l)) (told x y l₁ (Done h) l₁' j)
+  leftwards_is l₁ l (calls.stopped w l₁' j) = ap (λ a. bind a (λ u. join_into u z l)) (told x y l₁ (Err w) l₁' j)
+  leftwards_is l₁ l (calls.went h l₁' j r l' k) = told (lent_of h y.texts l₁') z l r l' k ∙ ap (λ a. bind a (λ u. join_into u z l)) (told x y l₁ (Ok h) l₁' j)
 
   rightwards_is : (l₂ l : Areas) {o : Answer Why Lent} → Rightwards x y z l₂ l o → o ≡ join_rightwards x y z l₂ l
   unfolding bind
-  rightwards_is l₂ l (calls.stopped w l₂' j) = ap (λ a. bind a (λ u. join_into x u l)) (told y z l₂ (Refused w) l₂' j)
-  rightwards_is l₂ l (calls.went h l₂' j r l' k) = told x (lent_of h z.texts l₂') l r l' k ∙ ap (λ a. bind a (λ u. join_into x u l)) (told y z l₂ (Done h) l₂' j)
+  rightwards_is l₂ l (calls.stopped w l₂' j) = ap (λ a. bind a (λ u. join_into x u l)) (told y z l₂ (Err w) l₂' j)
+  rightwards_is l₂ l (calls.went h l₂' j r l' k) = told x (lent_of h z.texts l₂') l r l' k ∙ ap (λ a. bind a (λ u. join_into x u l)) (told y z l₂ (Ok h) l₂' j)
 
   -- both end in the same areas l, and neither way answers 11: the same set with the same areas, or both are refused
   pub either_way_code_roomy : (l₁ l₂ l : Areas) → {o o' : Answer Why Lent} → Leftwards x y z l₁ l o → Rightwards x y z l₂ l o' → NoneShort o → NoneShort o' → Agree o o'

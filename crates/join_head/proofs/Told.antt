@@ -2,27 +2,13 @@
 use mathlib.Core.Path.{◌≡◌}
 use Prim.Native.Nat.{ℕ}
 use native.Mathlib.Decide.{dec_le}
-use native.Mathlib.Omega.{arith}
-use lib.IntN.{ℤ}
 use Rattle.kit.specs.Answer.{×_dec}
-use Rattle.kit.specs.Integer.{Between, int?, between?}
-use Rattle.kit.proofs.Parts.{eq_parts, parts_le, le_parts}
 use Rattle.kit.specs.Truth.{truth, dec_by}
 use Rattle.kit.proofs.TruthLaws.{truth_same}
 use Rattle.mapset.specs.Grid.{Limits}
 use Rattle.mapset.specs.Decisions.{limits?}
 use Rattle.mapset.specs.declared.Grid.{Grid}
 use Rattle.join.specs.Join.{in_limits?}
-
--- from y to y is y
-same_between : (x y : ℤ) → x ≡ y → Between y y x
-same_between x y e = rw e (record { from = le_parts y y (omega arith); to = le_parts y y (omega arith) })
-
-between_same : (x y : ℤ) → Between y y x → x ≡ y
-between_same x y b = eq_parts x y (omega (arith, parts_le y x b.from, parts_le x y b.to))
-
-pub same_told : (x y : ℤ) → truth (between? y y x) ≡ truth (int? x y)
-same_told x y = truth_same (between? y y x) (int? x y) (between_same x y) (same_between x y)
 
 -- a decision of the parts is one of the whole
 pub by_parts : {P Q : Type 0} (f : P → Q) (g : Q → P) (d : Dec P) → truth d ≡ truth (dec_by f g d)

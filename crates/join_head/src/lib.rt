@@ -11,7 +11,7 @@ use mapset::{Axis, Grid, Header, Times, axes};
 fn same_axis(a: Axis, b: Axis) -> bool
     ensures { result ≡ truth (join.axis? a b) }
 {
-    kit::same(a.first, b.first) & (kit::same(a.last, b.last) & kit::same(a.step, b.step))
+    (a.first == b.first) & ((a.last == b.last) & (a.step == b.step))
 }
 
 fn same_grid(a: Grid, b: Grid) -> bool

@@ -1,13 +1,12 @@
--- A copy turn by turn, and what several copies one behind the other leave.
+-- What several copies one behind the other leave.
 use mathlib.Core.Path.{◌≡◌, refl, ◌∙◌, ap, sym}
 use mathlib.Core.Bool.{Bool, true, false, cond}
 use mathlib.Core.List.{List, [], ◌∷◌, ◌++◌, append_assoc}
-use Prim.Native.Nat.{ℕ, suc, zero, ◌+◌, ◌-◌, ◌*◌, ◌≤◌, ◌<◌}
-use native.Mathlib.Numerals.{add-one}
+use Prim.Native.Nat.{ℕ, suc, ◌+◌, ◌-◌, ◌*◌, ◌≤◌}
 use native.Mathlib.Omega.{arith}
 use lib.IntN.{ℤ, pos}
-use lib.ListN.{length, get_or, take, drop, set, replicate, length-set, length-append, length-drop, length-replicate}
-use lib.Seq.{paste, paste-zero, paste-suc, take_at, drop_at, drop-drop, length-take-le, take_all, take-take}
+use lib.ListN.{length, take, drop, length-append, length-drop, length-replicate}
+use lib.Seq.{paste, take_at, drop_at, drop-drop, length-take-le, take_all, take-take}
 use Rattle.kit.specs.Lists.{front}
 use Rattle.mapset.specs.declared.Kind.{Kind}
 use Rattle.mapset.specs.declared.Kind.TheVariants.{Tec, Rms, Height}
@@ -15,34 +14,6 @@ use Rattle.mapset.specs.Areas.{first_of}
 use Rattle.mapset.proofs.FirstLaws.{first_within}
 use Rattle.areas.specs.Nest.{third}
 use Rattle.join_lists.specs.Lists.{or_absent, ThirdsFit, third_of_two, thirds_of_two}
-
--- after j turns
-pub record Copied {A : Type 0} (d : List A) (at : ℕ) (s : List A) (n j : ℕ) (o : List A) : Type 0 where
-  pub within : j ≤ n
-  pub same : length o ≡ length d
-  pub so_far : o ≡ paste d at s j
-
-module _ {A : Type 0} (d : List A) (at : ℕ) (s : List A) (n : ℕ) where
-  pub copy_none : Copied d at s n 0 d
-  copy_none = record { within = omega arith; same = refl; so_far = paste-zero d at s }
-
-  module _ (hs : n ≤ length s) (hd : at + n ≤ length d) (j : ℕ) (o : List A) (c : Copied d at s n j o) where
-    pub copy_more : (z : A) → j < n → Copied d at s n (j + 1) (set o (at + j) (get_or s j z))
-    copy_more z h =
-        record {
-          within = omega arith;
-          same = length-set o (at + j) (get_or s j z) ∙ c.same;
-          so_far = rw (c.so_far, add-one) (paste-suc d at s j z (omega arith) (omega arith));
-        }
-
-    pub copy_done : n ≤ j → o ≡ paste d at s n
-    copy_done h = let w = c.within in let e : j ≡ n = omega arith in c.so_far ∙ ap (paste d at s) e
-
--- an element of a list of one value
-pub same_at : {A : Type 0} (n j : ℕ) (v z : A) → j < n → get_or (replicate n v) j z ≡ v
-same_at zero j v z h = absurd (omega arith)
-same_at (suc n) zero v z h = refl
-same_at (suc n) (suc j) v z h = same_at n j v z (omega arith)
 
 -- ---- copies one behind the other
 module _ {A : Type 0} where

@@ -9,26 +9,13 @@ ghost use Rattle.join_lists.specs.Lists.{or_absent, values_of_two, ThirdsFit, th
 
 use mapset::Kind;
 
-fn copy_i32(src: &[i32], out: &mut [i32], at: usize)
+// A list into an area, from a position on.
+fn copy_at<T: Copy>(src: &[T], out: &mut [T], at: usize)
     requires { at + length src.now ≤ length out.old }
     ensures { out.new ≡ paste out.old at src.now (length src.now) }
 {
-    let mut j = 0;
-    while j < src.len() {
-        out[at + j] = src[j];
-        j += 1;
-    }
-}
-
-fn copy_u64(src: &[u64], out: &mut [u64], at: usize)
-    requires { at + length src.now ≤ length out.old }
-    ensures { out.new ≡ paste out.old at src.now (length src.now) }
-{
-    let mut j = 0;
-    while j < src.len() {
-        out[at + j] = src[j];
-        j += 1;
-    }
+    let end = at + src.len();
+    out[at..end].copy_from_slice(src);
 }
 
 // So many values of maps that are not there.
@@ -36,11 +23,8 @@ fn put_absent(n: usize, out: &mut [i32], at: usize)
     requires { at + n ≤ length out.old }
     ensures { out.new ≡ paste out.old at (replicate n (pos 9999)) n }
 {
-    let mut j = 0;
-    while j < n {
-        out[at + j] = 9999;
-        j += 1;
-    }
+    let end = at + n;
+    out[at..end].fill(9999);
 }
 
 // So many values of a kind, of a set that has it, or of one that has no map of it.
@@ -52,7 +36,7 @@ fn put_values(has: bool, n: usize, src: &[i32], out: &mut [i32], at: usize)
         put_absent(n, out, at);
         return;
     }
-    copy_i32(&src[..n], out, at);
+    copy_at(&src[..n], out, at);
 }
 
 // The values of a kind: m of the earlier set and n of the later, unless neither has a map of it.
@@ -86,8 +70,8 @@ fn put_third(kind: Kind, k: usize, m: usize, n: usize, a: &[i32], b: &[i32], out
     let at = mapset::blocks_before(kind, k + n);
     let early = i + k;
     let late = j + n;
-    copy_i32(&a[i..early], out, at);
-    copy_i32(&b[j..late], out, at + k);
+    copy_at(&a[i..early], out, at);
+    copy_at(&b[j..late], out, at + k);
 }
 
 // The exponents of the three kinds.
@@ -104,14 +88,14 @@ pub fn join_epochs(a: &[u64], b: &[u64], out: &mut [u64])
     requires { length a.now + length b.now ≤ length out.old }
     ensures { out.new ≡ front (a.now ++ b.now) out.old }
 {
-    copy_u64(a, out, 0);
-    copy_u64(b, out, a.len());
+    copy_at(a, out, 0);
+    copy_at(b, out, a.len());
 }
 
 pub fn join_marks(a: &[u8], b: &[u8], out: &mut [u8])
     requires { length a.now + length b.now ≤ length out.old }
     ensures { out.new ≡ front (a.now ++ b.now) out.old }
 {
-    kit::copy_at(a, out, 0);
-    kit::copy_at(b, out, a.len());
+    copy_at(a, out, 0);
+    copy_at(b, out, a.len());
 }

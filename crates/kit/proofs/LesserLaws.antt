@@ -1,9 +1,15 @@
--- The lesser of two is at most each of them.
-use Prim.Native.Nat.{ℕ, ◌≤◌, ◌<◌}
+-- The lesser of two is their minimum, and at most each of them.
+use mathlib.Core.Path.{◌≡◌}
+use Prim.Native.Nat.{ℕ, ◌≤◌, ◌<◌, min}
 use native.Mathlib.Decide.{dec_lt}
 use native.Mathlib.Omega.{arith}
 use Rattle.kit.specs.Answer.{pick}
 use Rattle.kit.specs.Range.{lesser}
+use Rattle.kit.proofs.AnswerLaws.{pick_elim}
+
+pub lesser_is : (a b : ℕ) → lesser a b ≡ min a b
+unfolding lesser
+lesser_is a b = pick_elim (λ (m : ℕ). m ≡ min a b) (dec_lt a b) (λ h. omega arith) (λ n. omega arith)
 
 pub lesser_within : (a b : ℕ) → (lesser a b ≤ a) × (lesser a b ≤ b)
 unfolding lesser pick

@@ -1,10 +1,11 @@
 -- Stores one after the other.
-use mathlib.Core.Path.{◌≡◌, sym, ap, ◌∙◌}
-use mathlib.Core.List.{List, [], ◌∷◌, ◌++◌}
-use Prim.Native.Nat.{ℕ, suc, ◌+◌, ◌≤◌, ◌<◌}
+use mathlib.Core.Path.{◌≡◌, ap, ◌∙◌}
+use mathlib.Core.List.{List, [], ◌∷◌, ◌++◌, append_assoc}
+use Prim.Native.Nat.{ℕ, suc, ◌+◌, ◌-◌, ◌≤◌}
 use native.Mathlib.Omega.{arith}
-use lib.ListN.{length, set, get_or, take, drop}
-use lib.Seq.{sets, sets-eq, take-suc, length-take-le}
+use lib.ListN.{length, set, drop}
+use lib.Seq.{sets, sets-eq, drop-drop}
+use borrow.Rule.Slice.PartMut.{put_mid}
 use Rattle.kit.specs.Lists.{front}
 
 module _ {A : Type 0} where
@@ -19,13 +20,13 @@ module _ {A : Type 0} where
   sets_append [] ys l p k e = ap (λ j. sets l j ys) (e ∙ omega arith)
   sets_append (x ∷ xs) ys l p k e = sets_append xs ys (set l p x) (suc p) k (e ∙ omega arith)
 
-  -- one more of the elements that are copied
-  pub sets_next : (d : A) (from l : List A) (p i : ℕ) → i < length from → set (sets l p (take i from)) (p + i) (get_or from i d) ≡ sets l p (take (suc i) from)
-  sets_next d from l p i h =
-      let e : p + i ≡ p + length (take i from) = omega (arith, length-take-le i from (omega arith)) in
-      sets_append (take i from) (get_or from i d ∷ []) l p (p + i) e ∙ ap (sets l p) (sym (take-suc from i d h))
-
   pub sets_front : (xs l : List A) → length xs ≤ length l → sets l 0 xs ≡ front xs l
   sets_front xs l h =
       let e : 0 + length xs ≡ length xs = omega arith in
       sets-eq xs l 0 (omega arith) ∙ ap (λ k. xs ++ drop k l) e
+
+-- a part that has come back as `row`
+pub mid_sets : {A : Type 0} (l row xs : List A) (at k : ℕ) → k ≡ length row → at + k ≤ length l → xs ≡ row → put_mid at (at + k - at) l xs ≡ sets l at row
+mid_sets l row xs at k z h e =
+    let j : at + k - at ≡ length row = omega arith in
+    rw (e, j, sets-eq row l at (omega arith), drop-drop (length row) at l, append_assoc)

@@ -1,14 +1,13 @@
 -- Tests on integers, against the decisions on them.
-use mathlib.Core.Path.{◌≡◌}
-use mathlib.Core.Bool.{true, false}
-use native.Mathlib.Omega.{arith}
+use mathlib.Core.Path.{◌≡◌, refl, sym, subst}
+use mathlib.Core.Bool.{Bool, true, false, ◌&&◌}
+use lib.Dec.{T}
 use lib.IntN.{ℤ}
-use lib.Signed.{lt_z}
+use lib.Signed.{le_z}
 use mir.Syntax.{w32, w64}
 use mir.Val.{SFits, to_z, of_z}
 use mir.Facts.{to_z-of_z, sfits_widen}
 use Rattle.kit.specs.Integer.{between?}
-use Rattle.kit.proofs.Parts.{le_parts, parts_le, lt_true, lt_false}
 use Rattle.kit.specs.Truth.{truth}
 use Rattle.kit.proofs.TruthLaws.{holds, fails}
 
@@ -16,12 +15,11 @@ use Rattle.kit.proofs.TruthLaws.{holds, fails}
 pub widened : (x : ℤ) → SFits w32 x → to_z w64 (of_z w64 (to_z w32 (of_z w32 x))) ≡ x
 widened x f = rw (to_z-of_z f) (to_z-of_z {w = w64} (sfits_widen (tt {0}) f))
 
-module _ (low high x : ℤ) where
-  pub under : lt_z x low ≡ true → false ≡ truth (between? low high x)
-  under e = fails (between? low high x) (λ b. omega (arith, lt_true x low e, parts_le low x b.from))
-
-  pub over : lt_z high x ≡ true → false ≡ truth (between? low high x)
-  over e = fails (between? low high x) (λ b. omega (arith, lt_true high x e, parts_le x high b.to))
-
-  pub inside : lt_z x low ≡ false → lt_z high x ≡ false → true ≡ truth (between? low high x)
-  inside e f = holds (between? low high x) (record { from = le_parts low x (omega (arith, lt_false x low e)); to = le_parts x high (omega (arith, lt_false high x f)) })
+-- from low on, and up to high
+pub both : (low high x : ℤ) → (le_z low x && le_z x high) ≡ truth (between? low high x)
+both low high x = go (le_z low x) (le_z x high) refl refl
+  where
+    go : (t u : Bool) → le_z low x ≡ t → le_z x high ≡ u → (t && u) ≡ truth (between? low high x)
+    go true true e f = holds (between? low high x) (record { from = record { le = subst T (sym e) tt }; to = record { le = subst T (sym f) tt } })
+    go true false e f = fails (between? low high x) (λ b. subst T f b.to.le)
+    go false u e f = fails (between? low high x) (λ b. subst T e b.from.le)

@@ -9,21 +9,6 @@ ghost use Rattle.kit.specs.Truth.{truth};
 
 pub mod wide;
 
-// Whether x is below 0.
-pub fn negative(x: i64) -> bool
-    ensures { result ≡ lt_z x (pos 0) }
-{
-    x < 0
-}
-
-// x without its sign.
-pub fn magnitude(x: i64) -> u64
-    requires { nat_abs x < 2 ^ 63 }
-    ensures { result ≡ nat_abs x }
-{
-    if x < 0 { (0 - x) as u64 } else { x as u64 }
-}
-
 // m with a sign.
 pub fn with_sign(below: bool, m: u64) -> i64
     requires { m < 2 ^ 63 }
@@ -32,41 +17,12 @@ pub fn with_sign(below: bool, m: u64) -> i64
     if below { 0 - (m as i64) } else { m as i64 }
 }
 
-// The smaller of two lengths.
-pub fn lesser(a: usize, b: usize) -> usize
-    ensures { result ≡ lesser_of a b }
-{
-    if a < b {
-        return a;
-    }
-    b
-}
-
 // ---- Numbers as a text holds them
-
-pub fn less(x: i32, y: i32) -> bool
-    ensures { result ≡ lt_z x y }
-{
-    x < y
-}
-
-pub fn same(x: i32, y: i32) -> bool
-    ensures { result ≡ truth (int? x y) }
-{
-    x == y
-}
-
-// x without its sign.
-pub fn size(x: i32) -> u64
-    ensures { result ≡ nat_abs x }
-{
-    magnitude(x as i64)
-}
 
 pub fn between(low: i32, high: i32, x: i32) -> bool
     ensures { result ≡ truth (between? low high x) }
 {
-    wide::between(low as i64, high as i64, x as i64)
+    low <= x && x <= high
 }
 
 // Two of them into an area, from a position on.
@@ -78,16 +34,13 @@ pub fn put_two(out: &mut [i32], at: usize, a: i32, b: i32)
     out[at + 1] = b;
 }
 
-// ---- Bytes
+// ---- Areas
 
-// Bytes into an area, from a position on.
-pub fn copy_at(from: &[u8], out: &mut [u8], at: usize)
+// A slice into an area, from a position on.
+pub fn copy_at<T: Copy>(from: &[T], out: &mut [T], at: usize)
     requires { at + length from.now ≤ length out.old }
     ensures { out.new ≡ sets out.old at from.now }
 {
-    let mut i = 0;
-    while i < from.len() {
-        out[at + i] = from[i];
-        i += 1;
-    }
+    let end = at + from.len();
+    out[at..end].copy_from_slice(from);
 }

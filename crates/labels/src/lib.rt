@@ -1,13 +1,12 @@
 // The labels of the records, compared by the reader and written by the writer.
 #![tactic(auto)]
 
-ghost use Rattle.std.specs.Prelude.{◌≡◌, ◌+◌, ◌≤◌, length};
+ghost use Rattle.std.specs.Prelude.{◌≡◌, ◌+◌, ◌<◌, ◌≤◌, length, IfSome, unwrap_or};
 ghost use Rattle.std.proofs.Math.Decide.{ℕ_discrete};
 ghost use Rattle.layout.specs.Labels.{letters};
 ghost use Rattle.layout.specs.Names.{holds, number_of};
 ghost use Rattle.reading.specs.Head.{place};
-ghost use Rattle.labels.specs.Letters.{if_below};
-ghost use Rattle.labels.specs.Found.{LabelFound};
+ghost use Rattle.labels.specs.Letters.{found};
 
 // The label that opens a block, as nearly all labels of a file do, and two that may stand between blocks.
 const OPENING: [u8; 20] = *b"LAT/LON1/LON2/DLON/H";
@@ -131,13 +130,10 @@ pub fn has(line: &[u8], a: usize, wanted: &[u8]) -> bool
     requires { a + length wanted.now ≤ 80 }
     ensures { result ≡ holds line.now a wanted.now }
 {
-    let mut j: usize = 0;
-    while j < wanted.len() {
-        let b = fields::byte_at(line, a + j);
-        if b != wanted[j] {
+    for (j, b) in wanted.iter().enumerate() {
+        if fields::byte_at(line, a + j) != *b {
             return false;
         }
-        j += 1;
     }
     true
 }
@@ -156,85 +152,83 @@ fn has_whole(line: &[u8], label: &[u8; 20]) -> bool
     ensures { result ≡ holds line.now 60 label.now }
 {
     let mut ok = true;
-    let mut j: usize = 0;
-    while j < 20 {
+    for j in 0..20 {
         ok = ok & (line[60 + j] == label[j]);
-        j += 1;
     }
     ok
 }
 
-// The place of the label in columns 61 to 80, by trying one after the other. The table is made once, not for each byte.
-fn search(line: &[u8]) -> usize
-    ensures { result ≡ number_of line.now }
+// The place of the label in columns 61 to 80, by trying one after the other. A label is copied out of the table to be compared: lent,
+// it would keep the whole table on the stack, and a call took a fifth longer.
+fn search(line: &[u8]) -> Option<usize>
+    ensures { unwrap_or result 32 ≡ number_of line.now }
 {
     let labels = LABELS;
-    let mut k: usize = 0;
-    while k < 32 {
+    for k in 0..32 {
         let label = labels[k];
         if has_label(line, &label) {
-            return k;
+            return Some(k);
         }
-        k += 1;
     }
-    32
+    None
 }
 
-// A label that a file may have many of, known by its first letter; 32 where it is another.
-fn frequent(line: &[u8]) -> usize
-    ensures { LabelFound line.now result }
+// A label that a file may have many of, known by its first letter; none says nothing.
+fn frequent(line: &[u8]) -> Option<usize>
+    ensures { IfSome result (λ k. k ≡ number_of line.now) }
 {
     let first = fields::byte_at(line, 60);
     if first == b'L' {
         if line.len() < 80 {
-            return 32;
+            return None;
         }
         let opening = OPENING;
         if has_whole(line, &opening) {
-            return BLOCK;
+            return Some(BLOCK);
         }
-        return 32;
+        return None;
     }
     if first == b'C' {
         let remark = REMARK;
         if has_label(line, &remark) {
-            return COMMENT;
+            return Some(COMMENT);
         }
-        return 32;
+        return None;
     }
     if first == b'E' {
         let power = POWER;
         if has_label(line, &power) {
-            return EXPONENT;
+            return Some(EXPONENT);
         }
-        return 32;
+        return None;
     }
-    32
+    None
 }
 
-// The place in LABELS of the label in columns 61 to 80, 32 where it is none of them. Those that a file may have many of are tried first.
+// The place in LABELS of the label in columns 61 to 80, 32 where it is none of them, as the definition `number_of` counts. Those that a
+// file may have many of are tried first.
 pub fn label_of(line: &[u8]) -> usize
     ensures { result ≡ number_of line.now }
 {
-    let k = frequent(line);
-    if k < 32 {
+    if let Some(k) = frequent(line) {
         return k;
     }
-    search(line)
+    search(line).unwrap_or(32)
 }
 
-// The place of a system's letter in 01's list, 7 where it is none of them.
-pub fn letter_place(b: u8) -> usize
-    ensures { if_below 7 result ≡ place ℕ_discrete b letters }
+// The place of a system's letter in 01's list.
+pub fn letter_place(b: u8) -> Option<usize>
+    ensures place { found result ≡ place ℕ_discrete b letters }
+    ensures below { IfSome result (λ i. i < 7) }
 {
     match b {
-        b'G' => 0,
-        b'R' => 1,
-        b'E' => 2,
-        b'C' => 3,
-        b'J' => 4,
-        b'I' => 5,
-        b'S' => 6,
-        _ => 7,
+        b'G' => Some(0),
+        b'R' => Some(1),
+        b'E' => Some(2),
+        b'C' => Some(3),
+        b'J' => Some(4),
+        b'I' => Some(5),
+        b'S' => Some(6),
+        _ => None,
     }
 }

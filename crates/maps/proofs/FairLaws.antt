@@ -1,3 +1,4 @@
+use Rattle.std.specs.Prelude.{Result, Ok, Err}
 -- What every step keeps: the epochs grow by at most the one that is remembered, there is room for it, and the maps handed back are those that
 -- were seen.
 use mathlib.Core.Path.{◌≡◌, refl, sym, ◌∙◌}
@@ -13,15 +14,13 @@ use borrow.Author.Tests.{lt-ltb}
 use Rattle.kit.specs.Answer.{Answer, ok}
 use Rattle.kit.proofs.AnswerLaws.{Yields, y_ok, y_no, yields, need_yields, get_yields, bind_yields}
 use Rattle.kit.specs.Range.{Natural}
-use Rattle.calendar.specs.declared.Taken.{Taken}
-use Rattle.calendar.specs.declared.Taken.TheVariants.{At, Wrong}
 use Rattle.mapset.specs.declared.Kind.{Kind}
 use Rattle.mapset.specs.declared.Kind.TheVariants.{Tec, Rms, Height}
 use Rattle.mapset.specs.declared.Header.{Header}
 use Rattle.mapset.specs.MapSet.{OtherMap}
 use Rattle.layout.specs.Labels.{Label, version, description, comment, system, exponent, aux_start, aux_end, header_end, epoch, block, file_end, head, start, end}
 use Rattle.layout.specs.Layout.{Force}
-use Rattle.reading.specs.Feed.{Fault}
+use Rattle.reading.specs.declared.Fault.{Fault}
 use Rattle.reading.specs.Fields.{label, fields}
 use Rattle.reading.specs.Maps.{Todo, Next, stays, loose, date, on_date, on_comment, on_exponent, start_tec, start_other, start_map, on_start, end_map, on_end, epoch_tec, epoch_other, on_epoch, open_block, on_block, on_file, taken, step}
 use Rattle.reading.specs.declared.Place.{Place}
@@ -52,10 +51,10 @@ module _ {A : Type 0} {Q : A → Type 0} where
   loose_yields Early s = unfold loose in s
   loose_yields (Inside o) s = unfold loose in s
 
-  date_yields : (k : Taken) {f : ℕ → Answer Fault A} → ((t : ℕ) → Yields Q (f t)) → Yields Q (on_date k f)
+  date_yields : (k : Result ℕ ℕ) {f : ℕ → Answer Fault A} → ((t : ℕ) → Yields Q (f t)) → Yields Q (on_date k f)
   unfolding on_date
-  date_yields (At t) h = h t
-  date_yields (Wrong c) h = y_no
+  date_yields (Ok t) h = h t
+  date_yields (Err c) h = y_no
 
 module _ (h : Header) where
   stays_fair : (q : Place) (p f : Force) → f.epochs ≡ p.epochs → f.rms ≡ p.rms → f.height ≡ p.height → Yields (Fair h q p) (stays q f)

@@ -1,4 +1,5 @@
 -- Numbers of records and nodes of axes.
+use Rattle.std.specs.Prelude.{Some, None}
 use mathlib.Core.Path.{◌≡◌, sym, ap, ◌∙◌}
 use mathlib.Core.Logic.{inl, inr, ⊎_elim}
 use mathlib.Core.Bool.{true, false}
@@ -7,31 +8,28 @@ use native.Mathlib.Decide.{ℕ_discrete}
 use native.Mathlib.Omega.{arith}
 use lib.Dec.{eqb}
 use lib.IntN.{ℤ, pos, negsuc, nat_abs}
-use lib.Signed.{lt_z}
+use lib.Signed.{le_z}
+use mir.Syntax.{w32}
+use mir.Val.{SFits, of_z}
+use mir.Facts.{to_z-of_z}
 use Rattle.kit.specs.Answer.{⊎_dec}
 use Rattle.kit.proofs.AnswerLaws.{pick_yes, pick_no}
-use Rattle.kit.specs.Integer.{int?, up}
-use Rattle.kit.proofs.Parts.{not_below_zero, below_zero, lt_true, lt_false}
+use Rattle.kit.specs.Integer.{int?}
+use Rattle.kit.proofs.Parts.{from_bits}
 use Rattle.mapset.specs.declared.Axis.{Axis}
 use Rattle.maps_agree.specs.Agreement.{differing}
 use Rattle.kit.specs.Truth.{truth}
-use Rattle.kit.proofs.TruthLaws.{holds, fails, truth_same, truth_true, truth_false, eq_tells}
+use Rattle.kit.proofs.TruthLaws.{holds, fails, truth_same, eq_tells}
 
--- ---- a number that is not negative
+-- ---- the number of a map
 
-pub up_none : (x : ℤ) → lt_z x (pos 0) ≡ true → 0 ≡ up x
-up_none x e = sym (below_zero x e).0
+pub count_none : (z : ℤ) (n : ℕ) → le_z (pos 0) z ≡ false → false ≡ truth (int? z (pos n))
+count_none (pos m) n e = grind arith
+count_none (negsuc m) n e = fails (int? (negsuc m) (pos n)) (λ q. cc)
 
-pub up_size : (x : ℤ) → lt_z x (pos 0) ≡ false → nat_abs x ≡ up x
-up_size x e = sym (not_below_zero x e).1
-
-pub count_none : (z : ℤ) (n : ℕ) → lt_z z (pos 0) ≡ true → false ≡ truth (int? z (pos n))
-count_none (pos m) n e = let l = lt_true (pos m) (pos 0) e in absurd (omega arith)
-count_none (negsuc m) n e = fails (int? (negsuc m) (pos n)) (λ q. let z : ◌≡◌ {A = ℕ} 0 1 = cc in omega arith)
-
-pub count_some : (z : ℤ) (n : ℕ) → lt_z z (pos 0) ≡ false → eqb (nat_abs z) n ≡ truth (int? z (pos n))
+pub count_some : (z : ℤ) (n : ℕ) → le_z (pos 0) z ≡ true → eqb (nat_abs z) n ≡ truth (int? z (pos n))
 count_some (pos m) n e = eq_tells m n ∙ truth_same (ℕ_discrete m n) (int? (pos m) (pos n)) (λ p. ap pos p) (λ p. cc)
-count_some (negsuc m) n e = let l = lt_false (negsuc m) (pos 0) e in absurd (omega arith)
+count_some (negsuc m) n e = cc
 
 -- ---- H
 
@@ -44,21 +42,24 @@ module _ (d : ℕ) (z w : ℤ) where
 
 -- ---- the three numbers of the longitudes
 
+pub same_number : {x y : ℤ} → SFits w32 x → SFits w32 y → of_z w32 x ≡ of_z w32 y → x ≡ y
+same_number {x} {y} f g e = from_bits w32 x (of_z w32 y) f e ∙ to_z-of_z g
+
 module _ (a : Axis) (x y z : ℤ) where
-  pub first_differs : truth (int? x a.first) ≡ false → 9 ≡ differing a x y z
+  pub first_differs : ¬ (x ≡ a.first) → Some 9 ≡ differing a x y z
   unfolding differing
-  first_differs e = sym (pick_no (int? x a.first) _ _ (truth_false _ e))
+  first_differs n = sym (pick_no _ _ _ n)
 
-  module _ (p : truth (int? x a.first) ≡ true) where
-    pub last_differs : truth (int? y a.last) ≡ false → 15 ≡ differing a x y z
+  module _ (p : x ≡ a.first) where
+    pub last_differs : ¬ (y ≡ a.last) → Some 15 ≡ differing a x y z
     unfolding differing
-    last_differs e = sym (pick_yes (int? x a.first) _ _ (truth_true _ p) ∙ pick_no (int? y a.last) _ _ (truth_false _ e))
+    last_differs n = sym (pick_yes _ _ _ p ∙ pick_no _ _ _ n)
 
-    module _ (q : truth (int? y a.last) ≡ true) where
-      pub step_differs : truth (int? z a.step) ≡ false → 21 ≡ differing a x y z
+    module _ (q : y ≡ a.last) where
+      pub step_differs : ¬ (z ≡ a.step) → Some 21 ≡ differing a x y z
       unfolding differing
-      step_differs e = sym (pick_yes (int? x a.first) _ _ (truth_true _ p) ∙ pick_yes (int? y a.last) _ _ (truth_true _ q) ∙ pick_no (int? z a.step) _ _ (truth_false _ e))
+      step_differs n = sym (pick_yes _ _ _ p ∙ pick_yes _ _ _ q ∙ pick_no _ _ _ n)
 
-      pub none_differs : truth (int? z a.step) ≡ true → 0 ≡ differing a x y z
+      pub none_differs : z ≡ a.step → None ≡ differing a x y z
       unfolding differing
-      none_differs e = sym (pick_yes (int? x a.first) _ _ (truth_true _ p) ∙ pick_yes (int? y a.last) _ _ (truth_true _ q) ∙ pick_yes (int? z a.step) _ _ (truth_true _ e))
+      none_differs e = sym (pick_yes _ _ _ p ∙ pick_yes _ _ _ q ∙ pick_yes _ _ _ e)

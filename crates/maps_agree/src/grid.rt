@@ -14,20 +14,14 @@ use mapset::{Axis, Grid};
 pub fn natural(x: i32) -> u64
     ensures { result ≡ up x }
 {
-    if kit::less(x, 0) {
-        return 0;
-    }
-    kit::size(x)
+    x.max(0) as u64
 }
 
 // Whether z is the natural number n.
 pub fn counts(z: i32, n: u64) -> bool
     ensures { result ≡ truth (int? z (pos n)) }
 {
-    if kit::less(z, 0) {
-        return false;
-    }
-    kit::size(z) == n
+    0 <= z && z as u64 == n
 }
 
 fn is_node(a: Axis, i: u64, x: i32) -> bool
@@ -42,11 +36,7 @@ fn passed(grid: Grid, left: u64) -> u64
     requires { (layers grid ≤ 64) × (rows grid ≤ 361) }
     ensures { result ≡ layers grid * rows grid - left }
 {
-    let all = mapset::axes::per_map(grid);
-    if all < left {
-        return 0;
-    }
-    all - left
+    mapset::axes::per_map(grid).saturating_sub(left)
 }
 
 // Whether x is the latitude of the block that opens when so many are left.
@@ -58,20 +48,20 @@ pub fn row_agrees(grid: Grid, left: u64, x: i32) -> bool
     is_node(grid.latitudes, i, x)
 }
 
-// The first column of the first of three numbers that is not the axis', else 0.
-pub fn differs(a: Axis, first: i32, last: i32, step: i32) -> u64
+// The first column of the first of three numbers that is not the axis'.
+pub fn differs(a: Axis, first: i32, last: i32, step: i32) -> Option<u64>
     ensures { result ≡ differing a first last step }
 {
-    if !kit::same(first, a.first) {
-        return 9;
+    if first != a.first {
+        return Some(9);
     }
-    if !kit::same(last, a.last) {
-        return 15;
+    if last != a.last {
+        return Some(15);
     }
-    if !kit::same(step, a.step) {
-        return 21;
+    if step != a.step {
+        return Some(21);
     }
-    0
+    None
 }
 
 // In dimension 2 H may be any number.

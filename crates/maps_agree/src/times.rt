@@ -8,11 +8,10 @@ use mapset::Header;
 fn is_after(header: Header, epochs: &[u64], e: u64) -> bool
     ensures { result ≡ truth (M.after? header epochs.now e) }
 {
-    let k = epochs.len();
-    if k == 0 {
-        return e == header.times.first;
+    match epochs.last() {
+        None => e == header.times.first,
+        Some(last) => mapset::follows(header.times.interval, *last, e),
     }
-    mapset::follows(header.times.interval, epochs[k - 1], e)
 }
 
 // Whether e may be the next epoch after these.

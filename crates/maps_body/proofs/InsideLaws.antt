@@ -1,7 +1,8 @@
+use Rattle.std.specs.Prelude.{Result, Ok, Err}
 -- What EPOCH, END OF FILE and the opening of a block do, one branch of their tests after the other.
+use Rattle.std.specs.Prelude.{Option, Some, None, Ok}
 use mathlib.Core.Path.{◌≡◌, refl, sym, ap, ◌∙◌}
 use mathlib.Core.Bool.{Bool, true, false}
-use mathlib.Core.Option.{some}
 use mathlib.Core.List.{List, [], ◌∷◌}
 use Prim.Native.Nat.{ℕ, suc, ◌-◌, ◌%◌}
 use native.Mathlib.Omega.{arith}
@@ -13,15 +14,14 @@ use Rattle.kit.proofs.AnswerLaws.{need_yes, need_no}
 use Rattle.kit.specs.Integer.{int?}
 use Rattle.kit.specs.Truth.{truth}
 use Rattle.kit.proofs.TruthLaws.{clash}
-use Rattle.calendar.specs.declared.Taken.{Taken}
-use Rattle.calendar.specs.declared.Taken.TheVariants.{At, Wrong}
 use Rattle.mapset.specs.declared.Kind.TheVariants.{Tec}
 use Rattle.mapset.specs.declared.Header.{Header}
 use Rattle.mapset.specs.Grid.{rows, columns}
-use Rattle.layout.specs.Labels.{exponent, epoch, block, file_end, layout}
+use Rattle.layout.specs.Labels.{epoch, block, file_end, layout}
 use Rattle.layout.specs.Records.{Vals}
 use Rattle.layout.specs.Layout.{Force, with_epoch, per_map, node, Date}
-use Rattle.reading.specs.Feed.{Fault, fault}
+use Rattle.reading.specs.declared.Fault.{Fault}
+use Rattle.reading.specs.Feed.{fault}
 use Rattle.reading.specs.Fields.{fields}
 use Rattle.reading.specs.Maps.{Todo, Next, Step, goes, date, on_date, in_time?, height?, one_less, settled, epoch_tec, epoch_other, open_block, on_file}
 use Rattle.reading.specs.declared.Open.{Open}
@@ -31,22 +31,20 @@ use Rattle.maps_agree.specs.Agreement.{differing}
 use Rattle.maps_bounds.specs.Steps.{force_of, moved}
 use Rattle.maps_body.specs.ByLabel.{opened}
 use Rattle.maps_bounds.specs.declared.Past.{Past}
-use Rattle.maps_bounds.specs.declared.Push.TheVariants.{Keep, New}
-use Rattle.maps_bounds.specs.declared.Move.TheVariants.{Go}
 use Rattle.maps_bounds.proofs.StepLaws.{bind_ok, bind_no, need_true, need_false}
 
 -- ---- EPOCH OF CURRENT MAP
 
 module _ {A : Type 0} (f : ℕ → Answer Fault A) where
-  at_date : (k : Taken) (t : ℕ) → on_date k ok ≡ ok t → on_date k f ≡ f t
+  at_date : (k : Result ℕ ℕ) (t : ℕ) → on_date k ok ≡ ok t → on_date k f ≡ f t
   unfolding on_date
-  at_date (At u) t e = let z : u ≡ t = cc in ap f z
-  at_date (Wrong c) t e = clash (cc)
+  at_date (Ok u) t e = let z : u ≡ t = cc in ap f z
+  at_date (Err c) t e = clash (cc)
 
-  no_date : (k : Taken) (w : Fault) → on_date {A = ℕ} k ok ≡ refused w → on_date k f ≡ refused w
+  no_date : (k : Result ℕ ℕ) (w : Fault) → on_date {A = ℕ} k ok ≡ refused w → on_date k f ≡ refused w
   unfolding on_date
-  no_date (At u) w e = clash (cc)
-  no_date (Wrong c) w e = let z : fault 7 c ≡ w = cc in ap refused z
+  no_date (Ok u) w e = clash (cc)
+  no_date (Err c) w e = let z : fault 7 c ≡ w = cc in ap refused z
 
   then_date : (x : Answer Fault Date) (t : ℕ) → bind x (λ d. on_date (date d) ok) ≡ ok t → bind x (λ d. on_date (date d) f) ≡ f t
   unfolding bind
@@ -59,7 +57,7 @@ module _ {A : Type 0} (f : ℕ → Answer Fault A) where
   then_none (refused v) w e = let z : v ≡ w = cc in ap refused z
 
 module _ (h : Header) (p : Force) (r : List ℕ) where
-  pub epoch_bad : {k c : ℕ} → bind (fields epoch r) (λ d. on_date (date d) ok) ≡ refused (fault k c) → epoch_tec h p r ≡ refused (fault k c)
+  pub epoch_bad : {f : Fault} → bind (fields epoch r) (λ d. on_date (date d) ok) ≡ refused f → epoch_tec h p r ≡ refused f
   unfolding epoch_tec
   epoch_bad e = then_none _ (fields epoch r) _ e
 
@@ -75,7 +73,7 @@ module _ (h : Header) (p : Force) (r : List ℕ) where
 
 -- an epoch is to be remembered
 pub remembers : {q : Place} (es : List ℕ) {s : Step q} (to : Place) (p : Past) (t : ℕ) {f : Todo to → Todo q}
-    → s ≡ goes to (with_epoch t (force_of p es)) f → Go (record { to = to; past = p; due = 0; push = New t }) ≡ moved es s
+    → s ≡ goes to (with_epoch t (force_of p es)) f → Ok (record { to = to; past = p; due = 0; epoch = Some t }) ≡ moved es s
 unfolding moved
 remembers es to p t e = rw (e, drop-append_seam es (t ∷ []))
 
@@ -85,7 +83,7 @@ module _ (o : Open) (p : Force) (r : List ℕ) where
   again_late e = need_no _ _ _ (λ f. let z : ◌≡◌ {A = Bool} true false = sym f ∙ e in clash (cc))
 
   module _ (new : o.fresh ≡ true) where
-    pub again_bad : {k c : ℕ} → bind (fields epoch r) (λ d. on_date (date d) ok) ≡ refused (fault k c) → epoch_other o p r ≡ refused (fault k c)
+    pub again_bad : {f : Fault} → bind (fields epoch r) (λ d. on_date (date d) ok) ≡ refused f → epoch_other o p r ≡ refused f
     unfolding epoch_other
     again_bad e = need_yes _ _ _ new ∙ then_none _ (fields epoch r) _ e
 
@@ -116,20 +114,20 @@ module _ (h : Header) (p : Force) (r : List ℕ) where
 
 -- ---- LAT/LON1/LON2/DLON/H
 
-one_differs : {A P Q R : Type 0} (p : Dec P) (q : Dec Q) (r : Dec R) (x : Answer Fault A) → ¬ (◌≡◌ {A = ℕ} (pick p (pick q (pick r 0 21) 15) 9) 0)
-    → need p (fault 8 9) (need q (fault 8 15) (need r (fault 8 21) x)) ≡ refused (fault 8 (pick p (pick q (pick r 0 21) 15) 9))
+one_differs : {A P Q R : Type 0} (p : Dec P) (q : Dec Q) (r : Dec R) (x : Answer Fault A) {c : ℕ} → pick p (pick q (pick r None (Some 21)) (Some 15)) (Some 9) ≡ Some c
+    → need p (fault 8 9) (need q (fault 8 15) (need r (fault 8 21) x)) ≡ refused (fault 8 c)
 unfolding pick need
-one_differs (no p) q r x n = refl
-one_differs (yes p) (no q) r x n = refl
-one_differs (yes p) (yes q) (no r) x n = refl
-one_differs (yes p) (yes q) (yes r) x n = absurd (n refl)
+one_differs (no p) q r x e = cc
+one_differs (yes p) (no q) r x e = cc
+one_differs (yes p) (yes q) (no r) x e = cc
+one_differs (yes p) (yes q) (yes r) x e = cc
 
-none_differs : {A P Q R : Type 0} (p : Dec P) (q : Dec Q) (r : Dec R) (x : Answer Fault A) → ◌≡◌ {A = ℕ} (pick p (pick q (pick r 0 21) 15) 9) 0
+none_differs : {A P Q R : Type 0} (p : Dec P) (q : Dec Q) (r : Dec R) (x : Answer Fault A) → ◌≡◌ {A = Option ℕ} (pick p (pick q (pick r None (Some 21)) (Some 15)) (Some 9)) None
     → need p (fault 8 9) (need q (fault 8 15) (need r (fault 8 21) x)) ≡ x
 unfolding pick need
-none_differs (no p) q r x e = absurd (omega arith)
-none_differs (yes p) (no q) r x e = absurd (omega arith)
-none_differs (yes p) (yes q) (no r) x e = absurd (omega arith)
+none_differs (no p) q r x e = cc
+none_differs (yes p) (no q) r x e = cc
+none_differs (yes p) (yes q) (no r) x e = cc
 none_differs (yes p) (yes q) (yes r) x e = refl
 
 module _ (h : Header) (o : Open) (p : Force) (a b c d e : ℤ) where
@@ -138,11 +136,11 @@ module _ (h : Header) (o : Open) (p : Force) (a b c d e : ℤ) where
   row_wrong t = need_false (int? a _) _ _ t
 
   module _ (t : truth (int? a (node h.grid.latitudes ((per_map h - o.left) % rows h.grid))) ≡ true) where
-    pub longitude_wrong : ¬ (differing h.grid.longitudes b c d ≡ 0) → opened h o p (a, (b, (c, (d, (e, tt))))) ≡ refused (fault 8 (differing h.grid.longitudes b c d))
+    pub longitude_wrong : {k : ℕ} → differing h.grid.longitudes b c d ≡ Some k → opened h o p (a, (b, (c, (d, (e, tt))))) ≡ refused (fault 8 k)
     unfolding opened differing
     longitude_wrong n = need_true (int? a _) _ _ t ∙ one_differs (int? b _) (int? c _) (int? d _) _ n
 
-    module _ (z : differing h.grid.longitudes b c d ≡ 0) where
+    module _ (z : differing h.grid.longitudes b c d ≡ None) where
       pub height_wrong : truth (height? h (per_map h - o.left) e) ≡ false → opened h o p (a, (b, (c, (d, (e, tt))))) ≡ refused (fault 8 27)
       unfolding opened differing
       height_wrong f = need_true (int? a _) _ _ t ∙ none_differs (int? b _) (int? c _) (int? d _) _ z ∙ need_false (height? h _ e) _ _ f
@@ -158,7 +156,7 @@ module _ (h : Header) (o : Open) (p : Force) (a b c d e : ℤ) where
 
 -- the block's values come first
 pub opens : {q : Place} (es : List ℕ) {s : Step q} (x : Next q) (p : Past) → x.force ≡ force_of p es → s ≡ ok x
-    → Go (record { to = x.to; past = p; due = x.due; push = Keep }) ≡ moved es s
+    → Ok (record { to = x.to; past = p; due = x.due; epoch = None }) ≡ moved es s
 unfolding moved
 opens es x p f e = rw (e, f, drop-length es)
 
@@ -168,7 +166,7 @@ module _ (h : Header) (o : Open) (p : Force) (r : List ℕ) where
   block_none z = need_no _ _ _ (λ l. omega arith)
 
   module _ (some : ¬ (o.left ≡ 0)) where
-    pub block_bad : {c : ℕ} → fields block r ≡ refused (fault 6 c) → open_block h o p r ≡ refused (fault 6 c)
+    pub block_bad : {f : Fault} → fields block r ≡ refused f → open_block h o p r ≡ refused f
     unfolding open_block
     block_bad e = need_yes _ _ _ (omega arith) ∙ bind_no _ e
 

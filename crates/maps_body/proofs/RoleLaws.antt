@@ -1,24 +1,26 @@
 -- A record's role by its label's number, and the step by its role.
+use Rattle.std.specs.Prelude.{Result, Ok, Err}
 use mathlib.Core.Path.{◌≡◌, refl, sym, ap, ◌∙◌}
-use mathlib.Core.Bool.{Bool, true, false, ◌||◌}
+use mathlib.Core.Bool.{Bool, false, ◌&&◌, ◌||◌}
 use mathlib.Core.Option.{Option, none, some}
 use mathlib.Core.List.{List}
 use Prim.Native.Nat.{ℕ, suc, ◌≤◌, ◌<◌}
 use native.Mathlib.Omega.{arith}
 use lib.ListN.{length, get_or}
-use lib.Dec.{T, eqb, leb}
+use lib.Dec.{T, eqb, eqb→eq, leb}
 use borrow.Author.Tests.{ne_eqb, lt-leb}
-use Rattle.kit.proofs.TruthLaws.{tested_at}
+use Rattle.kit.proofs.TruthLaws.{tested_at, and_left, and_right}
 use Rattle.kit.specs.Answer.{refused, bind, get}
 use Rattle.mapset.specs.declared.Header.{Header}
 use Rattle.layout.specs.Text.{pad}
 use Rattle.layout.specs.Labels.{Label, version, description, comment, system, exponent, aux_start, aux_end, header_end, epoch, block, file_end, head, start, end, labels}
 use Rattle.layout.specs.Layout.{Force}
 use Rattle.layout.specs.Names.{number_of}
+use Rattle.reading.specs.declared.Fault.{Fault}
 use Rattle.reading.specs.Feed.{fault}
 use Rattle.reading.specs.Fields.{label, scan, fields}
 use Rattle.reading.proofs.LabelLaws.{label_known, label_unknown}
-use Rattle.reading.specs.Maps.{Step, stays, misplaced, loose, on_comment, on_exponent, on_start, on_end, on_epoch, on_block, on_file, taken, step}
+use Rattle.reading.specs.Maps.{Step, stays, loose, on_comment, on_exponent, on_start, on_end, on_epoch, on_block, on_file, taken, step}
 use Rattle.reading.specs.declared.Place.{Place}
 use Rattle.maps_body.specs.ByLabel.{role, role_of}
 use Rattle.maps_body.specs.declared.Role.{Role}
@@ -26,28 +28,17 @@ use Rattle.maps_body.specs.declared.Role.TheVariants as R
 
 -- ---- the role
 
-is_misplaced : Role → Bool
-is_misplaced R.Comment = false
-is_misplaced R.Exponent = false
-is_misplaced (R.Start k) = false
-is_misplaced (R.End k) = false
-is_misplaced R.Epoch = false
-is_misplaced R.Block = false
-is_misplaced R.File = false
-is_misplaced R.Misplaced = true
-is_misplaced R.Unknown = false
+is_misplaced : Result Role Fault → Bool
+is_misplaced (Ok r) = false
+is_misplaced (Err f) = eqb f.number 5 && eqb f.column 61
 
-misplaced_is : (r : Role) → T (is_misplaced r) → R.Misplaced ≡ r
+misplaced_is : (r : Result Role Fault) → T (is_misplaced r) → Err (fault 5 61) ≡ r
 unfolding is_misplaced
-misplaced_is R.Comment t = absurd t
-misplaced_is R.Exponent t = absurd t
-misplaced_is (R.Start k) t = absurd t
-misplaced_is (R.End k) t = absurd t
-misplaced_is R.Epoch t = absurd t
-misplaced_is R.Block t = absurd t
-misplaced_is R.File t = absurd t
-misplaced_is R.Misplaced t = refl
-misplaced_is R.Unknown t = absurd t
+misplaced_is (Ok r) t = absurd t
+misplaced_is (Err f) t =
+    let p : 5 ≡ f.number = sym (eqb→eq f.number 5 (and_left (eqb f.number 5) (eqb f.column 61) t)) in
+    let q : 61 ≡ f.column = sym (eqb→eq f.column 61 (and_right (eqb f.number 5) (eqb f.column 61) t)) in
+    λ i. Err (record { number = p i; column = q i })
 
 -- the numbers of the maps' labels
 abbrev listed : ℕ → Bool
@@ -57,11 +48,11 @@ misplaced_at : (k : ℕ) → k < 32 → T (listed k || is_misplaced (role_of (ge
 unfolding is_misplaced
 misplaced_at k h = tested_at (λ k. listed k || is_misplaced (role_of (get_or labels k version))) 32 tt k h
 
-other_role : (k : ℕ) → k < 23 → ¬ (k ≡ 3) → ¬ (k ≡ 19) → R.Misplaced ≡ role_of (get_or labels k version)
+other_role : (k : ℕ) → k < 23 → ¬ (k ≡ 3) → ¬ (k ≡ 19) → Err (fault 5 61) ≡ role_of (get_or labels k version)
 other_role k h a b = misplaced_is _ (rw (ne_eqb k 3 a, ne_eqb k 19 b, lt-leb 23 k h) at (misplaced_at k (omega arith)))
 
 module _ (line : List ℕ) (fits : length line ≤ 80) (k : ℕ) (is : k ≡ number_of line) where
-  pub role_unknown : 32 ≤ k → R.Unknown ≡ role (label (pad line))
+  pub role_unknown : 32 ≤ k → Err (fault 4 61) ≡ role (label (pad line))
   role_unknown h = sym (ap role (label_unknown line fits (omega arith)))
 
   role_known : k < 32 → role_of (get_or labels k version) ≡ role (label (pad line))
@@ -70,7 +61,7 @@ module _ (line : List ℕ) (fits : length line ≤ 80) (k : ℕ) (is : k ≡ num
   pub role_at : (j : ℕ) → k ≡ j → j < 32 → role_of (get_or labels j version) ≡ role (label (pad line))
   role_at j e h = ap (λ (i : ℕ). role_of (get_or labels i version)) (sym e) ∙ role_known (omega arith)
 
-  pub role_other : k < 23 → ¬ (k ≡ 3) → ¬ (k ≡ 19) → R.Misplaced ≡ role (label (pad line))
+  pub role_other : k < 23 → ¬ (k ≡ 3) → ¬ (k ≡ 19) → Err (fault 5 61) ≡ role (label (pad line))
   role_other h a b = other_role k h a b ∙ role_known (omega arith)
 
 -- ---- the step
@@ -84,10 +75,12 @@ module _ (h : Header) (q : Place) (p : Force) (r : List ℕ) where
   by_role R.Epoch = on_epoch h q p r
   by_role R.Block = on_block h q p r
   by_role R.File = on_file h q p r
-  by_role R.Misplaced = misplaced
-  by_role R.Unknown = refused (fault 4 61)
 
-  step_by : (o : Option Label) → get o (fault 4 61) (λ l. taken h q p l r) ≡ by_role (role o)
+  abbrev by_answer : Result Role Fault → Step q
+  by_answer (Ok x) = by_role x
+  by_answer (Err f) = refused f
+
+  step_by : (o : Option Label) → get o (fault 4 61) (λ l. taken h q p l r) ≡ by_answer (role o)
   unfolding get taken on_comment fields scan bind
   step_by none = refl
   step_by (some comment) = refl
@@ -105,10 +98,6 @@ module _ (h : Header) (q : Place) (p : Force) (r : List ℕ) where
   step_by (some header_end) = refl
   step_by (some (head i)) = refl
 
-  pub step_is : (x : Role) → role (label r) ≡ x → step h q p r ≡ by_role x
+  pub step_is : (x : Result Role Fault) → role (label r) ≡ x → step h q p r ≡ by_answer x
   unfolding step
-  step_is x e = step_by (label r) ∙ ap by_role e
-
--- one number less
-pub but : (n : ℕ) {k : ℕ} → k < suc n → ¬ (k ≡ n) → k < n
-but n h e = omega arith
+  step_is x e = step_by (label r) ∙ ap by_answer e

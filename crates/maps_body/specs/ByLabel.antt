@@ -1,6 +1,6 @@
 -- What a label stands for among the maps, and what the opening of a block must hold.
 use Rattle.std.proofs.Math.Option.{Option, none, some}
-use Rattle.std.specs.Prelude.{◌∷◌, ◌-◌, ◌%◌}
+use Rattle.std.specs.Prelude.{◌∷◌, ◌-◌, ◌%◌, Result, Ok, Err}
 use Rattle.kit.specs.Answer.{ok, need}
 use Rattle.kit.specs.Integer.{int?}
 use Rattle.mapset.specs.declared.Header.{Header}
@@ -8,31 +8,33 @@ use Rattle.mapset.specs.Grid.{rows, columns}
 use Rattle.layout.specs.Records.{Vals}
 use Rattle.layout.specs.Labels.{Label, version, description, comment, system, exponent, aux_start, aux_end, header_end, epoch, block, file_end, head, start, end, layout}
 use Rattle.layout.specs.Layout.{Force, per_map, node}
+use Rattle.reading.specs.declared.Fault.{Fault}
+use Rattle.reading.specs.Feed.{fault}
 use Rattle.reading.specs.Maps.{Step, disagrees, height?, one_less}
 use Rattle.reading.specs.declared.Open.{Open}
 use Rattle.reading.specs.declared.Place.TheVariants.{Inside}
 use Rattle.maps_body.specs.declared.Role.{Role}
 use Rattle.maps_body.specs.declared.Role.TheVariants as R
 
--- what a label stands for among the maps
-abbrev pub role_of : Label → Role
-role_of comment = R.Comment
-role_of exponent = R.Exponent
-role_of (start k) = R.Start k
-role_of (end k) = R.End k
-role_of epoch = R.Epoch
-role_of block = R.Block
-role_of file_end = R.File
-role_of version = R.Misplaced
-role_of description = R.Misplaced
-role_of system = R.Misplaced
-role_of aux_start = R.Misplaced
-role_of aux_end = R.Misplaced
-role_of header_end = R.Misplaced
-role_of (head i) = R.Misplaced
+-- what a label stands for among the maps; one of the header is misplaced
+abbrev pub role_of : Label → Result Role Fault
+role_of comment = Ok R.Comment
+role_of exponent = Ok R.Exponent
+role_of (start k) = Ok (R.Start k)
+role_of (end k) = Ok (R.End k)
+role_of epoch = Ok R.Epoch
+role_of block = Ok R.Block
+role_of file_end = Ok R.File
+role_of version = Err (fault 5 61)
+role_of description = Err (fault 5 61)
+role_of system = Err (fault 5 61)
+role_of aux_start = Err (fault 5 61)
+role_of aux_end = Err (fault 5 61)
+role_of header_end = Err (fault 5 61)
+role_of (head i) = Err (fault 5 61)
 
-abbrev pub role : Option Label → Role
-role none = R.Unknown
+abbrev pub role : Option Label → Result Role Fault
+role none = Err (fault 4 61)
 role (some l) = role_of l
 
 -- an opening with these numbers

@@ -1,7 +1,7 @@
 // What a record of the maps does, by its label.
 #![tactic(auto)]
 
-ghost use Rattle.std.specs.Prelude.{◌≡◌, ◌-◌, ◌≤◌, length, get_or};
+ghost use Rattle.std.specs.Prelude.{◌≡◌, ◌-◌, ◌≤◌, length, get_or, Result};
 ghost use Rattle.mapset.specs.Grid.{Limits};
 ghost use Rattle.layout.specs.Text.{pad};
 ghost use Rattle.reading.specs.Fields as F;
@@ -10,10 +10,10 @@ ghost use Rattle.maps_bounds.specs.Steps.{force_of, moved, Always};
 ghost use Rattle.maps_body.specs.ByLabel.{role, opened};
 
 use maps_agree::{grid, times};
-use maps_bounds::{Move, Next, Past, Push};
-use maps_records::{Dated, Opening};
+use maps_bounds::{MISPLACED, MISSING, Next, Past, disagrees, still};
+use maps_records::Opening;
 use mapset::{Header, Kind};
-use reading::{Open, Place};
+use reading::{Fault, Open, Place};
 
 // What a label stands for among the maps.
 #[derive(Clone, Copy)]
@@ -25,92 +25,73 @@ pub enum Role {
     Epoch,
     Block,
     File,
-    Misplaced,
-    Unknown,
 }
 
 // ---- EPOCH OF CURRENT MAP
 
-fn epoch_tec(header: Header, past: Past, epochs: &[u64], line: &[u8]) -> Move
+fn epoch_tec(header: Header, past: Past, epochs: &[u64], line: &[u8]) -> Result<Next, Fault>
     requires { (length line.now ≤ 80) × Limits header.times.maps header.grid }
     ensures { result ≡ moved epochs.now (M.epoch_tec header (force_of past epochs.now) (pad line.now)) }
 {
-    match maps_records::epoch_in(line) {
-        Dated::Refused(number, column) => Move::Stop(number, column),
-        Dated::At(t) => {
-            if !times::in_time(header, epochs, t) {
-                return Move::Stop(8, 1);
-            }
-            let left = mapset::axes::per_map(header.grid);
-            Move::Go(Next {
-                to: Place::Inside(Open {
-                    fresh: false,
-                    kind: Kind::Tec,
-                    number: epochs.len() as u64 + 1,
-                    left: left,
-                }),
-                past: past,
-                due: 0,
-                push: Push::New(t),
-            })
-        }
+    let t = maps_records::epoch_in(line)?;
+    if !times::in_time(header, epochs, t) {
+        return Err(disagrees(1));
     }
-}
-
-fn epoch_at(epochs: &[u64], k: usize) -> u64
-    ensures { result ≡ get_or epochs.now k 0 }
-{
-    if k < epochs.len() {
-        return epochs[k];
-    }
-    0
+    let opened = Open {
+        fresh: false,
+        kind: Kind::Tec,
+        number: epochs.len() as u64 + 1,
+        left: mapset::axes::per_map(header.grid),
+    };
+    Ok(Next {
+        to: Place::Inside(opened),
+        past,
+        due: 0,
+        epoch: Some(t),
+    })
 }
 
 // The epoch of TEC map i.
 fn epoch_of(epochs: &[u64], i: u64) -> u64
     ensures { result ≡ get_or epochs.now (i - 1) 0 }
 {
-    if i == 0 {
-        return epoch_at(epochs, 0);
+    match epochs.get(i.saturating_sub(1) as usize) {
+        Some(epoch) => *epoch,
+        None => 0,
     }
-    epoch_at(epochs, (i - 1) as usize)
 }
 
 // Once before the first block, and the TEC map's.
-fn epoch_other(this: Open, past: Past, epochs: &[u64], line: &[u8]) -> Move
+fn epoch_other(this: Open, past: Past, epochs: &[u64], line: &[u8]) -> Result<Next, Fault>
     requires { length line.now ≤ 80 }
     ensures { result ≡ moved epochs.now (M.epoch_other this (force_of past epochs.now) (pad line.now)) }
 {
     if !this.fresh {
-        return Move::Stop(5, 61);
+        return Err(MISPLACED);
     }
-    match maps_records::epoch_in(line) {
-        Dated::Refused(number, column) => Move::Stop(number, column),
-        Dated::At(t) => {
-            if t != epoch_of(epochs, this.number) {
-                return Move::Stop(8, 1);
-            }
-            let kind = this.kind;
-            maps_bounds::still(
-                Place::Inside(Open {
-                    fresh: false,
-                    kind: kind,
-                    number: this.number,
-                    left: this.left,
-                }),
-                past,
-            )
-        }
+    let t = maps_records::epoch_in(line)?;
+    if t != epoch_of(epochs, this.number) {
+        return Err(disagrees(1));
     }
+    let opened = Open {
+        fresh: false,
+        ..this
+    };
+    Ok(still(Place::Inside(opened), past))
 }
 
-fn on_epoch(header: Header, place: Place, past: Past, epochs: &[u64], line: &[u8]) -> Move
+fn on_epoch(
+    header: Header,
+    place: Place,
+    past: Past,
+    epochs: &[u64],
+    line: &[u8],
+) -> Result<Next, Fault>
     requires { (length line.now ≤ 80) × Limits header.times.maps header.grid }
     ensures { result ≡ moved epochs.now (M.on_epoch header place (force_of past epochs.now) (pad line.now)) }
 {
     match place {
-        Place::Ended => Move::Stop(5, 61),
-        Place::Between => Move::Stop(5, 61),
+        Place::Ended | Place::Between => Err(MISPLACED),
         Place::Early => epoch_tec(header, past, epochs, line),
         Place::Inside(this) => epoch_other(this, past, epochs, line),
     }
@@ -118,132 +99,133 @@ fn on_epoch(header: Header, place: Place, past: Past, epochs: &[u64], line: &[u8
 
 // ---- LAT/LON1/LON2/DLON/H
 
-fn block_of(
-    header: Header,
-    this: Open,
-    past: Past,
-    latitude: i32,
-    first: i32,
-    last: i32,
-    step: i32,
-    height: i32,
-) -> Move
+fn block_of(header: Header, this: Open, past: Past, opening: Opening) -> Result<Next, Fault>
     requires { Limits header.times.maps header.grid × (1 ≤ this.left) }
-    ensures { Always result (λ h es. opened header this (force_of past es) (latitude, (first, (last, (step, (height, tt)))))) }
+    ensures { Always result (λ h es. opened header this (force_of past es) (opening.latitude, (opening.first, (opening.last, (opening.step, (opening.height, tt)))))) }
 {
-    if !grid::row_agrees(header.grid, this.left, latitude) {
-        return Move::Stop(8, 3);
+    if !grid::row_agrees(header.grid, this.left, opening.latitude) {
+        return Err(disagrees(3));
     }
-    let column = grid::differs(header.grid.longitudes, first, last, step);
-    if column != 0 {
-        return Move::Stop(8, column);
+    let axis = header.grid.longitudes;
+    if let Some(column) = grid::differs(axis, opening.first, opening.last, opening.step) {
+        return Err(disagrees(column));
     }
-    if !grid::height_agrees(header.grid, header.model.dimension, this.left, height) {
-        return Move::Stop(8, 27);
+    if !grid::height_agrees(
+        header.grid,
+        header.model.dimension,
+        this.left,
+        opening.height,
+    ) {
+        return Err(disagrees(27));
     }
-    let kind = this.kind;
-    Move::Go(Next {
-        to: Place::Inside(Open {
-            fresh: false,
-            kind: kind,
-            number: this.number,
-            left: this.left - 1,
-        }),
-        past: past,
-        due: mapset::axes::nodes(header.grid.longitudes) as usize,
-        push: Push::Keep,
+    let opened = Open {
+        fresh: false,
+        left: this.left - 1,
+        ..this
+    };
+    Ok(Next {
+        to: Place::Inside(opened),
+        past,
+        due: mapset::axes::nodes(axis) as usize,
+        epoch: None,
     })
 }
 
-fn open_block(header: Header, this: Open, past: Past, line: &[u8]) -> Move
+fn open_block(header: Header, this: Open, past: Past, line: &[u8]) -> Result<Next, Fault>
     requires { (length line.now ≤ 80) × Limits header.times.maps header.grid }
     ensures { Always result (λ h es. M.open_block header this (force_of past es) (pad line.now)) }
 {
     if this.left == 0 {
-        return Move::Stop(5, 61);
+        return Err(MISPLACED);
     }
-    match maps_records::opening_in(line) {
-        Opening::Wrong(column) => Move::Stop(6, column),
-        Opening::Numbers(latitude, first, last, step, height) => block_of(
-            header, this, past, latitude, first, last, step, height,
-        ),
-    }
+    block_of(header, this, past, maps_records::opening_in(line)?)
 }
 
-fn on_block(header: Header, place: Place, past: Past, line: &[u8]) -> Move
+fn on_block(header: Header, place: Place, past: Past, line: &[u8]) -> Result<Next, Fault>
     requires { (length line.now ≤ 80) × Limits header.times.maps header.grid }
     ensures { Always result (λ h es. M.on_block header place (force_of past es) (pad line.now)) }
 {
     match place {
-        Place::Ended => Move::Stop(5, 61),
-        Place::Between => Move::Stop(5, 61),
-        Place::Early => Move::Stop(5, 61),
+        Place::Ended | Place::Between | Place::Early => Err(MISPLACED),
         Place::Inside(this) => open_block(header, this, past, line),
     }
 }
 
 // ---- END OF FILE
 
-fn end_file(header: Header, past: Past, epochs: &[u64], line: &[u8]) -> Move
+fn end_file(header: Header, past: Past, epochs: &[u64], line: &[u8]) -> Result<Next, Fault>
     requires { length line.now ≤ 80 }
     ensures { result ≡ moved epochs.now (M.on_file header Place.Between (force_of past epochs.now) (pad line.now)) }
 {
-    match fields::first_not_blank(line, 0, 60) {
-        forms::Found::At(column) => Move::Stop(6, column as u64),
-        forms::Found::Nowhere => {
-            if epochs.len() as u64 != header.times.maps as u64 {
-                return Move::Stop(9, 0);
-            }
-            maps_bounds::still(Place::Ended, past)
-        }
+    if let Some(column) = fields::first_not_blank(line, 0, 60) {
+        return Err(Fault {
+            number: 6,
+            column: column as u64,
+        });
     }
+    if epochs.len() as u64 != header.times.maps as u64 {
+        return Err(MISSING);
+    }
+    Ok(still(Place::Ended, past))
 }
 
-fn on_file(header: Header, place: Place, past: Past, epochs: &[u64], line: &[u8]) -> Move
+fn on_file(
+    header: Header,
+    place: Place,
+    past: Past,
+    epochs: &[u64],
+    line: &[u8],
+) -> Result<Next, Fault>
     requires { length line.now ≤ 80 }
     ensures { result ≡ moved epochs.now (M.on_file header place (force_of past epochs.now) (pad line.now)) }
 {
     match place {
-        Place::Ended => Move::Stop(5, 61),
         Place::Between => end_file(header, past, epochs, line),
-        Place::Early => Move::Stop(5, 61),
-        Place::Inside(_) => Move::Stop(5, 61),
+        Place::Ended | Place::Early | Place::Inside(_) => Err(MISPLACED),
     }
 }
 
 // ---- By the label
 
-fn role_of(line: &[u8]) -> Role
+// 32 is no label, as layout's `number_of` has it.
+fn role_of(line: &[u8]) -> Result<Role, Fault>
     requires { length line.now ≤ 80 }
     ensures { result ≡ role (F.label (pad line.now)) }
 {
     let label = labels::label_of(line);
     if 32 <= label {
-        return Role::Unknown;
+        return Err(Fault {
+            number: 4,
+            column: 61,
+        });
     }
     match label {
-        labels::COMMENT => Role::Comment,
-        labels::EXPONENT => Role::Exponent,
-        labels::TEC_START => Role::Start(Kind::Tec),
-        labels::TEC_END => Role::End(Kind::Tec),
-        labels::RMS_START => Role::Start(Kind::Rms),
-        labels::RMS_END => Role::End(Kind::Rms),
-        labels::HEIGHT_START => Role::Start(Kind::Height),
-        labels::HEIGHT_END => Role::End(Kind::Height),
-        labels::EPOCH => Role::Epoch,
-        labels::BLOCK => Role::Block,
-        labels::FILE_END => Role::File,
-        _ => Role::Misplaced,
+        labels::COMMENT => Ok(Role::Comment),
+        labels::EXPONENT => Ok(Role::Exponent),
+        labels::TEC_START => Ok(Role::Start(Kind::Tec)),
+        labels::TEC_END => Ok(Role::End(Kind::Tec)),
+        labels::RMS_START => Ok(Role::Start(Kind::Rms)),
+        labels::RMS_END => Ok(Role::End(Kind::Rms)),
+        labels::HEIGHT_START => Ok(Role::Start(Kind::Height)),
+        labels::HEIGHT_END => Ok(Role::End(Kind::Height)),
+        labels::EPOCH => Ok(Role::Epoch),
+        labels::BLOCK => Ok(Role::Block),
+        labels::FILE_END => Ok(Role::File),
+        _ => Err(MISPLACED),
     }
 }
 
-pub fn step(header: Header, place: Place, past: Past, epochs: &[u64], line: &[u8]) -> Move
+pub fn step(
+    header: Header,
+    place: Place,
+    past: Past,
+    epochs: &[u64],
+    line: &[u8],
+) -> Result<Next, Fault>
     requires { (length line.now ≤ 80) × Limits header.times.maps header.grid }
     ensures { result ≡ moved epochs.now (M.step header place (force_of past epochs.now) (pad line.now)) }
 {
-    match role_of(line) {
-        Role::Unknown => Move::Stop(4, 61),
-        Role::Misplaced => Move::Stop(5, 61),
+    match role_of(line)? {
         Role::Comment => maps_bounds::on_comment(place, past),
         Role::Exponent => maps_bounds::on_exponent(place, past, line),
         Role::Start(kind) => maps_bounds::on_start(header, place, past, epochs, kind, line),

@@ -5,7 +5,7 @@ use Rattle.std.proofs.Math.Option.{Option, none, some}
 use Rattle.mapset.specs.declared.Axis.{Axis}
 use Rattle.mapset.specs.declared.Counted.{Counted}
 use Rattle.mapset.specs.declared.System.{System}
-use Rattle.mapset.specs.Header.{count, Said, number, along, words, counts}
+use Rattle.mapset.specs.Header.{Said, number, along, words, counts}
 
 abbrev pub blank_texts : Texts
 blank_texts = record { program = replicate 20 32; agency = replicate 20 32; date = replicate 20 32; mapping = replicate 4 32; observables = replicate 60 32 }

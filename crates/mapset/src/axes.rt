@@ -18,118 +18,83 @@ pub enum Line {
 
 // The first field outside its own range, or the rule over several fields that is broken.
 #[derive(Clone, Copy)]
-pub enum Judged {
+pub enum Misfit {
     First,
     Last,
     Step,
     Together,
-    Fine,
 }
 
 fn distance(x: i32, y: i32) -> u64
     ensures { result ≡ nat_abs (y -ℤ x) }
 {
-    kit::magnitude((y as i64) - (x as i64))
-}
-
-// Whether d divides x; 0 divides 0 alone.
-fn divides(d: u64, x: u64) -> bool
-    ensures { result ≡ truth (ℕ_discrete (x % d) 0) }
-{
-    if d == 0 {
-        return x == 0;
-    }
-    x % d == 0
+    y.abs_diff(x) as u64
 }
 
 fn end_fits(which: Line, x: i32) -> bool
     ensures { result ≡ truth (end? (line which) x) }
 {
     match which {
-        Line::Heights => kit::between(0, 99999, x),
-        Line::Latitudes => kit::between(-900, 900, x),
-        Line::Longitudes => kit::between(-1800, 3600, x),
+        Line::Heights => 0 <= x && x <= 99999,
+        Line::Latitudes => -900 <= x && x <= 900,
+        Line::Longitudes => -1800 <= x && x <= 3600,
     }
-}
-
-// 0 < |d| ≤ 15.0
-fn latitude_step_fits(d: i32) -> bool
-    ensures { result ≡ truth (step? latitudes d) }
-{
-    let e = kit::size(d);
-    if e == 0 {
-        return false;
-    }
-    e <= 150
 }
 
 fn step_fits(which: Line, d: i32) -> bool
     ensures { result ≡ truth (step? (line which) d) }
 {
     match which {
-        Line::Heights => kit::between(0, 99999, d),
-        Line::Latitudes => latitude_step_fits(d),
-        Line::Longitudes => kit::between(1, 150, d),
+        Line::Heights => 0 <= d && d <= 99999,
+        Line::Latitudes => d != 0 && d.unsigned_abs() <= 150,
+        Line::Longitudes => 1 <= d && d <= 150,
     }
 }
 
+// 0 divides 0 alone.
 fn ends_divide(a: Axis) -> bool
     ensures { result ≡ truth (ends? a) }
 {
-    let d = kit::size(a.step);
-    if divides(d, kit::size(a.first)) {
-        return divides(d, kit::size(a.last));
-    }
-    false
+    let d = a.step.unsigned_abs();
+    a.first.unsigned_abs().is_multiple_of(d) && a.last.unsigned_abs().is_multiple_of(d)
 }
 
 // From first to last in the step's direction.
 fn toward(a: Axis) -> bool
     ensures { result ≡ truth (toward? a) }
 {
-    if kit::less(0, a.step) {
-        return !kit::less(a.last, a.first);
+    if 0 < a.step {
+        a.first <= a.last
+    } else {
+        a.step < 0 && a.last <= a.first
     }
-    if kit::less(a.step, 0) {
-        return !kit::less(a.first, a.last);
-    }
-    false
 }
 
 // DHGT 0 with equal ends, or the span a positive whole multiple of DHGT.
 fn heights_agree(a: Axis) -> bool
     ensures { result ≡ truth (together? heights a) }
 {
-    let d = kit::size(a.step);
-    let span = distance(a.first, a.last);
-    if d == 0 {
-        return span == 0;
+    if a.step == 0 {
+        a.first == a.last
+    } else {
+        a.first < a.last
+            && a.last
+                .abs_diff(a.first)
+                .is_multiple_of(a.step.unsigned_abs())
     }
-    if kit::less(a.first, a.last) {
-        return divides(d, span);
-    }
-    false
 }
 
 fn latitudes_agree(a: Axis) -> bool
     ensures { result ≡ truth (together? latitudes a) }
 {
-    if ends_divide(a) {
-        return toward(a);
-    }
-    false
+    ends_divide(a) && toward(a)
 }
 
 fn longitudes_agree(a: Axis) -> bool
     ensures { result ≡ truth (together? longitudes a) }
 {
-    if kit::less(a.last, a.first) {
-        return false;
-    }
-    if 3600 < distance(a.first, a.last) {
-        return false;
-    }
-    ends_divide(a)
+    let span = a.last.abs_diff(a.first);
+    a.first <= a.last && span <= 3600 && ends_divide(a)
 }
 
 fn fields_agree(which: Line, a: Axis) -> bool
@@ -142,43 +107,43 @@ fn fields_agree(which: Line, a: Axis) -> bool
     }
 }
 
-pub fn judge(which: Line, a: Axis) -> Judged
+pub fn judge(which: Line, a: Axis) -> Result<(), Misfit>
     ensures { result ≡ judged (line which) a }
 {
     if !end_fits(which, a.first) {
-        return Judged::First;
+        return Err(Misfit::First);
     }
     if !end_fits(which, a.last) {
-        return Judged::Last;
+        return Err(Misfit::Last);
     }
     if !step_fits(which, a.step) {
-        return Judged::Step;
+        return Err(Misfit::Step);
     }
     if !fields_agree(which, a) {
-        return Judged::Together;
+        return Err(Misfit::Together);
     }
-    Judged::Fine
+    Ok(())
 }
 
 // How many nodes lie on an axis.
 pub fn nodes(a: Axis) -> u64
     ensures { result ≡ G.nodes a }
 {
-    let d = kit::size(a.step);
-    if d == 0 {
+    if a.step == 0 {
         return 1;
     }
-    distance(a.first, a.last) / d + 1
+    distance(a.first, a.last) / (a.step.unsigned_abs() as u64) + 1
 }
 
 // Dimension 2 exactly when DHGT is 0.
 pub fn dimension_agrees(dimension: u32, a: Axis) -> bool
     ensures { result ≡ truth (dimension? dimension a) }
 {
-    if kit::size(a.step) == 0 {
-        return dimension == 2;
+    if a.step == 0 {
+        dimension == 2
+    } else {
+        dimension == 3
     }
-    dimension == 3
 }
 
 // The node of an axis after i others.
@@ -204,14 +169,8 @@ pub fn limits_hold(maps: u32, grid: Grid) -> bool
     let layers = nodes(grid.heights);
     let rows = nodes(grid.latitudes);
     let columns = nodes(grid.longitudes);
-    if 361 < rows {
-        return false;
-    }
-    if 721 < columns {
-        return false;
-    }
-    if 64 < layers {
-        return false;
-    }
-    (maps as u64) * layers * rows * columns <= 2_000_000
+    rows <= 361
+        && columns <= 721
+        && layers <= 64
+        && (maps as u64) * layers * rows * columns <= 2_000_000
 }

@@ -98,7 +98,7 @@ pub struct Header {
 }
 
 // What a map holds: total electron content, its error, or the height it stands at.
-#[derive(Clone, Copy)]
+#[derive(Clone, Copy, PartialEq, Eq)]
 pub enum Kind {
     Tec,
     Rms,
@@ -153,24 +153,14 @@ pub fn present(kind: Kind, mark: u8) -> bool
 fn nowhere(kind: Kind, marks: &[u8]) -> bool
     ensures { result ≡ truth (nowhere? kind marks.now) }
 {
-    let mut i: usize = 0;
-    while i < marks.len() {
-        if present(kind, marks[i]) {
-            return false;
-        }
-        i += 1;
-    }
-    true
+    marks.iter().all(|mark| !present(kind, *mark))
 }
 
 // The values that a kind needs: none where no map is marked with it.
 pub fn need(kind: Kind, marks: &[u8], values: usize) -> usize
     ensures { result ≡ pick (nowhere? kind marks.now) 0 values }
 {
-    if nowhere(kind, marks) {
-        return 0;
-    }
-    values
+    if nowhere(kind, marks) { 0 } else { values }
 }
 
 // How many blocks stand before those of a kind, where each kind has so many.
@@ -189,15 +179,6 @@ pub fn blocks_before(kind: Kind, blocks: usize) -> usize
 pub fn follows(interval: u32, before: u64, epoch: u64) -> bool
     ensures { result ≡ truth (follows? interval before epoch) }
 {
-    if epoch <= before {
-        return false;
-    }
-    let gap = epoch - before;
-    if 21600 < gap {
-        return false;
-    }
-    if interval == 0 {
-        return true;
-    }
-    gap == (interval as u64)
+    let gap = epoch.saturating_sub(before);
+    0 < gap && gap <= 21600 && (interval == 0 || gap == interval as u64)
 }

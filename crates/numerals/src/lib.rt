@@ -3,14 +3,8 @@
 
 ghost use Rattle.std.specs.Prelude.{◌≡◌, ◌++◌, ◌+◌, ◌<◌, ◌≤◌, length, take, drop};
 ghost use Rattle.forms.specs.Form.{I, W1, sign};
-ghost use Rattle.forms.specs.Show.{is_minus, digits, aligned, show_field};
+ghost use Rattle.forms.specs.Show.{digits, aligned, show_field};
 ghost use Rattle.forms.specs.Bytes.{left_byte};
-
-fn is_minus(z: i32) -> bool
-    ensures { result ≡ is_minus z }
-{
-    z < 0
-}
 
 fn left_byte(n: u64, minus: bool) -> u8
     ensures { result ≡ left_byte n minus }
@@ -26,12 +20,11 @@ fn write_whole(out: &mut [u8], minus: bool, n: u64)
     requires { 0 < length out.old }
     ensures { out.new ≡ aligned (length out.old) (sign minus ++ digits 1 n) }
 {
-    let mut i = out.len() - 1;
-    out[i] = 48 + (n % 10) as u8;
+    let last = out.len() - 1;
+    out[last] = 48 + (n % 10) as u8;
     let mut left = n / 10;
     let mut due = minus;
-    while 0 < i {
-        i -= 1;
+    for i in (0..last).rev() {
         out[i] = left_byte(left, due);
         due = (0 < left) & due;
         left = left / 10;
@@ -43,7 +36,7 @@ fn write_int(out: &mut [u8], z: i32)
     requires { 0 < length out.old }
     ensures { out.new ≡ show_field I (length out.old) z }
 {
-    write_whole(out, is_minus(z), kit::size(z));
+    write_whole(out, z < 0, z.unsigned_abs() as u64);
 }
 
 // The form Fn.1, of tenths.
@@ -52,8 +45,8 @@ fn write_tenths(out: &mut [u8], z: i32)
     ensures { out.new ≡ show_field W1 (length out.old) z }
 {
     let k = out.len() - 2;
-    let n = kit::size(z);
-    write_whole(&mut out[..k], is_minus(z), n / 10);
+    let n = z.unsigned_abs() as u64;
+    write_whole(&mut out[..k], z < 0, n / 10);
     out[k] = b'.';
     out[k + 1] = 48 + (n % 10) as u8;
 }

@@ -7,6 +7,7 @@ use native.Mathlib.Omega.{arith}
 use native.Mathlib.Decide.{dec_le}
 use lib.ListN.{length, drop, length-append}
 use lib.Seq.{take_at}
+use Rattle.std.specs.Prelude.{Result, Ok, Err}
 use Rattle.kit.specs.Answer.{Answer, ok, refused, pick}
 use Rattle.kit.proofs.AnswerLaws.{pick_yes, pick_no}
 use Rattle.mapset.specs.declared.Header.{Header}
@@ -14,7 +15,7 @@ use Rattle.mapset.specs.Described.{FullTexts}
 use Rattle.mapset.specs.Areas.{Areas}
 use Rattle.mapset.specs.MapSet.{MapSet}
 use Rattle.layout.specs.Layout.{Makes}
-use Rattle.reading.specs.Feed.{Why}
+use Rattle.reading.specs.declared.Why.{Why}
 use Rattle.reading.specs.Read.{read}
 use Rattle.reading.proofs.Exact.{read_made}
 use Rattle.areas.specs.Flat.{areas}
@@ -27,15 +28,14 @@ use Rattle.valid.specs.Validity.{validity}
 use Rattle.canonical.specs.Canon.{canon}
 use Rattle.canonical.specs.CanonOf.{canon_of}
 use Rattle.write_text.specs.Write as W
-use Rattle.write_text.specs.declared.Written.{Written}
+use Rattle.std.specs.Prelude.{Result}
+use Rattle.write_text.specs.declared.Unwritten.{Unwritten}
 use Rattle.read_needs.specs.Needs.{needed_and_lent, first_short}
 use Rattle.read_needs.proofs.ShortLaws.{none_short}
 use Rattle.read_outcome.specs.Outcome.{with_room, outcome_of, told_reason, told, texts_in}
 use Rattle.read_outcome.proofs.Once.{told_once}
 use Rattle.read_text.proofs.Once.{Reads, accepts_exactly}
 use Rattle.read_outcome.specs.declared.Reason.{Reason}
-use Rattle.read_outcome.specs.declared.Reading.{Reading}
-use Rattle.read_outcome.specs.declared.Reading.TheVariants.{Accepted, Refused}
 use Rattle.read_outcome.specs.declared.ReadOut.{ReadOut}
 use Rattle.program_line.specs.Lines.{big_line, need_line, unsound_line, line_of}
 use Rattle.program_text.specs.Printed.{fitted, canonical, shown, Stands, answered, Had, needed_and_had, set_printed, answer_printed, printed}
@@ -55,7 +55,7 @@ module _ (h : Header) (t : FullTexts) (a : Areas) (o : List ℕ) where
   by_cases x (no n) (yes l) = (tt, refl)
   by_cases x (no n) (no m) = (tt, refl)
 
-  pub due : (r : Written) (o' : List ℕ) → ◌≡◌ {A = W.ToldWriting × List ℕ} (W.told r, o') (W.written h t a o) → Due (W.told r) o' (canonical (length o) h t a)
+  pub due : (r : Result ℕ Unwritten) (o' : List ℕ) → ◌≡◌ {A = W.ToldWriting × List ℕ} (W.told r, o') (W.written h t a o) → Due (W.told r) o' (canonical (length o) h t a)
   unfolding W.written canonical fitted
   due r o' w =
       subst (λ (z : W.ToldWriting × List ℕ). Due z.0 z.1 (canonical (length o) h t a)) (sym w)
@@ -89,13 +89,13 @@ set_canonical m t l k = pick_yes (validity m.header m.texts (fronts (areas m) l)
 room_printed : (w : Reason) (m : MapSet) (l : Areas) (s : Option (ℕ × ℕ)) → told_reason w ≡ (with_room m l s).told → line_of (told_reason w) ≡ set_printed m s
 unfolding with_room set_printed
 room_printed w m l none q =
-    let y : Refused w ≡ Accepted m.header = told_once (Refused w) (Accepted m.header) q in
+    let y : Err w ≡ Ok m.header = told_once (Err w) (Ok m.header) q in
     let z : ◌≡◌ {A = ℕ} 0 1 = cc in
     absurd (omega arith)
 room_printed w m l (some s) q = ap line_of q
 
 module _ (t : List ℕ) (l : Areas) (r : ReadOut) (l' : Areas) (c : Reads t l r l') (z : Had l) where
-  accepted_printed : (h : Header) → r.answer ≡ Accepted h → canonical 65536 h (texts_in r) l' ≡ answer_printed (read t)
+  accepted_printed : (h : Header) → r.answer ≡ Ok h → canonical 65536 h (texts_in r) l' ≡ answer_printed (read t)
   unfolding answer_printed set_printed
   accepted_printed h e =
       let (m, (k, (f, g))) = (accepts_exactly t l r l' c).0 (h, e) in
@@ -109,15 +109,15 @@ module _ (t : List ℕ) (l : Areas) (r : ReadOut) (l' : Areas) (c : Reads t l r 
   told_printed w (refused y) e = ap line_of e
   told_printed w (ok m) e = room_printed w m l (first_short 1 (needed_and_lent (areas m) l)) e ∙ ap (λ x. set_printed m (first_short 1 x)) (had (areas m) l z)
 
-  refused_printed : (w : Reason) → r.answer ≡ Refused w → line_of (told_reason w) ≡ answer_printed (read t)
+  refused_printed : (w : Reason) → r.answer ≡ Err w → line_of (told_reason w) ≡ answer_printed (read t)
   refused_printed w e = told_printed w (read t) (sym (ap told e) ∙ ap (λ o. o.told) c)
 
   pub read_printed : answered 65536 r.answer (texts_in r) l' ≡ answer_printed (read t)
   read_printed = by r.answer refl
     where
-      by : (x : Reading) → r.answer ≡ x → answered 65536 x (texts_in r) l' ≡ answer_printed (read t)
-      by (Accepted h) e = accepted_printed h e
-      by (Refused w) e = refused_printed w e
+      by : (x : Result Header Reason) → r.answer ≡ x → answered 65536 x (texts_in r) l' ≡ answer_printed (read t)
+      by (Ok h) e = accepted_printed h e
+      by (Err w) e = refused_printed w e
 
 module _ (t : List ℕ) where
   pub printed_big : 32768 < length t → printed t ≡ big_line

@@ -1,5 +1,5 @@
 -- What is printed of a text.
-use Rattle.std.specs.Prelude.{◌≡◌, List, [], ◌∷◌, ℕ, ◌≤◌, length, take}
+use Rattle.std.specs.Prelude.{◌≡◌, List, [], ◌∷◌, ℕ, ◌≤◌, length, take, Result, Ok, Err}
 use Rattle.std.proofs.Math.Option.{Option, none, some}
 use Rattle.std.proofs.Math.Decide.{dec_le}
 use Rattle.kit.specs.Answer.{Answer, ok, refused, pick}
@@ -7,7 +7,7 @@ use Rattle.mapset.specs.declared.Header.{Header}
 use Rattle.mapset.specs.Described.{FullTexts}
 use Rattle.mapset.specs.Areas.{Areas}
 use Rattle.mapset.specs.MapSet.{MapSet}
-use Rattle.reading.specs.Feed.{Why}
+use Rattle.reading.specs.declared.Why.{Why}
 use Rattle.reading.specs.Read.{read}
 use Rattle.areas.specs.Flat.{areas}
 use Rattle.valid.specs.Validity.{validity}
@@ -15,8 +15,7 @@ use Rattle.canonical.specs.Canon.{canon}
 use Rattle.canonical.specs.CanonOf.{canon_of}
 use Rattle.write_text.specs.Write as W
 use Rattle.read_needs.specs.Needs.{first_short}
-use Rattle.read_outcome.specs.declared.Reading.{Reading}
-use Rattle.read_outcome.specs.declared.Reading.TheVariants.{Accepted, Refused}
+use Rattle.read_outcome.specs.declared.Reason.{Reason}
 use Rattle.read_outcome.specs.Outcome.{told_reason}
 use Rattle.program_line.specs.Lines.{place_line, area_line, need_line, unsound_line, big_line, line_of}
 
@@ -40,9 +39,9 @@ Stands (W.done n) room = n ≤ room
 Stands (W.refused k b) room = Unit {0}
 
 -- after reading, the areas then being a
-abbrev pub answered : (room : ℕ) → Reading → FullTexts → Areas → List ℕ
-answered room (Accepted h) t a = canonical room h t a
-answered room (Refused w) t a = line_of (told_reason w)
+abbrev pub answered : (room : ℕ) → Result Header Reason → FullTexts → Areas → List ℕ
+answered room (Ok h) t a = canonical room h t a
+answered room (Err w) t a = line_of (told_reason w)
 
 -- the areas that the program has
 pub record Had (l : Areas) : Type 0 where

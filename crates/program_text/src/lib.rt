@@ -10,20 +10,20 @@ ghost use Rattle.program_line.specs.Lines.{Begins};
 ghost use Rattle.program_text.specs.Printed.{Stands, shown, canonical, answered, Had, printed};
 
 use mapset::{Header, Texts};
-use read_outcome::{ReadOut, Reading};
-use write_text::Written;
+use read_outcome::ReadOut;
+use write_text::Unwritten;
 
 const MOST: usize = 32768;
 
 // What was written, or one line that says why not. After a reading it is a map set, and its text fits.
-fn put_written(written: Written, out: &mut [u8]) -> usize
+fn put_written(written: Result<u64, Unwritten>, out: &mut [u8]) -> usize
     requires { (128 ≤ length out.old) × Stands (told written) (length out.old) }
     ensures { Begins out.new result (shown (told written) out.old) }
 {
     match written {
-        Written::Bytes(n) => n as usize,
-        Written::Short(n) => program_line::put_need(out, n),
-        Written::Unsound => program_line::put(out, 0, b"refused 31\n"),
+        Ok(n) => n as usize,
+        Err(Unwritten::Short(n)) => program_line::put_need(out, n),
+        Err(Unwritten::Unsound) => program_line::put(out, 0, b"refused 31\n"),
     }
 }
 
@@ -74,14 +74,20 @@ fn put_answer(
     ensures { Begins out.new result (answered (length out.old) read.answer (texts_in read)
         (six tec.now rms.now height.now exponents.now epochs.now marks.now)) }
 {
-    let reading = read.answer;
-    let descriptions = read.descriptions;
-    let lines = descriptions.bytes;
-    match reading {
-        Reading::Accepted(header) => put_canonical(
-            header, read.texts, &lines, tec, rms, height, exponents, epochs, marks, out,
+    match read.answer {
+        Ok(header) => put_canonical(
+            header,
+            read.texts,
+            &read.descriptions.bytes,
+            tec,
+            rms,
+            height,
+            exponents,
+            epochs,
+            marks,
+            out,
         ),
-        Reading::Refused(reason) => program_line::put_reason(out, reason),
+        Err(reason) => program_line::put_reason(out, reason),
     }
 }
 

@@ -1,3 +1,4 @@
+use Rattle.std.specs.Prelude.{Option, Some, None, Result, Ok, Err, MatchResult, IsErrAnd}
 -- A block, line by line.
 use mathlib.Core.Path.{◌≡◌, refl, sym, ap, ◌∙◌, subst}
 use Prim.Native.Nat.{ℕ, zero, suc, ◌+◌, ◌-◌, ◌*◌, ◌≤◌, ◌<◌, ◌^◌}
@@ -13,24 +14,20 @@ use Rattle.kit.proofs.AnswerLaws.{pick_yes, amap_amap, amap_same}
 use Rattle.kit.proofs.TruthLaws.{clash}
 use Rattle.forms.specs.Form.{I}
 use Rattle.forms.specs.Read.{read_field}
-use Rattle.forms.specs.declared.Field.{Field}
-use Rattle.forms.specs.declared.Field.TheVariants.{Number, Bad}
 use Rattle.layout.specs.Text.{pad}
-use Rattle.reading.specs.Feed.{Fault, Why, why, on_line, Feed, over, bad, row, split, feed}
+use Rattle.reading.specs.declared.Fault.{Fault}
+use Rattle.reading.specs.declared.Why.{Why}
+use Rattle.reading.specs.Feed.{why, on_line, Feed, over, bad, row, split, feed}
 use Rattle.reading.specs.Fields.{number, blank, cells}
 use Rattle.reading.specs.Maps.{short, on_row}
 use Rattle.read_lines.specs.Lines.{Stands, Skips, Rows}
 use Rattle.kit.proofs.ListLaws.{rest_of}
 use Rattle.read_lines.proofs.Parts.{row_in}
 use Rattle.read_values.specs.Values.{Okay, list_of, Judges}
-use Rattle.read_values.specs.Quick.{UsualRow, Usual}
-use Rattle.read_values.specs.Bare.{Plain, BareRow, Bared}
+use Rattle.read_values.specs.Quick.{UsualRow}
+use Rattle.read_values.specs.Bare.{Plain, BareRow}
 use Rattle.read_blocks.specs.Blocks.{values, Done, Filled}
-use Rattle.read_blocks.specs.Steps.{Moved, Stepped, Puts, Turned}
-use Rattle.read_values.specs.declared.Cells.{Cells}
-use Rattle.read_values.specs.declared.Cells.TheVariants.{Fine, Wrong}
-use Rattle.read_blocks.specs.declared.Step.{Step}
-use Rattle.read_blocks.specs.declared.Turn.{Turn}
+use Rattle.read_blocks.specs.Steps.{Moved, Puts}
 use Rattle.read_lines.specs.declared.Line.TheVariants.{Over, Bad as BadLine}
 
 -- ---- the values, row by row
@@ -74,10 +71,10 @@ unfolding amap
 okay_amap f (ok b) h = tt
 okay_amap f (refused w) h = h
 
-number_ok : {A : Type 0} (v : Field) (c : ℕ) (f : ℤ → Answer Fault A) (a : A) → number v c f ≡ ok a → (z : ℤ) × (f z ≡ ok a)
+number_ok : {A : Type 0} (v : Option ℤ) (c : ℕ) (f : ℤ → Answer Fault A) (a : A) → number v c f ≡ ok a → (z : ℤ) × (f z ≡ ok a)
 unfolding number
-number_ok (Number z) c f a e = (z, e)
-number_ok Bad c f a e = clash (cc)
+number_ok (Some z) c f a e = (z, e)
+number_ok None c f a e = clash (cc)
 
 need_ok : {P A : Type 0} {a : A} (d : Dec P) (w : Fault) (x : Answer Fault A) → need d w x ≡ ok a → x ≡ ok a
 unfolding need
@@ -110,14 +107,25 @@ pub short_not : {X : Type 0} (n : ℕ) (x : Answer Why (List ℤ × Feed)) → O
 unfolding short
 short_not n x h e = refuse x h e
 
+-- of `map_err`
+pub mapped_ok : {T E D : Type 0} (P : E → D → Type 0) {x : T} (s : Result T E) (r : Result T D) → MatchResult s (λ y. r ≡ Ok y) (λ e. IsErrAnd r (P e)) → r ≡ Ok x → s ≡ Ok x
+mapped_ok P (Ok y) r h e = cc
+mapped_ok P (Err f) (Ok y) h e = absurd h
+mapped_ok P (Err f) (Err w) h e = cc
+
+pub mapped_err : {T E D : Type 0} (P : E → D → Type 0) {w : D} (s : Result T E) (r : Result T D) → MatchResult s (λ y. r ≡ Ok y) (λ e. IsErrAnd r (P e)) → r ≡ Err w → (f : E) × (s ≡ Err f) × P f w
+mapped_err P (Ok y) r h e = cc
+mapped_err P (Err f) (Ok y) h e = absurd h
+mapped_err P (Err f) (Err w) h e = (f, refl, subst (P f) (cc) h)
+
 -- ---- a line of a block
 
 module _ (t : List ℕ) (at n left : ℕ) (some : 0 < left) where
   pub step_over : Stands (drop at t) Over → values (feed (suc n) (split (drop at t))) left ≡ short (suc n)
   step_over h = rw (h (suc n)) (values_over (suc n) left some)
 
-  pub step_bad : (k col : ℕ) → Stands (drop at t) (BadLine k col) → values (feed (suc n) (split (drop at t))) left ≡ refused (why k (n + 1) col)
-  step_bad k col h = rw (h (suc n)) (values_bad _ left some ∙ rw add-one)
+  pub step_bad : (f : Fault) → Stands (drop at t) (BadLine f) → values (feed (suc n) (split (drop at t))) left ≡ refused (why f.number (n + 1) f.column)
+  step_bad f h = rw (h (suc n)) (values_bad _ left some ∙ rw add-one)
 
   module _ (inside : at ≤ length t) (small : n ≤ at) where
     pub step_skip : (next : ℕ) → Skips (drop at t) next → (at < at + next) × Moved t at n left (at + next) (n + 1) left
@@ -154,8 +162,8 @@ module _ (t : List ℕ) (at n left : ℕ) (some : 0 < left) where
           let l : left - m ≡ left - 16 = omega arith in
           rw (h.on (suc n), drop-drop, add-one, l, is, e) (values_row _ _ _ left some)
 
-      pub step_wrong : (col : ℕ) (r : Cells) → Judges r (cells 1 m (pad (take (at + w - at) (drop at t)))) → r ≡ Wrong col → values (feed (suc n) (split (drop at t))) left ≡ refused (why 6 (n + 1) col)
-      step_wrong col r j e = seen ∙ rw (subst (λ (o : Cells). Judges o (cells 1 m (pad (take (at + w - at) (drop at t))))) e j, add-one) (unfold bind on_line in refl)
+      pub step_wrong : (f : Fault) (r : Result (Unit {0}) Fault) → Judges r (cells 1 m (pad (take (at + w - at) (drop at t)))) → r ≡ Err f → values (feed (suc n) (split (drop at t))) left ≡ refused (why f.number (n + 1) f.column)
+      step_wrong f r j e = seen ∙ rw (subst (λ (o : Result (Unit {0}) Fault). Judges o (cells 1 m (pad (take (at + w - at) (drop at t))))) e j, add-one) (unfold bind on_line in refl)
 
       step_put : (zs : List ℤ) × (cells 1 m (pad (take (at + w - at) (drop at t))) ≡ ok zs) → Moved t at n left (at + next) (n + 1) (left - m)
       step_put j =
@@ -169,8 +177,8 @@ module _ (t : List ℕ) (at n left : ℕ) (some : 0 < left) where
             on = seen ∙ rw j.1 (unfold bind on_line in refl);
           }
 
-      pub step_row : (r : Cells) → Judges r (cells 1 m (pad (take (at + w - at) (drop at t)))) → r ≡ Fine → (at < at + next) × Moved t at n left (at + next) (n + 1) (left - m)
-      step_row r j f = let a = h.ahead in (omega arith, step_put (subst (λ (o : Cells). Judges o (cells 1 m (pad (take (at + w - at) (drop at t))))) f j))
+      pub step_row : (r : Result (Unit {0}) Fault) → Judges r (cells 1 m (pad (take (at + w - at) (drop at t)))) → r ≡ Ok tt → (at < at + next) × Moved t at n left (at + next) (n + 1) (left - m)
+      step_row r j f = let a = h.ahead in (omega arith, step_put (subst (λ (o : Result (Unit {0}) Fault). Judges o (cells 1 m (pad (take (at + w - at) (drop at t))))) f j))
 
       pub okay_cells : Okay (values (feed (suc n) (split (drop at t))) left) → (zs : List ℤ) × (cells 1 m (pad (take (at + w - at) (drop at t))) ≡ ok zs)
       okay_cells o = okay_line (suc n) _ _ (rw seen at o)
@@ -192,10 +200,10 @@ module _ (t : List ℕ) (at n left : ℕ) (some : 0 < left) where
 
 -- ---- a line that is found fast
 
-module _ (t : List ℕ) (at n left : ℕ) (some : 0 < left) (inside : at ≤ length t) (small : n ≤ at) (m : ℕ) (is : m ≡ on_row left) (r : ℕ) (seen : 0 < r) where
-  module _ (u : Usual (take (length t - at) (drop at t)) m r) where
+module _ (t : List ℕ) (at n left : ℕ) (some : 0 < left) (inside : at ≤ length t) (small : n ≤ at) (m : ℕ) (is : m ≡ on_row left) (r : ℕ) where
+  module _ (u : UsualRow (take (length t - at) (drop at t)) m r) where
     usual_there : UsualRow (drop at t) m r
-    usual_there = subst (λ (x : List ℕ). UsualRow x m r) (rest_of t at) (u seen)
+    usual_there = subst (λ (x : List ℕ). UsualRow x m r) (rest_of t at) u
 
     pub usual_in : at + r ≤ length t
     usual_in = row_in t at inside (m * 5) r usual_there.rows
@@ -206,9 +214,9 @@ module _ (t : List ℕ) (at n left : ℕ) (some : 0 < left) (inside : at ≤ len
         let e : at + m * 5 - at ≡ m * 5 = omega arith in
         (omega arith, step_put t at n left some inside small (m * 5) r q.rows m is (rw e q.fine))
 
-  module _ (u : Bared (take (length t - at) (drop at t)) m r) where
+  module _ (u : BareRow (take (length t - at) (drop at t)) m r) where
     bare_there : BareRow (drop at t) m r
-    bare_there = subst (λ (x : List ℕ). BareRow x m r) (rest_of t at) (u seen)
+    bare_there = subst (λ (x : List ℕ). BareRow x m r) (rest_of t at) u
 
     pub bare_in : at + r ≤ length t
     bare_in = row_in t at inside (m * 5) r bare_there.rows
@@ -259,9 +267,6 @@ module _ {t : List ℕ} {from n c at k left : ℕ} (p : Moved t from n c at k le
         have = p.have ++ [];
         on = p.on ∙ ap (amap (λ x. (p.have ++ x.0, x.1))) e ∙ (unfold amap in refl);
       }
-
-pub stepped : (t : List ℕ) (at n left : ℕ) (r o : Step) → Stepped t at n left r → r ≡ o → Stepped t at n left o
-stepped t at n left r o h e = subst (Stepped t at n left) e h
 
 -- ---- the filling loop
 
@@ -335,6 +340,3 @@ module _ {t : List ℕ} {from n₀ c at n done : ℕ} {out : List ℤ} (f : Fill
         small = f.moved.small;
         on = f.moved.on ∙ ap (amap (λ x. (f.moved.have ++ x.0, x.1))) g ∙ o ∙ rw (append-nil, ← a);
       }
-
-pub turned : (t : List ℕ) (at n c : ℕ) (r o : Turn) (out : List ℤ) → Turned t at n c r out → r ≡ o → Turned t at n c o out
-turned t at n c r o out h e = subst (λ (x : Turn). Turned t at n c x out) e h

@@ -7,7 +7,8 @@ use Rattle.kit.specs.Answer.{Answer, ok, refused, bind, amap}
 use Rattle.kit.proofs.AnswerLaws.{amap_amap, amap_same}
 use Rattle.mapset.specs.declared.Header.{Header}
 use Rattle.layout.specs.Layout.{Force}
-use Rattle.reading.specs.Feed.{Why, on_line, Feed, over, bad, row}
+use Rattle.reading.specs.declared.Why.{Why}
+use Rattle.reading.specs.Feed.{on_line, Feed, over, bad, row}
 use Rattle.reading.specs.Fields.{cells}
 use Rattle.reading.specs.Maps.{Todo, short, on_row, run}
 use Rattle.reading.specs.declared.Place.{Place}

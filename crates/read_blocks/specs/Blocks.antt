@@ -1,11 +1,11 @@
 -- The values of a data block, from a line's start on, and what the code says of them.
-use Rattle.std.specs.Prelude.{◌≡◌, ℕ, zero, suc, ◌-◌, ◌≤◌, List, [], ◌++◌, length, drop, ℤ}
+use Rattle.std.specs.Prelude.{◌≡◌, ℕ, zero, suc, ◌-◌, ◌≤◌, List, [], ◌++◌, length, drop, ℤ, Result, Ok, Err}
 use Rattle.kit.specs.Answer.{Answer, ok, refused, bind, amap}
-use Rattle.reading.specs.Feed.{Why, why, on_line, split, Feed, over, bad, row, feed}
+use Rattle.reading.specs.declared.Why.{Why}
+use Rattle.reading.specs.Feed.{on_line, split, Feed, over, bad, row, feed}
 use Rattle.reading.specs.Fields.{cells}
 use Rattle.reading.specs.Maps.{short, on_row}
 use Rattle.read_blocks.specs.declared.Block.{Block}
-use Rattle.read_blocks.specs.declared.Block.TheVariants.{Good, Refused}
 
 -- c values, and what follows them. `BlockLaws` has that the reading takes a block's values so
 unfoldable pub values : Feed → ℕ → Answer Why (List ℤ × Feed)
@@ -26,9 +26,9 @@ pub record Done (t : List ℕ) (from n c next m : ℕ) : Type 0 where
   pub on : values (feed (suc n) (split (drop from t))) c ≡ ok (have, feed (suc m) (split (drop next t)))
 
 -- from the line that starts at `from`, where n lines are passed
-abbrev pub Judged : List ℕ → (from n c : ℕ) → Block → Type 0
-Judged t from n c (Good next m) = Done t from n c next m
-Judged t from n c (Refused k l col) = values (feed (suc n) (split (drop from t))) c ≡ refused (why k l col)
+abbrev pub Judged : List ℕ → (from n c : ℕ) → Result Block Why → Type 0
+Judged t from n c (Ok b) = Done t from n c b.next b.lines
+Judged t from n c (Err w) = values (feed (suc n) (split (drop from t))) c ≡ refused w
 
 -- ---- the second time over
 

@@ -3,12 +3,11 @@ use mathlib.Core.Path.{◌≡◌, refl, sym, ap, ◌∙◌}
 use mathlib.Core.Bool.{Bool, true, false, ◌||◌}
 use mathlib.Core.Option.{Option, some}
 use mathlib.Core.List.{List, [], ◌∷◌}
-use Prim.Native.Nat.{ℕ, suc, ◌+◌, ◌≤◌, ◌<◌}
+use Prim.Native.Nat.{ℕ, ◌≤◌, ◌<◌}
 use native.Mathlib.Omega.{arith}
 use lib.ListN.{length, get_or}
 use lib.Dec.{T, eqb, leb}
 use lib.IntN.{ℤ, nat_abs}
-use native.Mathlib.Numerals.{add-one}
 use Rattle.kit.proofs.TruthLaws.{tested_at}
 use Rattle.mapset.specs.declared.Kind.{Kind}
 use Rattle.mapset.specs.declared.Kind.TheVariants.{Tec, Rms, Height}
@@ -20,11 +19,11 @@ use Rattle.layout.specs.Labels.{Label, version, description, comment, system, ex
 use Rattle.layout.specs.Names.{number_of}
 use Rattle.reading.specs.Fields.{label, fields}
 use Rattle.reading.proofs.LabelLaws.{label_known, label_unknown}
-use Rattle.areas.specs.Scan.{Now, now, goes, exponent_in, epoch_in, values_ahead, on_start, on_epoch, turn}
-use Rattle.read_events.specs.Brings.{told, turned, Takes, Goes, Opened}
+use Rattle.areas.specs.Scan.{Now, now, goes, exponent_in, on_start, turn}
+use Rattle.read_events.specs.Brings.{told, turned, Takes, Goes}
 use Rattle.read_events.specs.declared.State.{State}
 use Rattle.read_events.specs.declared.Event.{Event}
-use Rattle.read_events.specs.declared.Event.TheVariants.{Nothing, Epoch, Marked, Block}
+use Rattle.read_events.specs.declared.Event.TheVariants.{Nothing, Marked}
 
 -- ---- the labels that bring nothing
 
@@ -88,7 +87,7 @@ module _ (line : List ℕ) (fits : length line ≤ 80) (k : ℕ) (is : k ≡ num
           ap (λ (o : Option Label). turn C (told s) o (pad line) rs) (label_known line fits (omega arith) ∙ ap (λ (i : ℕ). some (get_or labels i version)) (sym is))
           ∙ quiet_turn C (told s) (get_or labels k version) (pad line) rs (quiet_at k l a b c d e f)
 
--- ---- where each of the others leads
+-- ---- where a START of another kind leads
 
 pub started : (s : State) (k : Kind) → Other k → (r : List ℕ) {i : ℕ} {e : ℤ} → i ≡ nat_abs (exponent_in r) → e ≡ s.exponent
     → Goes (on_start (told s) k r) (record { event = Marked k i; state = record { kind = k; number = i; done = 0; exponent = e; tecs = s.tecs } })
@@ -96,25 +95,3 @@ unfolding fields
 started s Tec o r n e C rs = absurd o
 started s Rms o r n e C rs = λ j. goes (event.marked Rms (sym n j) ∷ []) (now Rms (sym n j) 0 (sym e j) s.tecs)
 started s Height o r n e C rs = λ j. goes (event.marked Height (sym n j) ∷ []) (now Height (sym n j) 0 (sym e j) s.tecs)
-
-module _ (s : State) (r : List ℕ) where
-  pub dated_tec : s.kind ≡ Tec → {t : ℕ} {e : ℤ} → t ≡ epoch_in r → e ≡ s.exponent
-      → Goes (on_epoch (told s) s.kind r) (record { event = Epoch s.number t; state = record { kind = Tec; number = s.number; done = s.done; exponent = e; tecs = s.number } })
-  dated_tec k n e C rs =
-      ap (λ (k : Kind). on_epoch (told s) k r) k ∙ (λ j. goes (event.epoch s.number (sym n j) ∷ []) (now Tec s.number s.done (sym e j) s.number))
-
-  pub dated_rms : s.kind ≡ Rms → Goes (on_epoch (told s) s.kind r) (record { event = Nothing; state = s })
-  dated_rms k C rs = ap (λ (k : Kind). on_epoch (told s) k r) k
-
-  pub dated_height : s.kind ≡ Height → Goes (on_epoch (told s) s.kind r) (record { event = Nothing; state = s })
-  dated_height k C rs = ap (λ (k : Kind). on_epoch (told s) k r) k
-
-pub opened : (s : State) {e : ℤ} → e ≡ s.exponent
-    → Opened s (record { event = Block s.kind s.number s.done e; state = record { kind = s.kind; number = s.number; done = s.done + 1; exponent = e; tecs = s.tecs } })
-opened s e C rs =
-    let n : suc s.done ≡ s.done + 1 = sym (add-one s.done) in
-    λ j. record {
-      events = event.block s.kind s.number s.done (record { exponent = sym e j; values = values_ahead C rs }) ∷ [];
-      next = now s.kind s.number (n j) (sym e j) s.tecs;
-      due = C;
-    }

@@ -6,8 +6,8 @@ ghost use Rattle.layout.specs.Text.{pad};
 ghost use Rattle.layout.specs.Layout.{Other};
 ghost use Rattle.areas.specs.Scan.{now as now_of, goes, on_start, on_epoch, exponent_in, epoch_in};
 ghost use Rattle.read_events.specs.Brings.{told, Goes, Opened, Takes};
+ghost use Rattle.read_events.specs.declared.Event.TheVariants.{Nothing};
 
-use maps_records::{Dated, One};
 use mapset::Kind;
 
 // Kind and number of the last map that began, how many of its blocks are done, the exponent in force, and how many TEC maps have their epoch.
@@ -43,17 +43,14 @@ pub fn whole_in(line: &[u8]) -> i32
     requires { length line.now ≤ 80 }
     ensures { result ≡ exponent_in (pad line.now) }
 {
-    match maps_records::one_number(line) {
-        One::Wrong(_) => 0,
-        One::Number(z) => z,
-    }
+    maps_records::one_number(line).unwrap_or(0)
 }
 
 fn number_in(line: &[u8]) -> usize
     requires { length line.now ≤ 80 }
     ensures { result ≡ nat_abs (exponent_in (pad line.now)) }
 {
-    kit::size(whole_in(line)) as usize
+    whole_in(line).unsigned_abs() as usize
 }
 
 // The second of EPOCH OF CURRENT MAP.
@@ -61,25 +58,30 @@ fn epoch_in(line: &[u8]) -> u64
     requires { length line.now ≤ 80 }
     ensures { result ≡ epoch_in (pad line.now) }
 {
-    match maps_records::epoch_in(line) {
-        Dated::Refused(_, _) => 0,
-        Dated::At(t) => t,
-    }
+    maps_records::epoch_in(line).unwrap_or(0)
 }
 
 // ---- What a row brings, and where it leads
+
+// A row that brings nothing leads nowhere else.
+fn nothing(s: State) -> Brought
+    ensures { (result.event ≡ Nothing) × (result.state ≡ s) }
+{
+    Brought {
+        event: Event::Nothing,
+        state: s,
+    }
+}
 
 // A map begins: the exponent stays in force, across maps and kinds.
 fn begun(s: State, kind: Kind, number: usize) -> State
     ensures { told result ≡ now_of kind number 0 s.exponent s.tecs }
 {
-    let exponent = s.exponent;
     State {
         kind,
         number,
         done: 0,
-        exponent,
-        tecs: s.tecs,
+        ..s
     }
 }
 
@@ -108,17 +110,10 @@ fn with_exponent(s: State, line: &[u8]) -> Brought
     requires { length line.now ≤ 80 }
     ensures { Goes (goes [] (now_of s.kind s.number s.done (exponent_in (pad line.now)) s.tecs)) result }
 {
-    let kind = s.kind;
     let exponent = whole_in(line);
     Brought {
         event: Event::Nothing,
-        state: State {
-            kind,
-            number: s.number,
-            done: s.done,
-            exponent,
-            tecs: s.tecs,
-        },
+        state: State { exponent, ..s },
     }
 }
 
@@ -127,26 +122,16 @@ fn with_epoch(s: State, line: &[u8]) -> Brought
     requires { length line.now ≤ 80 }
     ensures { Goes (on_epoch (told s) s.kind (pad line.now)) result }
 {
-    let kind = s.kind;
-    match kind {
+    match s.kind {
         Kind::Tec => Brought {
             event: Event::Epoch(s.number, epoch_in(line)),
             state: State {
-                kind: Kind::Tec,
-                number: s.number,
-                done: s.done,
-                exponent: s.exponent,
                 tecs: s.number,
+                ..s
             },
         },
-        Kind::Rms => Brought {
-            event: Event::Nothing,
-            state: s,
-        },
-        Kind::Height => Brought {
-            event: Event::Nothing,
-            state: s,
-        },
+        Kind::Rms => nothing(s),
+        Kind::Height => nothing(s),
     }
 }
 
@@ -154,15 +139,11 @@ fn one_block(s: State) -> Brought
     requires { s.done < 9223372036854775808 }
     ensures { Opened s result }
 {
-    let kind = s.kind;
     Brought {
-        event: Event::Block(kind, s.number, s.done, s.exponent),
+        event: Event::Block(s.kind, s.number, s.done, s.exponent),
         state: State {
-            kind,
-            number: s.number,
             done: s.done + 1,
-            exponent: s.exponent,
-            tecs: s.tecs,
+            ..s
         },
     }
 }
@@ -173,15 +154,12 @@ pub fn brought_by(s: State, line: &[u8]) -> Brought
     ensures { Takes s (pad line.now) result.event result.state }
 {
     match labels::label_of(line) {
-        19 => with_exponent(s, line),
-        23 => start_tec(s),
-        25 => start_other(s, line, Kind::Rms),
-        27 => start_other(s, line, Kind::Height),
-        29 => with_epoch(s, line),
-        30 => one_block(s),
-        _ => Brought {
-            event: Event::Nothing,
-            state: s,
-        },
+        labels::EXPONENT => with_exponent(s, line),
+        labels::TEC_START => start_tec(s),
+        labels::RMS_START => start_other(s, line, Kind::Rms),
+        labels::HEIGHT_START => start_other(s, line, Kind::Height),
+        labels::EPOCH => with_epoch(s, line),
+        labels::BLOCK => one_block(s),
+        _ => nothing(s),
     }
 }

@@ -8,6 +8,7 @@ use lib.Seq.{sets, sets-eq, drop-drop, length-take-le}
 use lib.IntN.{ℤ}
 use borrow.Rule.Slice.PartMut.{put_mid}
 use Rattle.kit.proofs.AnswerLaws.{yields}
+use Rattle.kit.proofs.SetLaws.{mid_sets}
 use Rattle.reading.specs.Feed.{split, feed}
 use Rattle.read_values.specs.Values.{Okay}
 use Rattle.read_blocks.specs.Blocks.{values, Filled}
@@ -15,12 +16,6 @@ use Rattle.areas.specs.Scan.{values_ahead, brought}
 use Rattle.read_fill.specs.Rows.{rows_of, rows_from, Valued}
 use Rattle.read_fill.specs.Scan.{Resumes}
 use Rattle.read_fill.proofs.FeedLaws.{rows_numbered, valued_okay, Past, past}
-
--- a part that has come back as `row`
-mid_sets : {A : Type 0} (l row xs : List A) (at k : ℕ) → k ≡ length row → at + k ≤ length l → xs ≡ row → put_mid at (at + k - at) l xs ≡ sets l at row
-mid_sets l row xs at k z h e =
-    let j : at + k - at ≡ length row = omega arith in
-    rw (e, j, sets-eq row l at (omega arith), drop-drop (length row) at l, append_assoc)
 
 module _ (t : List ℕ) (at c from : ℕ) (l : List ℤ) (fits : from + c ≤ length l) where
   part_long : length (take (from + c - from) (drop from l)) ≡ c

@@ -10,7 +10,9 @@ use Rattle.kit.specs.Answer.{Answer, ok, refused, bind, amap, pick, all_dec}
 use Rattle.kit.proofs.AnswerLaws.{Yields, y_ok, y_no, bind_yields, amap_yields, yields_map}
 use Rattle.kit.specs.Range.{within?}
 use Rattle.layout.specs.Text.{pad}
-use Rattle.reading.specs.Feed.{Fault, Why, why, on_line, Feed, over, bad, row, bad_column, split, feed}
+use Rattle.reading.specs.declared.Fault.{Fault}
+use Rattle.reading.specs.declared.Why.{Why}
+use Rattle.reading.specs.Feed.{why, on_line, Feed, over, bad, row, bad_column, split, feed}
 use Rattle.reading.specs.Fields.{cells}
 use Rattle.reading.specs.Maps.{short, on_row}
 use Rattle.read_lines.specs.Leads.{LeadsOver, LeadsRow}
@@ -41,7 +43,7 @@ module _ (t : List ℕ) (at : ℕ) where
   unfolding rows_of
   rows_over h = ap rows_of h.on
 
-  pub rows_bad : {k l c : ℕ} → feed 1 (split (drop at t)) ≡ bad (why k l c) → rows_from t at ≡ []
+  pub rows_bad : {w : Why} → feed 1 (split (drop at t)) ≡ bad w → rows_from t at ≡ []
   unfolding rows_of
   rows_bad h = ap rows_of h
 

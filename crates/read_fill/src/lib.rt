@@ -44,25 +44,24 @@ fn step_at(text: &[u8], at: usize, s: State) -> Step
             event: Event::Nothing,
             state: s,
         },
-        NextRow::Bad(_, _, _) => Step {
+        NextRow::Bad(_) => Step {
             at: text.len(),
             event: Event::Nothing,
             state: s,
         },
         NextRow::Row(start, end, next, _) => {
             let b = read_events::brought_by(s, &text[start..end]);
-            let event = b.event;
-            let state = b.state;
             Step {
                 at: next,
-                event,
-                state,
+                event: b.event,
+                state: b.state,
             }
         }
     }
 }
 
-// What a row brought, with all six areas; where the next record starts.
+// What a row brought, with all six areas; where the next record starts. (The six stay apart: with one struct of six `&mut`, each function
+// would have to say of each field that it still holds the same reference.)
 fn store(
     event: Event,
     text: &[u8],
@@ -138,9 +137,8 @@ fn scan(
     let mut at = from;
     while at < text.len() {
         let step = step_at(text, at, s);
-        let event = step.event;
         at = store(
-            event, text, step.at, size, tec, rms, height, exponents, epochs, marks,
+            step.event, text, step.at, size, tec, rms, height, exponents, epochs, marks,
         );
         s = step.state;
     }

@@ -1,5 +1,5 @@
 -- An accepted text: what the six areas need is the lengths of its map set's lists.
-use mathlib.Core.Path.{◌≡◌, refl, sym, ap, ◌∙◌, subst}
+use mathlib.Core.Path.{◌≡◌, refl, sym, ap, ◌∙◌}
 use mathlib.Core.Bool.{cond}
 use mathlib.Core.List.{List, [], ◌∷◌}
 use Prim.Native.Nat.{ℕ, ◌*◌, ◌≤◌}
@@ -21,11 +21,7 @@ use Rattle.maps.specs.Turns.{stands}
 use Rattle.read_needs.specs.Needs.{lengths, needs_of}
 use Rattle.read_needs.specs.declared.Elements.{Elements}
 use Rattle.read_needs.specs.declared.Others.{Others}
-use Rattle.read_judge.specs.Scanned.{set_of, Accepts, Judges}
-use Rattle.read_judge.specs.declared.Judged.{Judged}
-
-pub judged : (t : List ℕ) (x : FullTexts) (a b : Judged) → Judges t a x → a ≡ b → Judges t b x
-judged t x a b j e = subst (λ z. Judges t z x) e j
+use Rattle.read_judge.specs.Scanned.{set_of, Accepts}
 
 -- a kind with no map needs no value area
 stands_length : (n B C : ℕ) (xs : List OtherMap) → Rising n B C 0 xs → length (wanted xs (values_of (reads B C (slots n xs)))) ≡ cond (stands xs) (n * B * C) 0

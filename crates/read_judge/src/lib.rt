@@ -2,53 +2,37 @@
 #![tactic(auto)]
 
 ghost use Rattle.std.specs.Prelude.{◌≡◌};
-ghost use Rattle.mapset.specs.Described.{full};
 ghost use Rattle.mapset.specs.Lines.{no_lines};
 ghost use Rattle.read_judge.specs.Scanned.{Judges};
 
-use head::{Headed, opening};
-use maps::Verdict;
+use head::opening;
 use mapset::{Header, Texts};
 use read_needs::Others;
+use reading::Why;
 
-// Refused with 01's number, line and column; or fine: the header record, the exponent in force and the place where the maps start,
+// Of a text that is accepted: the header record and its texts, the exponent in force and the place where the maps start,
 // and whether some RMS and some height map stands.
 #[derive(Clone, Copy)]
-pub enum Judged {
-    Wrong(u64, u64, u64),
-    Fine(Header, i32, usize, Others),
-}
-
-#[derive(Clone, Copy)]
 pub struct FirstScan {
-    pub answer: Judged,
+    pub header: Header,
+    pub exponent: i32,
+    pub at: usize,
+    pub some: Others,
     pub texts: Texts,
 }
 
 // The first time over a text; `lines` is blank, and holds the DESCRIPTION lines where the text is accepted.
-pub fn judge(text: &[u8], lines: &mut [u8]) -> FirstScan
+pub fn judge(text: &[u8], lines: &mut [u8]) -> Result<FirstScan, Why>
     requires { lines.old ≡ no_lines }
-    ensures { Judges text.now result.answer (full result.texts lines.new) }
+    ensures { Judges text.now result lines.new }
 {
-    let h = opening::read_header(text, lines);
-    let answer = h.answer;
-    let texts = h.texts;
-    match answer {
-        Headed::Refused(number, line, column) => FirstScan {
-            answer: Judged::Wrong(number, line, column),
-            texts: texts,
-        },
-        Headed::Accepted(header, exponent, at, passed) => {
-            match maps::judge_maps(header, exponent, text, at, passed) {
-                Verdict::Wrong(number, line, column) => FirstScan {
-                    answer: Judged::Wrong(number, line, column),
-                    texts: texts,
-                },
-                Verdict::Fine(rms, height) => FirstScan {
-                    answer: Judged::Fine(header, exponent, at, Others { rms, height }),
-                    texts: texts,
-                },
-            }
-        }
-    }
+    let h = opening::read_header(text, lines)?;
+    let some = maps::judge_maps(h.header, h.exponent, text, h.at, h.passed)?;
+    Ok(FirstScan {
+        header: h.header,
+        exponent: h.exponent,
+        at: h.at,
+        some,
+        texts: h.texts,
+    })
 }

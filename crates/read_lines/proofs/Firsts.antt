@@ -12,12 +12,14 @@ use Rattle.kit.proofs.AnswerLaws.{pick_yes, pick_no, pick_elim}
 use Rattle.kit.proofs.ListLaws.{all_front, all_behind}
 use Rattle.kit.specs.Range.{Within, within?}
 use Rattle.layout.specs.Text.{Clean, pad}
-use Rattle.reading.specs.Feed.{why, front, LineOpens, opens?, split, Feed, over, bad, row, feed, bad_column}
+use Rattle.std.specs.Prelude.{Result, Ok, Err}
+use Rattle.reading.specs.declared.Fault.{Fault}
+use Rattle.reading.specs.Feed.{why, fault, front, LineOpens, opens?, split, Feed, over, bad, row, feed, bad_column}
 use Rattle.reading.proofs.LineLaws.{split_lf, split_crlf}
 use Rattle.read_lines.specs.Lines.{passing, not_lf?, printable?, blank?, look_of, Spans, Skips, Rows}
 use Rattle.read_lines.specs.Cuts.{with_byte, cuts, Starts}
 use Rattle.read_lines.specs.declared.Look.{Look}
-use Rattle.read_lines.specs.declared.Look.TheVariants.{Wrong, Blank, Full}
+use Rattle.read_lines.specs.declared.Look.TheVariants.{Blank, Full}
 use Rattle.read_lines.specs.declared.Span.{Span}
 use Rattle.read_lines.proofs.Passing.{passing_le, passing_all, passing_next, passing_whole, passing_not}
 
@@ -202,12 +204,12 @@ bad_at [] h = absurd (omega arith)
 bad_at (b ∷ l) h = bad_one (within? 32 126 b) (passing printable? l) (bad_column l) (length l) (bad_at l) h
 
 module _ (l : List ℕ) where
-  pub look_long : 80 < length l → Wrong 1 81 ≡ look_of l
+  pub look_long : 80 < length l → Err (fault 1 81) ≡ look_of l
   unfolding look_of
   look_long h = sym (pick_no (dec_le (length l) 80) _ _ (λ g. omega arith))
 
   module _ (fits : length l ≤ 80) where
-    pub look_odd : (p : ℕ) → p ≡ passing printable? l → p < length l → Wrong 2 (p + 1) ≡ look_of l
+    pub look_odd : (p : ℕ) → p ≡ passing printable? l → p < length l → Err (fault 2 (p + 1)) ≡ look_of l
     unfolding look_of
     look_odd p is h =
         let lt : passing printable? l < length l = omega arith in
@@ -217,26 +219,26 @@ module _ (l : List ℕ) where
       shown : All (Within 32 126) l
       shown = passing_whole printable? l (omega arith)
 
-      pub look_full : b < length l → Full ≡ look_of l
+      pub look_full : b < length l → Ok Full ≡ look_of l
       unfolding look_of
       look_full h =
           sym (pick_yes (dec_le (length l) 80) _ _ fits ∙ pick_yes (all_dec (within? 32 126) l) _ _ shown ∙ pick_no (all_dec (λ b. ℕ_discrete b 32) l) _ _ (passing_not blank? l (omega arith)))
 
-      pub look_blank : length l ≤ b → Blank ≡ look_of l
+      pub look_blank : length l ≤ b → Ok Blank ≡ look_of l
       unfolding look_of
       look_blank h =
           sym (pick_yes (dec_le (length l) 80) _ _ fits ∙ pick_yes (all_dec (within? 32 126) l) _ _ shown ∙ pick_yes (all_dec (λ b. ℕ_discrete b 32) l) _ _ (passing_whole blank? l (omega arith)))
 
 -- ---- what it hands on
 
-unfoldable fed : Look → ℕ → List ℕ → List (List ℕ) → Feed
-fed (Wrong k c) n l ls = bad (why k n c)
-fed Blank n l ls = feed (suc n) ls
-fed Full n l ls = row n (pad l) (feed (suc n) ls)
+unfoldable fed : Result Look Fault → ℕ → List ℕ → List (List ℕ) → Feed
+fed (Err f) n l ls = bad (why f.number n f.column)
+fed (Ok Blank) n l ls = feed (suc n) ls
+fed (Ok Full) n l ls = row n (pad l) (feed (suc n) ls)
 
 fed_pick : {A B C : Type 0} (a : Dec A) (b : Dec B) (c : Dec C) (n : ℕ) (l : List ℕ) (ls : List (List ℕ))
     → pick a (pick b (pick c (feed (suc n) ls) (row n (pad l) (feed (suc n) ls))) (bad (why 2 n (bad_column l)))) (bad (why 1 n 81))
-    ≡ fed (pick a (pick b (pick c Blank Full) (Wrong 2 (bad_column l))) (Wrong 1 81)) n l ls
+    ≡ fed (pick a (pick b (pick c (Ok Blank) (Ok Full)) (Err (fault 2 (bad_column l)))) (Err (fault 1 81))) n l ls
 unfolding pick fed
 fed_pick (yes a) (yes b) (yes c) n l ls = refl
 fed_pick (yes a) (yes b) (no c) n l ls = refl
@@ -248,10 +250,10 @@ unfolding feed look_of
 feed_look n l ls = fed_pick (dec_le (length l) 80) (all_dec (within? 32 126) l) (all_dec (λ b. ℕ_discrete b 32) l) n l ls
 
 -- what is shown of a line that is a row, or blank
-abbrev Shows : List ℕ → Look → Type 0
-Shows l (Wrong k c) = Unit {0}
-Shows l Blank = Clean l × All (λ b. b ≡ 32) l
-Shows l Full = Clean l × ¬ All (λ b. b ≡ 32) l
+abbrev Shows : List ℕ → Result Look Fault → Type 0
+Shows l (Err f) = Unit {0}
+Shows l (Ok Blank) = Clean l × All (λ b. b ≡ 32) l
+Shows l (Ok Full) = Clean l × ¬ All (λ b. b ≡ 32) l
 
 shows : (l : List ℕ) → Shows l (look_of l)
 unfolding look_of
@@ -268,18 +270,18 @@ stand_over [] h n = refl
 stand_over (b ∷ t) h n = absurd (omega arith)
 
 module _ (t : List ℕ) (s : Span) (sp : Spans t s) where
-  fed_by : (o : Look) → o ≡ look_of (take s.width t) → (n : ℕ) → feed n (split t) ≡ fed o n (take s.width t) (split (drop s.next t))
+  fed_by : (o : Result Look Fault) → o ≡ look_of (take s.width t) → (n : ℕ) → feed n (split t) ≡ fed o n (take s.width t) (split (drop s.next t))
   fed_by o e n = ap (feed n) sp.lines ∙ feed_look n _ _ ∙ rw (← e)
 
-  pub stand_bad : (k col : ℕ) → Wrong k col ≡ look_of (take s.width t) → (n : ℕ) → feed n (split t) ≡ bad (why k n col)
-  stand_bad k col e n = fed_by _ e n ∙ (unfold fed in refl)
+  pub stand_bad : (f : Fault) → Err f ≡ look_of (take s.width t) → (n : ℕ) → feed n (split t) ≡ bad (why f.number n f.column)
+  stand_bad f e n = fed_by _ e n ∙ (unfold fed in refl)
 
-  pub stand_skip : Blank ≡ look_of (take s.width t) → Skips t s.next
+  pub stand_skip : Ok Blank ≡ look_of (take s.width t) → Skips t s.next
   stand_skip e =
       let q = subst (Shows (take s.width t)) (sym e) (shows (take s.width t)) in
       record { ahead = sp.ahead; within = sp.within; width = s.width; clean = q.0; blank = q.1; starts = sp.starts; on = λ n. fed_by _ e n ∙ (unfold fed in refl) }
 
-  pub stand_row : Full ≡ look_of (take s.width t) → Rows t s.width s.next
+  pub stand_row : Ok Full ≡ look_of (take s.width t) → Rows t s.width s.next
   stand_row e =
       let q = subst (Shows (take s.width t)) (sym e) (shows (take s.width t)) in
       let f = q.0.0 in

@@ -6,10 +6,9 @@ use native.Mathlib.Omega.{arith}
 use native.Mathlib.Decide.{ℕ_discrete, dec_le}
 use lib.ListN.{length, get_or, take, drop, take-append-drop}
 use lib.Seq.{length-take-le, take_all}
-use Rattle.reading.specs.Feed.{why, split, bad, feed}
+use Rattle.reading.specs.Feed.{why, fault, split, bad, feed}
 use Rattle.read_lines.specs.Lines.{passing, not_lf?, Spans}
 use Rattle.read_lines.specs.Quick.{Near, NearLf}
-use Rattle.read_lines.specs.declared.Span.{Span}
 use Rattle.read_lines.proofs.Passing.{passing_le, passing_append, passing_skip}
 use Rattle.read_lines.proofs.Firsts.{spans_last, spans_cr, spans_lf, look_long, stand_bad}
 
@@ -59,7 +58,7 @@ stand_long t h = by (dec_le (length t) e)
     long : (w next : ℕ) → 80 < w → w ≤ length t → Spans t (record { width = w; next = next }) → (n : ℕ) → feed n (split t) ≡ bad (why 1 n 81)
     long w next f g s =
         let l : length (take w t) ≡ w = length-take-le w t g in
-        stand_bad t (record { width = w; next = next }) s 1 81 (look_long (take w t) (omega arith))
+        stand_bad t (record { width = w; next = next }) s (fault 1 81) (look_long (take w t) (omega arith))
 
     ended : e < length t → Dec (get_or t (e - 1) 0 ≡ 13) → (n : ℕ) → feed n (split t) ≡ bad (why 1 n 81)
     ended q (yes c) = long _ _ (omega arith) (omega arith) (spans_cr t e refl q (λ z. omega arith) c)

@@ -1,14 +1,22 @@
 -- How many bytes pass, as a loop goes over them, and what that number says.
 use mathlib.Core.Path.{◌≡◌, refl, sym, ap, ◌∙◌}
 use mathlib.Core.List.{List, [], ◌∷◌, ◌++◌}
+use mathlib.Core.Bool.{Bool, cond, not, ◌&&◌, true, false}
 use Prim.Native.Nat.{ℕ, zero, suc, ◌+◌, ◌≤◌, ◌<◌}
 use native.Mathlib.Numerals.{add-one}
 use native.Mathlib.Omega.{arith}
+use native.Mathlib.Decide.{ℕ_discrete, dec_le}
+use lib.Dec.{eqb, leb}
+use borrow.Author.Tests.{eq-eqb, ne_eqb}
 use lib.ListN.{length, get_or, take, drop, drop_of_length-le}
 use lib.Seq.{drop-cons}
 use Rattle.kit.proofs.AnswerLaws.{pick_yes, pick_no, pick_elim}
-use Rattle.kit.specs.Answer.{All}
-use Rattle.read_lines.specs.Lines.{passing}
+use Rattle.kit.specs.Answer.{All, pick}
+use Rattle.kit.specs.Range.{within?}
+use Rattle.kit.specs.Truth.{truth}
+use Rattle.kit.proofs.TruthLaws.{holds, fails, le_tells, both}
+use Rattle.std.specs.List.{prefix_len}
+use Rattle.read_lines.specs.Lines.{passing, not_lf?, printable?}
 
 module _ {P : ℕ → Type 0} (d : (b : ℕ) → Dec (P b)) where
   one : (b : ℕ) (l : List ℕ) → P b → passing d (b ∷ l) ≡ suc (passing d l)
@@ -18,6 +26,16 @@ module _ {P : ℕ → Type 0} (d : (b : ℕ) → Dec (P b)) where
   none : (b : ℕ) (l : List ℕ) → ¬ P b → passing d (b ∷ l) ≡ 0
   unfolding passing
   none b l p = pick_no (d b) _ _ p
+
+  -- as a test of the code counts them
+  counted : (p : ℕ → Bool) → ((b : ℕ) → p b ≡ truth (d b)) → (l : List ℕ) → prefix_len p l ≡ passing d l
+  unfolding passing truth pick
+  counted p same [] = refl
+  counted p same (b ∷ l) = ap (λ x. cond x (1 + prefix_len p l) 0) (same b) ∙ by (d b) (counted p same l)
+    where
+      by : (q : Dec (P b)) → prefix_len p l ≡ passing d l → cond (truth q) (1 + prefix_len p l) 0 ≡ pick q (suc (passing d l)) 0
+      by (yes h) e = omega arith
+      by (no n) e = refl
 
   -- the loop: so many are passed, and so many pass from here
   module _ (l : List ℕ) (i : ℕ) (inv : passing d l ≡ i + passing d (drop i l)) where
@@ -103,3 +121,20 @@ module _ {P : ℕ → Type 0} (d : (b : ℕ) → Dec (P b)) where
   pub passing_full : (l : List ℕ) → All P l → passing d l ≡ length l
   passing_full [] a = unfold passing in refl
   passing_full (b ∷ l) a = one b l a.0 ∙ ap suc (passing_full l a.1)
+
+-- ---- what the code's chains count
+
+pub lf_counted : (l : List ℕ) (r : ℕ) → r ≡ prefix_len (λ b. not (eqb b 10)) l → r ≡ passing not_lf? l
+lf_counted l r e = e ∙ counted not_lf? (λ b. not (eqb b 10)) (λ b. not_tells b (ℕ_discrete b 10)) l
+  where
+    not_tells : (b : ℕ) (q : Dec (b ≡ 10)) → not (eqb b 10) ≡ truth (not_lf? b)
+    not_tells b (yes e) = ap not (eq-eqb b 10 e) ∙ fails (not_lf? b) (λ n. n e)
+    not_tells b (no n) = ap not (ne_eqb b 10 n) ∙ holds (not_lf? b) n
+
+pub printable_counted : (l : List ℕ) (r : ℕ) → r ≡ prefix_len (λ b. cond (leb 32 b) (leb b 126) false) l → r ≡ passing printable? l
+unfolding within?
+printable_counted l r e = e ∙ counted printable? (λ b. cond (leb 32 b) (leb b 126) false) (λ b. to_and (leb 32 b) (leb b 126) ∙ both (dec_le 32 b) (dec_le b 126) (le_tells 32 b) (le_tells b 126)) l
+  where
+    to_and : (x y : Bool) → cond x y false ≡ (x && y)
+    to_and true y = refl
+    to_and false y = refl

@@ -70,16 +70,16 @@ ahead_none t = record { within = omega arith; on = omega arith }
 
 -- a line's end is in the text, and no printable byte stands there
 pub ending_in : (t : List ℕ) (w z : ℕ) → w < length t → Ending t w z → (w + z ≤ length t) × (z ≤ 2)
-ending_in t w zero h e = (omega arith, omega arith)
+ending_in t w zero h e = absurd e
 ending_in t w (suc zero) h e = (omega arith, omega arith)
 ending_in t w (suc (suc zero)) h e = let q = e.0 in (omega arith, omega arith)
 ending_in t w (suc (suc (suc z))) h e = absurd e
 
-ending_odd : (t : List ℕ) (w z : ℕ) → Ending t w z → 0 < z → ¬ Within 32 126 (get_or t w 0)
-ending_odd t w zero e s = absurd (omega arith)
-ending_odd t w (suc zero) e s = λ q. let x : get_or t w 0 ≡ 10 = e in omega (arith, q.0)
-ending_odd t w (suc (suc zero)) e s = λ q. let x : get_or t w 0 ≡ 13 = e.1.0 in omega (arith, q.0)
-ending_odd t w (suc (suc (suc z))) e s = absurd e
+ending_odd : (t : List ℕ) (w z : ℕ) → Ending t w z → ¬ Within 32 126 (get_or t w 0)
+ending_odd t w zero e = absurd e
+ending_odd t w (suc zero) e = λ q. let x : get_or t w 0 ≡ 10 = e in omega (arith, q.0)
+ending_odd t w (suc (suc zero)) e = λ q. let x : get_or t w 0 ≡ 13 = e.1.0 in omega (arith, q.0)
+ending_odd t w (suc (suc (suc z))) e = absurd e
 
 module _ (t : List ℕ) (w : ℕ) (is : w ≡ passing printable? t) (h : w < length t) where
   shown : (i : ℕ) → i < w → Within 32 126 (get_or t i 0)
@@ -108,11 +108,11 @@ module _ (t : List ℕ) (w : ℕ) (is : w ≡ passing printable? t) (h : w < len
       first : suc w ≡ passing not_lf? t
       first = passing_is not_lf? t (suc w) k (λ i q. before i q (ℕ_discrete i w)) (λ n. n y)
 
-  span : (z : ℕ) → Ending t w z → 0 < z → Spans t (record { width = w; next = w + z })
-  span zero e s = absurd (omega arith)
-  span (suc zero) e s = span_lf e
-  span (suc (suc zero)) e s = span_crlf e.0 e.1.0 e.1.1
-  span (suc (suc (suc z))) e s = absurd e
+  span : (z : ℕ) → Ending t w z → Spans t (record { width = w; next = w + z })
+  span zero e = absurd e
+  span (suc zero) e = span_lf e
+  span (suc (suc zero)) e = span_crlf e.0 e.1.0 e.1.1
+  span (suc (suc (suc z))) e = absurd e
 
   size : length (take w t) ≡ w
   size = length-take-le w t (omega arith)
@@ -120,26 +120,26 @@ module _ (t : List ℕ) (w : ℕ) (is : w ≡ passing printable? t) (h : w < len
   whole : length (take w t) ≡ passing printable? (take w t)
   whole = sym (passing_full printable? (take w t) (rw is (passing_all printable? t)))
 
-  module _ (z : ℕ) (e : Ending t w z) (some : 0 < z) (fits : w ≤ 80) (b : ℕ) (bs : b ≡ passing blank? (take w t)) where
+  module _ (z : ℕ) (e : Ending t w z) (fits : w ≤ 80) (b : ℕ) (bs : b ≡ passing blank? (take w t)) where
     pub quick_row : b < w → Rows t w (w + z)
     quick_row q =
         let s = size in
-        stand_row t _ (span z e some) (look_full (take w t) (omega arith) _ whole (omega arith) b bs (omega arith))
+        stand_row t _ (span z e) (look_full (take w t) (omega arith) _ whole (omega arith) b bs (omega arith))
 
     pub quick_skip : w ≤ b → Skips t (w + z)
     quick_skip q =
         let s = size in
-        stand_skip t _ (span z e some) (look_blank (take w t) (omega arith) _ whole (omega arith) b bs (omega arith))
+        stand_skip t _ (span z e) (look_blank (take w t) (omega arith) _ whole (omega arith) b bs (omega arith))
 
 -- ---- a row that is known byte by byte
 
-module _ (t : List ℕ) (w z : ℕ) (h : w < length t) (e : Ending t w z) (some : 0 < z) (fits : w ≤ 80) (shown : (i : ℕ) → i < w → Within 32 126 (get_or t i 0)) where
+module _ (t : List ℕ) (w z : ℕ) (h : w < length t) (e : Ending t w z) (fits : w ≤ 80) (shown : (i : ℕ) → i < w → Within 32 126 (get_or t i 0)) where
   pub known_row : (i : ℕ) → i < w → ¬ (get_or t i 0 ≡ 32) → Rows t w (w + z)
   known_row i q n =
-      let is : w ≡ passing printable? t = passing_is printable? t w h shown (ending_odd t w z e some) in
+      let is : w ≡ passing printable? t = passing_is printable? t w h shown (ending_odd t w z e) in
       let p = passing_le blank? (take w t) in
       let l : length (take w t) ≡ w = length-take-le w t (omega arith) in
-      quick_row t w is h z e some fits (passing blank? (take w t)) refl (short (dec_le w (passing blank? (take w t))))
+      quick_row t w is h z e fits (passing blank? (take w t)) refl (short (dec_le w (passing blank? (take w t))))
     where
       short : Dec (w ≤ passing blank? (take w t)) → passing blank? (take w t) < w
       short (yes k) = absurd (n (sym (get_or-take w t i 0 q) ∙ passing_before blank? (take w t) i (omega arith)))

@@ -3,9 +3,8 @@ use Rattle.std.specs.Prelude.{◌≡◌, List, ℕ, suc, ◌-◌, ◌≤◌, ◌
 use Rattle.std.proofs.Math.Decide.{dec_le}
 use Rattle.kit.specs.Answer.{pick}
 use Rattle.layout.specs.Text.{pad}
-use Rattle.reading.specs.Feed.{why, over, bad, row, split, feed}
+use Rattle.reading.specs.Feed.{over, bad, row, split, feed}
 use Rattle.read_lines.specs.declared.NextRow.{NextRow}
-use Rattle.read_lines.specs.declared.NextRow.TheVariants as NextRow
 
 -- there is none: the text ends after m lines
 pub record LeadsOver (t : List ℕ) (at n m : ℕ) : Type 0 where
@@ -27,7 +26,7 @@ pub record LeadsRow (t : List ℕ) (at n start end next m : ℕ) : Type 0 where
 -- `Leads t at n r`: r is what comes after n lines, from the line that starts at `at` on
 abbrev pub Leads : List ℕ → ℕ → ℕ → NextRow → Type 0
 Leads t at n (NextRow.Over m) = LeadsOver t at n m
-Leads t at n (NextRow.Bad k l c) = feed (suc n) (split (drop at t)) ≡ bad (why k l c)
+Leads t at n (NextRow.Bad w) = feed (suc n) (split (drop at t)) ≡ bad w
 Leads t at n (NextRow.Row start end next m) = LeadsRow t at n start end next m
 
 -- the number that refusal 10 tells after n lines

@@ -1,13 +1,14 @@
 -- The line that starts a part of a text, and what it hands on to the reading.
-use Rattle.std.specs.Prelude.{◌≡◌, ℕ, suc, ◌≤◌, ◌<◌, List, [], ◌∷◌, length, take, drop}
+use Rattle.std.specs.Prelude.{◌≡◌, ℕ, suc, ◌≤◌, ◌<◌, List, [], ◌∷◌, length, take, drop, Result, Ok, Err}
 use Rattle.std.proofs.Math.Decide.{ℕ_discrete, dec_le}
 use Rattle.kit.specs.Answer.{All, pick, all_dec, ¬_dec}
 use Rattle.kit.specs.Range.{Within, within?}
 use Rattle.layout.specs.Text.{Clean, pad}
-use Rattle.reading.specs.Feed.{why, split, over, bad, row, bad_column, feed}
+use Rattle.reading.specs.declared.Fault.{Fault}
+use Rattle.reading.specs.Feed.{why, fault, split, over, bad, row, bad_column, feed}
 use Rattle.read_lines.specs.Cuts.{Starts}
 use Rattle.read_lines.specs.declared.Look.{Look}
-use Rattle.read_lines.specs.declared.Look.TheVariants.{Wrong, Blank, Full}
+use Rattle.read_lines.specs.declared.Look.TheVariants.{Blank, Full}
 use Rattle.read_lines.specs.declared.Line.{Line}
 use Rattle.read_lines.specs.declared.Line.TheVariants.{Over, Bad, Skip, Row}
 use Rattle.read_lines.specs.declared.Span.{Span}
@@ -27,11 +28,11 @@ abbrev pub blank? : (b : ℕ) → Dec (b ≡ 32)
 blank? b = ℕ_discrete b 32
 
 -- what a line by itself shows
-unfoldable pub look_of : List ℕ → Look
+unfoldable pub look_of : List ℕ → Result Look Fault
 look_of l =
     pick (dec_le (length l) 80)
-    (pick (all_dec (within? 32 126) l) (pick (all_dec (λ b. ℕ_discrete b 32) l) Blank Full) (Wrong 2 (bad_column l)))
-    (Wrong 1 81)
+    (pick (all_dec (within? 32 126) l) (pick (all_dec (λ b. ℕ_discrete b 32) l) (Ok Blank) (Ok Full)) (Err (fault 2 (bad_column l))))
+    (Err (fault 1 81))
 
 -- the first line of a text that is not empty, and where the next one starts
 pub record Spans (t : List ℕ) (s : Span) : Type 0 where
@@ -65,6 +66,6 @@ pub record Rows (t : List ℕ) (w next : ℕ) : Type 0 where
 -- `Stands t r`: r is the line that starts the text t, as the reading sees it
 abbrev pub Stands : List ℕ → Line → Type 0
 Stands t Over = (n : ℕ) → feed n (split t) ≡ over n
-Stands t (Bad k c) = (n : ℕ) → feed n (split t) ≡ bad (why k n c)
+Stands t (Bad f) = (n : ℕ) → feed n (split t) ≡ bad (why f.number n f.column)
 Stands t (Skip next) = Skips t next
 Stands t (Row w next) = Rows t w next

@@ -12,9 +12,9 @@ pub record Ahead (l : List ℕ) (k : ℕ) : Type 0 where
   pub within : k ≤ length l
   pub on : passing printable? l ≡ k + passing printable? (drop k l)
 
--- z bytes end a line of w bytes: one LF, or CR LF; 0 says nothing
+-- z bytes end a line of w bytes: one LF, or CR LF
 abbrev pub Ending : List ℕ → ℕ → ℕ → Type 0
-Ending t w zero = Unit {0}
+Ending t w zero = ⊥
 Ending t w (suc zero) = get_or t w 0 ≡ 10
 Ending t w (suc (suc zero)) = (suc w < length t) × ((get_or t w 0 ≡ 13) × (get_or t (suc w) 0 ≡ 10))
 Ending t w (suc (suc (suc z))) = ⊥

@@ -1,10 +1,13 @@
 // The lines of a text.
 #![tactic(auto)]
 
-ghost use Rattle.std.specs.Prelude.{◌≡◌, ◌<◌, ◌≤◌, length};
+ghost use Rattle.std.specs.Prelude.{◌≡◌, ◌<◌, ◌≤◌, ◌==◌, not, false, nat_le, if◌then◌else◌, length, IfSome};
+ghost use Rattle.std.specs.List.{prefix_len};
 ghost use Rattle.read_lines.specs.Lines.{passing, not_lf?, printable?, blank?, Spans, look_of, Stands};
 ghost use Rattle.read_lines.specs.Quick.{Sixteen, Ahead, Ending, Near, NearLf};
 ghost use Rattle.read_lines.specs.Leads.{Leads, after_all};
+
+use reading::{Fault, Why};
 
 // A line's bytes, without the CR before its LF, and where the next line starts.
 #[derive(Clone, Copy)]
@@ -13,82 +16,60 @@ pub struct Span {
     pub next: usize,
 }
 
-// A line by itself: refused with 01's number and a column, blank, or a row.
+// A line by itself that is not refused: blank, or a row.
 #[derive(Clone, Copy)]
 pub enum Look {
-    Wrong(u64, u64),
     Blank,
     Full,
 }
 
-// The line that starts a text: none, refused with 01's number and a column, blank, or a row of so many bytes; and where the next line starts.
+// The line that starts a text: none, refused, blank, or a row of so many bytes; and where the next line starts.
 #[derive(Clone, Copy)]
 pub enum Line {
     Over,
-    Bad(u64, u64),
+    Bad(Fault),
     Skip(usize),
     Row(usize, usize),
 }
 
-// The next row of a text: none, after so many lines; or a line that is refused, with 01's number, its own and a column; or where it
-// starts and ends, where the next line starts, and how many lines came before.
+// The next row of a text: none, after so many lines; or a line that is refused; or where it starts and ends, where the next line
+// starts, and how many lines came before.
 #[derive(Clone, Copy)]
 pub enum NextRow {
     Over(u64),
-    Bad(u64, u64, u64),
+    Bad(Why),
     Row(usize, usize, usize, u64),
 }
 
 fn before_lf(text: &[u8]) -> usize
-    ensures { result ≡ passing not_lf? text.now }
+    ensures { result ≡ prefix_len (λ b. not (b == 10)) text.now }
 {
-    let mut i = 0;
-    while i < text.len() {
-        if text[i] == b'\n' {
-            return i;
-        }
-        i += 1;
-    }
-    i
+    text.iter().take_while(|b| **b != b'\n').count()
 }
 
 fn printable_in(line: &[u8]) -> usize
-    ensures { result ≡ passing printable? line.now }
+    ensures { result ≡ prefix_len (λ b. if nat_le 32 b then nat_le b 126 else false) line.now }
 {
-    let mut i = 0;
-    while i < line.len() {
-        if line[i] < 32 {
-            return i;
-        }
-        if 126 < line[i] {
-            return i;
-        }
-        i += 1;
-    }
-    i
+    line.iter().take_while(|b| 32 <= **b && **b <= 126).count()
 }
 
+// A `for`: as a chain it took two instructions more for each blank before a row's first word.
 pub fn blanks_in(line: &[u8]) -> usize
     ensures { result ≡ passing blank? line.now }
 {
-    let mut i = 0;
-    while i < line.len() {
-        if line[i] != b' ' {
+    for (i, b) in line.iter().enumerate() {
+        if *b != b' ' {
             return i;
         }
-        i += 1;
     }
-    i
+    line.len()
 }
 
 // How much of a text its first line is looked for in: 80 bytes, CR and LF.
 fn near(text: &[u8]) -> usize
     ensures { Near text.now result }
 {
-    if text.len() < 82 {
-        return text.len();
-    }
-    82
+    text.len().min(82)
 }
 
 // Where the first LF stands, or the text ends; 82 where neither is so near.
@@ -122,21 +103,27 @@ fn span_in(text: &[u8], e: usize) -> Span
     }
 }
 
-fn look_at(line: &[u8]) -> Look
+fn look_at(line: &[u8]) -> Result<Look, Fault>
     ensures { result ≡ look_of line.now }
 {
     if 80 < line.len() {
-        return Look::Wrong(1, 81);
+        return Err(Fault {
+            number: 1,
+            column: 81,
+        });
     }
     let p = printable_in(line);
     if p < line.len() {
-        return Look::Wrong(2, p as u64 + 1);
+        return Err(Fault {
+            number: 2,
+            column: p as u64 + 1,
+        });
     }
     let b = blanks_in(line);
     if b < line.len() {
-        return Look::Full;
+        return Ok(Look::Full);
     }
-    Look::Blank
+    Ok(Look::Blank)
 }
 
 // Whether 16 bytes are printable. No branch per byte, so that vector code is made of it.
@@ -145,10 +132,8 @@ fn all_printable(b: &[u8]) -> bool
     ensures { Sixteen result b.now }
 {
     let mut ok = true;
-    let mut i = 0;
-    while i < 16 {
-        ok = ok & (32 <= b[i]) & (b[i] <= 126);
-        i += 1;
+    for x in b {
+        ok = ok & (32 <= *x) & (*x <= 126);
     }
     ok
 }
@@ -185,37 +170,40 @@ fn any_line_in(text: &[u8]) -> Line
     }
     let e = near_lf(text);
     if 82 <= e {
-        return Line::Bad(1, 81);
+        return Line::Bad(Fault {
+            number: 1,
+            column: 81,
+        });
     }
     let s = span_in(text, e);
     let width = s.width;
     let next = s.next;
     match look_at(&text[..width]) {
-        Look::Wrong(number, column) => Line::Bad(number, column),
-        Look::Blank => Line::Skip(next),
-        Look::Full => Line::Row(width, next),
+        Err(fault) => Line::Bad(fault),
+        Ok(Look::Blank) => Line::Skip(next),
+        Ok(Look::Full) => Line::Row(width, next),
     }
 }
 
-// What ends a line of w bytes that starts a text: 1 for LF, 2 for CR LF, 0 where neither stands there.
-pub fn end_at(text: &[u8], w: usize) -> usize
+// How many bytes end a line of w bytes that starts a text: 1 for LF, 2 for CR LF; none where neither stands there.
+pub fn end_at(text: &[u8], w: usize) -> Option<usize>
     requires { w < length text.now }
-    ensures { Ending text.now w result }
+    ensures { IfSome result (Ending text.now w) }
 {
     if text[w] == b'\n' {
-        return 1;
+        return Some(1);
     }
     if text[w] != b'\r' {
-        return 0;
+        return None;
     }
     let e = w + 1;
     if text.len() <= e {
-        return 0;
+        return None;
     }
     if text[e] != b'\n' {
-        return 0;
+        return None;
     }
-    2
+    Some(2)
 }
 
 // The line that starts this part of a text. Nearly every line is printable bytes and its end: that is looked for first, since it is found fast.
@@ -230,10 +218,9 @@ pub fn line_in(text: &[u8]) -> Line
     if 80 < w {
         return any_line_in(text);
     }
-    let z = end_at(text, w);
-    if z == 0 {
+    let Some(z) = end_at(text, w) else {
         return any_line_in(text);
-    }
+    };
     let b = blanks_in(&text[..w]);
     if b < w {
         return Line::Row(w, w + z);
@@ -253,8 +240,8 @@ pub fn row_from(text: &[u8], from: usize, passed: u64) -> NextRow
             Line::Over => {
                 return NextRow::Over(n);
             }
-            Line::Bad(number, column) => {
-                return NextRow::Bad(number, n + 1, column);
+            Line::Bad(fault) => {
+                return NextRow::Bad(fault.on(n + 1));
             }
             Line::Row(width, next) => {
                 return NextRow::Row(at, at + width, at + next, n);
@@ -272,8 +259,5 @@ pub fn row_from(text: &[u8], from: usize, passed: u64) -> NextRow
 pub fn line_after(n: u64) -> u64
     ensures { result ≡ after_all n }
 {
-    if n < 18446744073709551615 {
-        return n + 1;
-    }
-    18446744073709551615
+    n.saturating_add(1)
 }

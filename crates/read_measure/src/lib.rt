@@ -3,24 +3,15 @@
 
 ghost use Rattle.read_outcome.specs.Measures.{Measures};
 
-use read_judge::Judged;
-use read_outcome::Measured;
+use read_needs::Elements;
+use reading::Why;
 
-// What each area needs; or the reason why the text is refused.
-pub fn measure(text: &[u8]) -> Measured
+// What each area needs; or why the text is refused.
+pub fn measure(text: &[u8]) -> Result<Elements, Why>
     ensures { Measures text.now result }
 {
     let mut lines = [b' '; 1200];
-    let scan = read_judge::judge(text, &mut lines);
-    let answer = scan.answer;
-    match answer {
-        Judged::Wrong(number, line, column) => {
-            Measured::Refused(read_outcome::reason_of(number, line, column))
-        }
-        Judged::Fine(header, _, _, some) => {
-            let size = read_needs::size_of(header);
-            let need = read_needs::needed(size, some);
-            Measured::Needs(need)
-        }
-    }
+    let scan = read_judge::judge(text, &mut lines)?;
+    let size = read_needs::size_of(scan.header);
+    Ok(read_needs::needed(size, scan.some))
 }

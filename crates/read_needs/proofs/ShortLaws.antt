@@ -1,7 +1,7 @@
 -- No area is the first too short exactly where each is long enough.
 use mathlib.Core.Path.{◌≡◌, refl, ◌∙◌}
 use mathlib.Core.List.{List, [], ◌∷◌}
-use mathlib.Core.Option.{none, some}
+use mathlib.Core.Option.{Option, none, some}
 use Prim.Native.Nat.{ℕ, suc, ◌≤◌}
 use native.Mathlib.Decide.{dec_le}
 use Rattle.kit.specs.Answer.{All, pick}
@@ -23,3 +23,22 @@ pub none_short : (i : ℕ) (xs : List (ℕ × ℕ)) → All (λ x. x.0 ≤ x.1) 
 unfolding first_short
 none_short i [] a = refl
 none_short i (x ∷ xs) a = pick_yes (dec_le x.0 x.1) _ _ a.0 ∙ none_short (suc i) xs a.1
+
+-- ---- one area after the other
+
+module _ (need lent : ℕ) (xs : List (ℕ × ℕ)) where
+  pub short_here : (i : ℕ) {s : ℕ × ℕ} → some s ≡ first_short i ((need, lent) ∷ []) → some s ≡ first_short i ((need, lent) ∷ xs)
+  unfolding first_short pick
+  short_here i {s} = by (dec_le need lent)
+    where
+      by : (d : Dec (need ≤ lent)) → some s ≡ pick d none (some (i, need)) → some s ≡ pick d (first_short (suc i) xs) (some (i, need))
+      by (yes p) e = clash (cc)
+      by (no n) e = e
+
+  pub enough_here : (i : ℕ) → none ≡ first_short i ((need, lent) ∷ []) → first_short (suc i) xs ≡ first_short i ((need, lent) ∷ xs)
+  unfolding first_short pick
+  enough_here i = by (dec_le need lent)
+    where
+      by : (d : Dec (need ≤ lent)) → ◌≡◌ {A = Option (ℕ × ℕ)} none (pick d none (some (i, need))) → first_short (suc i) xs ≡ pick d (first_short (suc i) xs) (some (i, need))
+      by (yes p) e = refl
+      by (no n) e = clash (cc)

@@ -1,13 +1,12 @@
 -- 01, 11: what each lent area needs, and the first that is too short.
-use Rattle.std.specs.Prelude.{cond, List, [], ◌∷◌, ℕ, suc, ◌*◌, length}
+use Rattle.std.specs.Prelude.{cond, List, [], ◌∷◌, ℕ, suc, ◌*◌, length, Result, Ok, Err}
 use Rattle.std.proofs.Math.Option.{Option, none, some}
 use Rattle.std.proofs.Math.Decide.{dec_le}
 use Rattle.kit.specs.Answer.{pick}
 use Rattle.mapset.specs.Areas.{Areas}
 use Rattle.read_needs.specs.declared.Elements.{Elements}
 use Rattle.read_needs.specs.declared.Others.{Others}
-use Rattle.read_needs.specs.declared.LentRoom.{LentRoom}
-use Rattle.read_needs.specs.declared.LentRoom.TheVariants.{Enough, Short}
+use Rattle.read_needs.specs.declared.Short.{Short}
 
 -- the elements of each area
 abbrev pub lengths : Areas → Elements
@@ -47,6 +46,9 @@ abbrev pub needs_of : (n B C : ℕ) → Others → Elements
 needs_of n B C o =
     record { tec = n * B * C; rms = cond o.rms (n * B * C) 0; height = cond o.height (n * B * C) 0; exponents = 3 * (n * B); epochs = n; marks = n }
 
-abbrev pub fit : LentRoom → Option (ℕ × ℕ)
-fit Enough = none
-fit (Short a n) = some (a, n)
+abbrev pub short : (area need : ℕ) → Short
+short a n = record { area = a; need = n }
+
+abbrev pub fit : Result (Unit {0}) Short → Option (ℕ × ℕ)
+fit (Ok u) = none
+fit (Err s) = some (s.area, s.need)

@@ -1,7 +1,7 @@
 // What each lent area needs, and the first that is too short.
 #![tactic(auto)]
 
-ghost use Rattle.std.specs.Prelude.{◌≡◌, cond, ◌*◌, ◌≤◌};
+ghost use Rattle.std.specs.Prelude.{◌≡◌, cond, [], ◌∷◌, ◌*◌, ◌≤◌};
 ghost use Rattle.mapset.specs.Grid.{Limits, columns};
 ghost use Rattle.layout.specs.Layout.{per_map};
 ghost use Rattle.read_needs.specs.Needs.{first_short, pairs, fit, needs_of};
@@ -26,11 +26,11 @@ pub struct Others {
     pub height: bool,
 }
 
-// Each area holds what it needs; or the first that does not, counted from 1, and the elements it needs.
+// The first area that is too short, counted from 1, and the elements it needs.
 #[derive(Clone, Copy)]
-pub enum LentRoom {
-    Enough,
-    Short(u64, u64),
+pub struct Short {
+    pub area: u64,
+    pub need: u64,
 }
 
 // n, L.R and C.
@@ -71,27 +71,27 @@ pub fn needed(size: Size, some: Others) -> Elements
     }
 }
 
+// Whether one area holds what it needs.
+pub fn fits(area: u64, need: usize, lent: usize) -> Result<(), Short>
+    ensures { fit result ≡ first_short area ((need, lent) ∷ []) }
+{
+    if lent < need {
+        return Err(Short {
+            area,
+            need: need as u64,
+        });
+    }
+    Ok(())
+}
+
 // In 01's order: TEC, RMS, height, exponents, epochs, marks.
-pub fn room_for(need: Elements, lent: Elements) -> LentRoom
+pub fn room_for(need: Elements, lent: Elements) -> Result<(), Short>
     ensures { fit result ≡ first_short 1 (pairs need lent) }
 {
-    if lent.tec < need.tec {
-        return LentRoom::Short(1, need.tec as u64);
-    }
-    if lent.rms < need.rms {
-        return LentRoom::Short(2, need.rms as u64);
-    }
-    if lent.height < need.height {
-        return LentRoom::Short(3, need.height as u64);
-    }
-    if lent.exponents < need.exponents {
-        return LentRoom::Short(4, need.exponents as u64);
-    }
-    if lent.epochs < need.epochs {
-        return LentRoom::Short(5, need.epochs as u64);
-    }
-    if lent.marks < need.marks {
-        return LentRoom::Short(6, need.marks as u64);
-    }
-    LentRoom::Enough
+    fits(1, need.tec, lent.tec)?;
+    fits(2, need.rms, lent.rms)?;
+    fits(3, need.height, lent.height)?;
+    fits(4, need.exponents, lent.exponents)?;
+    fits(5, need.epochs, lent.epochs)?;
+    fits(6, need.marks, lent.marks)
 }

@@ -2,20 +2,20 @@
 use mathlib.Core.Path.{◌≡◌, refl, sym, ap, ◌∙◌}
 use mathlib.Core.List.{List}
 use Prim.Native.Nat.{ℕ}
+use Rattle.std.specs.Prelude.{Result, Ok, Err}
 use native.Mathlib.Decide.{ℕ_discrete}
 use Rattle.kit.specs.Answer.{pick}
 use Rattle.kit.proofs.TruthLaws.{clash}
+use Rattle.mapset.specs.declared.Header.{Header}
 use Rattle.areas.specs.Flat.{areas}
+use Rattle.reading.specs.declared.Why.{Why}
 use Rattle.read_needs.specs.Needs.{lengths}
+use Rattle.read_needs.specs.declared.Elements.{Elements}
 use Rattle.read_outcome.specs.Outcome.{ToldReading, accepted, at_place, eleven, told_reason, told, texts_in}
 use Rattle.read_outcome.specs.Measures.{Measures}
 use Rattle.read_outcome.specs.declared.Reason.{Reason}
 use Rattle.read_outcome.specs.declared.Reason.TheVariants.{LongLine, BadByte, NotIonex, UnknownLabel, Misplaced, IllFormed, OutOfRange, Disagrees, Missing, EndsEarly, AreaTooShort}
-use Rattle.read_outcome.specs.declared.Reading.{Reading}
-use Rattle.read_outcome.specs.declared.Reading.TheVariants.{Accepted, Refused}
 use Rattle.read_outcome.specs.declared.ReadOut.{ReadOut}
-use Rattle.read_outcome.specs.declared.Measured.{Measured}
-use Rattle.read_outcome.specs.declared.Measured.TheVariants as M
 
 unfoldable reason : ℕ → ℕ → ℕ → Reason
 reason k l c =
@@ -28,12 +28,12 @@ reason k l c =
     (pick (ℕ_discrete k 7) (OutOfRange l c)
     (pick (ℕ_discrete k 8) (Disagrees l c) (pick (ℕ_discrete k 9) (Missing l c) (EndsEarly l c)))))))))
 
-abbrev back : ToldReading → Reading
-back (accepted h) = Accepted h
-back (at_place k l c) = Refused (reason k l c)
-back (eleven a n) = Refused (AreaTooShort a n)
+abbrev back : ToldReading → Result Header Reason
+back (accepted h) = Ok h
+back (at_place k l c) = Err (reason k l c)
+back (eleven a n) = Err (AreaTooShort a n)
 
-back_reason : (w : Reason) → back (told_reason w) ≡ Refused w
+back_reason : (w : Reason) → back (told_reason w) ≡ Err w
 unfolding reason pick ℕ_discrete
 back_reason (LongLine l c) = refl
 back_reason (BadByte l c) = refl
@@ -47,22 +47,18 @@ back_reason (Missing l c) = refl
 back_reason (EndsEarly l c) = refl
 back_reason (AreaTooShort a n) = refl
 
-back_told : (a : Reading) → back (told a) ≡ a
-back_told (Accepted h) = refl
-back_told (Refused w) = back_reason w
+back_told : (a : Result Header Reason) → back (told a) ≡ a
+back_told (Ok h) = refl
+back_told (Err w) = back_reason w
 
-pub told_once : (a b : Reading) → told a ≡ told b → a ≡ b
+pub told_once : (a b : Result Header Reason) → told a ≡ told b → a ≡ b
 told_once a b e = sym (back_told a) ∙ ap back e ∙ back_told b
 
-pub needs_once : (t : List ℕ) (a b : Measured) → Measures t a → Measures t b → a ≡ b
-needs_once t (M.Needs n) (M.Needs k) (m, (p, q)) (m', (p', q')) = let z : m ≡ m' = cc in ap M.Needs (q ∙ ap (λ x. lengths (areas x)) z ∙ sym q')
-needs_once t (M.Needs n) (M.Refused w) (m, (p, q)) (y, (p', q')) = clash (cc)
-needs_once t (M.Refused w) (M.Needs n) (y, (p, q)) (m, (p', q')) = clash (cc)
-needs_once t (M.Refused v) (M.Refused w) (y, (p, q)) (y', (p', q')) =
-    let z : y ≡ y' = cc in
-    let e = told_once (Refused v) (Refused w) (q ∙ ap (λ y. at_place y.number y.line y.column) z ∙ sym q') in
-    let f : v ≡ w = cc in
-    ap M.Refused f
+pub needs_once : (t : List ℕ) (a b : Result Elements Why) → Measures t a → Measures t b → a ≡ b
+needs_once t (Ok n) (Ok k) (m, (p, q)) (m', (p', q')) = let z : m ≡ m' = cc in ap Ok (q ∙ ap (λ x. lengths (areas x)) z ∙ sym q')
+needs_once t (Ok n) (Err w) (m, (p, q)) r = clash (cc)
+needs_once t (Err w) (Ok n) r (m, (p, q)) = clash (cc)
+needs_once t (Err v) (Err w) p q = let z : v ≡ w = cc in ap Err z
 
 pub texts_once : (r s : ReadOut) → texts_in r ≡ texts_in s → (r.texts ≡ s.texts) × (r.descriptions ≡ s.descriptions)
 texts_once r s e = (λ i. record { program = (e i).program; agency = (e i).agency; date = (e i).date; mapping = (e i).mapping; observables = (e i).observables }, λ i. record { bytes = (e i).descriptions })

@@ -1,5 +1,5 @@
 -- 01, 'What comes back': what is answered of a text and six lent areas, and what is left in them.
-use Rattle.std.specs.Prelude.{List, [], ◌∷◌, ℕ}
+use Rattle.std.specs.Prelude.{List, [], ◌∷◌, ℕ, Result, Ok, Err}
 use Rattle.std.proofs.Math.Option.{Option, none, some}
 use Rattle.kit.specs.Answer.{Answer, ok, refused}
 use Rattle.mapset.specs.declared.Header.{Header}
@@ -7,7 +7,7 @@ use Rattle.mapset.specs.Described.{FullTexts, full}
 use Rattle.mapset.specs.Lines.{no_lines}
 use Rattle.mapset.specs.MapSet.{MapSet}
 use Rattle.mapset.specs.Areas.{Areas}
-use Rattle.reading.specs.Feed.{Why}
+use Rattle.reading.specs.declared.Why.{Why}
 use Rattle.reading.specs.Read.{read}
 use Rattle.mapset.specs.Said.{blank_texts}
 use Rattle.areas.specs.Flat.{areas}
@@ -15,8 +15,6 @@ use Rattle.areas.specs.Fronts.{fronts}
 use Rattle.read_needs.specs.Needs.{needed_and_lent, first_short}
 use Rattle.read_outcome.specs.declared.Reason.{Reason}
 use Rattle.read_outcome.specs.declared.Reason.TheVariants.{LongLine, BadByte, NotIonex, UnknownLabel, Misplaced, IllFormed, OutOfRange, Disagrees, Missing, EndsEarly, AreaTooShort}
-use Rattle.read_outcome.specs.declared.Reading.{Reading}
-use Rattle.read_outcome.specs.declared.Reading.TheVariants.{Accepted, Refused}
 use Rattle.read_outcome.specs.declared.ReadOut.{ReadOut}
 
 -- ---- the answer: the header record; or 01's number with line and column; or 11 with the area and the elements it needs
@@ -75,9 +73,9 @@ told_reason (Missing l c) = at_place 9 l c
 told_reason (EndsEarly l c) = at_place 10 l c
 told_reason (AreaTooShort a n) = eleven a n
 
-abbrev pub told : Reading → ToldReading
-told (Accepted h) = accepted h
-told (Refused w) = told_reason w
+abbrev pub told : Result Header Reason → ToldReading
+told (Ok h) = accepted h
+told (Err w) = told_reason w
 
 abbrev pub texts_in : ReadOut → FullTexts
 texts_in r = full r.texts r.descriptions.bytes

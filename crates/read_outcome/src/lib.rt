@@ -1,12 +1,14 @@
 // What is answered of a text: the header record with its texts, or the reason why it is refused.
 #![tactic(auto)]
 
-ghost use Rattle.std.specs.Prelude.{◌≡◌, [], ◌∷◌};
+ghost use Rattle.std.specs.Prelude.{◌≡◌, [], ◌∷◌, Err};
 ghost use Rattle.kit.specs.Range.{Within};
 ghost use Rattle.read_outcome.specs.Outcome.{at_place, told_number, told_place, told_reason, no_texts, texts_in};
+ghost use Rattle.read_outcome.specs.declared.Reason.TheVariants.{AreaTooShort};
 
 use mapset::{Descriptions, Header, Texts};
-use read_needs::Elements;
+use read_needs::Short;
+use reading::Why;
 
 // Why a text is refused: 01's reasons 1 to 10, each with line and column; and 11, with the area and the elements it needs.
 #[derive(Clone, Copy)]
@@ -24,50 +26,47 @@ pub enum Reason {
     AreaTooShort(u64, u64),
 }
 
-#[derive(Clone, Copy)]
-pub enum Reading {
-    Accepted(Header),
-    Refused(Reason),
+// Only numbers that are none of 01's ten are told otherwise.
+impl From<Why> for Reason {
+    ghost from_gives = { λ why r. Within 1 10 why.number → told_reason r ≡ at_place why.number why.line why.column };
+
+    fn from(why: Why) -> Reason {
+        match why.number {
+            1 => Reason::LongLine(why.line, why.column),
+            2 => Reason::BadByte(why.line, why.column),
+            3 => Reason::NotIonex(why.line, why.column),
+            4 => Reason::UnknownLabel(why.line, why.column),
+            5 => Reason::Misplaced(why.line, why.column),
+            6 => Reason::IllFormed(why.line, why.column),
+            7 => Reason::OutOfRange(why.line, why.column),
+            8 => Reason::Disagrees(why.line, why.column),
+            9 => Reason::Missing(why.line, why.column),
+            _ => Reason::EndsEarly(why.line, why.column),
+        }
+    }
 }
 
-// The texts and the bytes of the DESCRIPTION lines are blanks on a refusal.
+impl From<Short> for Reason {
+    ghost from_gives = { λ short r. r ≡ AreaTooShort short.area short.need };
+
+    fn from(short: Short) -> Reason {
+        Reason::AreaTooShort(short.area, short.need)
+    }
+}
+
+// The texts and the bytes of the DESCRIPTION lines are blanks on a refusal: they stand beside the answer in `Outcome`, which says so.
 #[derive(Clone, Copy)]
 pub struct ReadOut {
-    pub answer: Reading,
+    pub answer: Result<Header, Reason>,
     pub texts: Texts,
     pub descriptions: Descriptions,
 }
 
-// What each area needs; or why the text is refused.
-#[derive(Clone, Copy)]
-pub enum Measured {
-    Needs(Elements),
-    Refused(Reason),
-}
-
-pub fn reason_of(number: u64, line: u64, column: u64) -> Reason
-    requires { Within 1 10 number }
-    ensures { told_reason result ≡ at_place number line column }
-{
-    match number {
-        1 => Reason::LongLine(line, column),
-        2 => Reason::BadByte(line, column),
-        3 => Reason::NotIonex(line, column),
-        4 => Reason::UnknownLabel(line, column),
-        5 => Reason::Misplaced(line, column),
-        6 => Reason::IllFormed(line, column),
-        7 => Reason::OutOfRange(line, column),
-        8 => Reason::Disagrees(line, column),
-        9 => Reason::Missing(line, column),
-        _ => Reason::EndsEarly(line, column),
-    }
-}
-
 pub fn refused(reason: Reason) -> ReadOut
-    ensures { (result.answer ≡ Reading.Refused reason) × (texts_in result ≡ no_texts) }
+    ensures { (result.answer ≡ Err reason) × (texts_in result ≡ no_texts) }
 {
     ReadOut {
-        answer: Reading::Refused(reason),
+        answer: Err(reason),
         texts: head::opening::blanks(),
         descriptions: Descriptions {
             bytes: [b' '; 1200],
@@ -75,7 +74,7 @@ pub fn refused(reason: Reason) -> ReadOut
     }
 }
 
-// 01's number of a refusal, and line and column, or area and need.
+// 01's number of a refusal, and line and column, or area and need: numbers, as C is told them.
 #[derive(Clone, Copy)]
 pub struct Refusal {
     pub number: u64,

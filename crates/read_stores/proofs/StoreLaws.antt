@@ -1,6 +1,6 @@
 -- Laws of the stores.
 use mathlib.Core.Path.{◌≡◌, sym, ap}
-use mathlib.Core.Logic.{inl, inr, ⊎_elim}
+use mathlib.Core.Logic.{◌⊎◌, inl, inr, ⊎_elim}
 use mathlib.Core.Bool.{true, false}
 use Prim.Native.Nat.{ℕ}
 use mathlib.Core.List.{List}
@@ -17,20 +17,14 @@ set_both l x y = λ i. set l (x i) (y i)
 -- ---- marks
 
 module _ (m : ℕ) where
-  pub rms_two : m ≡ 2 → 3 ≡ with_mark Rms m
-  rms_two e = sym (ap (mark true) (pick_yes (present? Height m) true false (inl e)))
+  pub rms_both : (m ≡ 2) ⊎ (¬ (m ≡ 2) × (m ≡ 3)) → 3 ≡ with_mark Rms m
+  rms_both e = sym (ap (mark true) (pick_yes (present? Height m) true false (⊎_elim inl (λ x. inr x.1) e)))
 
-  pub rms_three : m ≡ 3 → 3 ≡ with_mark Rms m
-  rms_three e = sym (ap (mark true) (pick_yes (present? Height m) true false (inr e)))
+  pub rms_alone : ¬ (m ≡ 2) → ¬ (m ≡ 3) → 1 ≡ with_mark Rms m
+  rms_alone a b = sym (ap (mark true) (pick_no (present? Height m) true false (⊎_elim a b)))
 
-  pub rms_else : ¬ (m ≡ 2) → ¬ (m ≡ 3) → 1 ≡ with_mark Rms m
-  rms_else a b = sym (ap (mark true) (pick_no (present? Height m) true false (⊎_elim a b)))
+  pub height_both : (m ≡ 1) ⊎ (¬ (m ≡ 1) × (m ≡ 3)) → 3 ≡ with_mark Height m
+  height_both e = sym (ap (λ b. mark b true) (pick_yes (present? Rms m) true false (⊎_elim inl (λ x. inr x.1) e)))
 
-  pub height_one : m ≡ 1 → 3 ≡ with_mark Height m
-  height_one e = sym (ap (λ b. mark b true) (pick_yes (present? Rms m) true false (inl e)))
-
-  pub height_three : m ≡ 3 → 3 ≡ with_mark Height m
-  height_three e = sym (ap (λ b. mark b true) (pick_yes (present? Rms m) true false (inr e)))
-
-  pub height_else : ¬ (m ≡ 1) → ¬ (m ≡ 3) → 2 ≡ with_mark Height m
-  height_else a b = sym (ap (λ b. mark b true) (pick_no (present? Rms m) true false (⊎_elim a b)))
+  pub height_alone : ¬ (m ≡ 1) → ¬ (m ≡ 3) → 2 ≡ with_mark Height m
+  height_alone a b = sym (ap (λ b. mark b true) (pick_no (present? Rms m) true false (⊎_elim a b)))

@@ -8,18 +8,12 @@ ghost use Rattle.areas.specs.Places.{before};
 
 use mapset::{Kind, Size};
 
-fn less_one(i: usize) -> usize
-    ensures { result ≡ i - 1 }
-{
-    if i < 1 { 0 } else { i - 1 }
-}
-
 // How many blocks of its kind stand before block b of map i.
 pub fn block_place(i: usize, b: usize, blocks: usize) -> usize
     requires { before blocks i b < 9223372036854775808 }
     ensures { result ≡ before blocks i b }
 {
-    less_one(i) * blocks + b
+    i.saturating_sub(1) * blocks + b
 }
 
 // The place of a block among those of all kinds: the three kinds stand behind each other.
@@ -38,30 +32,14 @@ pub fn put_exponent(kind: Kind, i: usize, b: usize, e: i32, size: Size, exponent
     exponents[p] = e;
 }
 
-// A mark that says of one more kind that it is there.
+// A mark that says of one more kind that it is there: a number, as it lies in the area that C lends.
 fn marked(kind: Kind, m: u8) -> u8
     ensures { result ≡ with_mark kind m }
 {
     match kind {
         Kind::Tec => m,
-        Kind::Rms => {
-            if m == 2 {
-                return 3;
-            }
-            if m == 3 {
-                return 3;
-            }
-            1
-        }
-        Kind::Height => {
-            if m == 1 {
-                return 3;
-            }
-            if m == 3 {
-                return 3;
-            }
-            2
-        }
+        Kind::Rms => if m == 2 || m == 3 { 3 } else { 1 },
+        Kind::Height => if m == 1 || m == 3 { 3 } else { 2 },
     }
 }
 
@@ -70,9 +48,8 @@ pub fn put_mark(kind: Kind, i: usize, marks: &mut [u8])
     requires { i - 1 < length marks.old }
     ensures { marks.new ≡ set marks.old (i - 1) (with_mark kind (get_or marks.old (i - 1) 0)) }
 {
-    let p = less_one(i);
-    let m = marks[p];
-    marks[p] = marked(kind, m);
+    let p = i.saturating_sub(1);
+    marks[p] = marked(kind, marks[p]);
 }
 
 // The epoch of TEC map i.
@@ -80,37 +57,22 @@ pub fn put_epoch(i: usize, e: u64, epochs: &mut [u64])
     requires { i - 1 < length epochs.old }
     ensures { epochs.new ≡ set epochs.old (i - 1) e }
 {
-    let p = less_one(i);
-    epochs[p] = e;
+    epochs[i.saturating_sub(1)] = e;
 }
 
 // ---- Before the scan: no RMS and no height map is there
 
-fn clear(area: &mut [i32], v: i32)
-    ensures { area.new ≡ replicate (length area.old) v }
-{
-    let mut j = 0;
-    while j < area.len() {
-        area[j] = v;
-        j += 1;
-    }
-}
-
 pub fn clear_marks(marks: &mut [u8])
     ensures { marks.new ≡ replicate (length marks.old) 0 }
 {
-    let mut j = 0;
-    while j < marks.len() {
-        marks[j] = 0;
-        j += 1;
-    }
+    marks.fill(0);
 }
 
 pub fn clear_front(area: &mut [i32], k: usize, v: i32)
     requires { k ≤ length area.old }
     ensures { area.new ≡ fill v k area.old }
 {
-    clear(&mut area[..k], v);
+    area[..k].fill(v);
 }
 
 // r and t are the needs of RMS and height values, 0 for a kind with no map.
@@ -129,10 +91,9 @@ pub fn prefill(
     ensures exponents_after { exponents.new ≡ fill (negsuc 0) (3 * (size.maps * size.blocks)) exponents.old }
     ensures marks_after { marks.new ≡ fill 0 size.maps marks.old }
 {
-    let n = size.maps;
     let all = 3 * (size.maps * size.blocks);
     clear_front(rms, r, 9999);
     clear_front(height, t, 9999);
     clear_front(exponents, all, -1);
-    clear_marks(&mut marks[..n]);
+    clear_marks(&mut marks[..size.maps]);
 }

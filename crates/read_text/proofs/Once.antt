@@ -3,6 +3,7 @@ use mathlib.Core.Path.{◌≡◌, refl, sym, ap, ap₂, ◌∙◌}
 use mathlib.Core.Logic.{◌↔◌, ◌⊎◌, inl, inr}
 use mathlib.Core.List.{List, [], ◌∷◌}
 use mathlib.Core.Option.{Option, none, some}
+use Rattle.std.specs.Prelude.{Ok, Err}
 use Prim.Native.Nat.{ℕ, suc, ◌≤◌, ◌<◌}
 use native.Mathlib.Omega.{arith}
 use native.Mathlib.Decide.{dec_le}
@@ -13,7 +14,7 @@ use Rattle.mapset.specs.declared.Header.{Header}
 use Rattle.mapset.specs.MapSet.{MapSet}
 use Rattle.mapset.specs.Areas.{Areas}
 use Rattle.layout.specs.Layout.{Makes}
-use Rattle.reading.specs.Feed.{Why}
+use Rattle.reading.specs.declared.Why.{Why}
 use Rattle.reading.specs.Read.{read}
 use Rattle.reading.proofs.Exact.{read_made, made_read}
 use Rattle.areas.specs.Flat.{areas}
@@ -24,7 +25,6 @@ use Rattle.read_outcome.proofs.Once.{told_once, texts_once}
 use Rattle.read_outcome.specs.Outcome.{accepted, eleven, Outcome, with_room, outcome_of, outcome, told_reason, told, texts_in, comes}
 use Rattle.read_outcome.specs.declared.Reason.{Reason}
 use Rattle.read_outcome.specs.declared.Reason.TheVariants.{LongLine, BadByte, NotIonex, UnknownLabel, Misplaced, IllFormed, OutOfRange, Disagrees, Missing, EndsEarly, AreaTooShort}
-use Rattle.read_outcome.specs.declared.Reading.TheVariants.{Accepted, Refused}
 use Rattle.read_outcome.specs.declared.ReadOut.{ReadOut}
 
 -- the contract of `read`: of the text t and the areas l it hands back r and leaves the areas l'
@@ -53,7 +53,7 @@ FirstShort i a n (x ∷ xs) = ((x.1 < x.0) × ((a ≡ i) × (n ≡ x.0))) ⊎ ((
 
 -- the header record, the texts and the lists of m are what comes back, and behind the lists what was there
 pub record Given (m : MapSet) (l : Areas) (r : ReadOut) (l' : Areas) : Type 0 where
-  pub answer : r.answer ≡ Accepted m.header
+  pub answer : r.answer ≡ Ok m.header
   pub texts : texts_in r ≡ m.texts
   pub areas : l' ≡ fronts (areas m) l
 
@@ -140,13 +140,13 @@ module _ (t : List ℕ) (l : Areas) (r : ReadOut) (l' : Areas) (c : Reads t l r 
   given m k f =
       let e : comes r l' ≡ with_room m l none = c ∙ ap (λ a. outcome_of a l) (read_made k) ∙ ap (with_room m l) (none_short 1 _ f) in
       record {
-        answer = told_once r.answer (Accepted m.header) (ap (λ o. o.told) e);
+        answer = told_once r.answer (Ok m.header) (ap (λ o. o.told) e);
         texts = ap (λ o. o.texts) e;
         areas = ap (λ o. o.areas) e;
       }
 
   -- accepted exactly when some m makes the text and all needs fit, and m is what comes back
-  pub accepts_exactly : ((h : Header) × (r.answer ≡ Accepted h)) ↔ ((m : MapSet) × (Makes m t × (Fits m l × Given m l r l')))
+  pub accepts_exactly : ((h : Header) × (r.answer ≡ Ok h)) ↔ ((m : MapSet) × (Makes m t × (Fits m l × Given m l r l')))
   accepts_exactly = (λ a. by (outcome t l) (outcomes t l) (sym (ap (λ o. o.told) c) ∙ ap told a.1), λ x. (x.0.header, x.1.1.1.answer))
     where
       by : {h : Header} (o : Outcome) → Outcomes t l o → o.told ≡ accepted h → (m : MapSet) × (Makes m t × (Fits m l × Given m l r l'))
@@ -155,11 +155,11 @@ module _ (t : List ℕ) (l : Areas) (r : ReadOut) (l' : Areas) (c : Reads t l r 
       by o (not_made w) e = bad_clash w l e
 
   -- 11 with the area a and the need n exactly when some m makes the text and a is the first area shorter than its need n
-  pub short_exactly : (a n : ℕ) → (r.answer ≡ Refused (AreaTooShort a n)) ↔ ((m : MapSet) × (Makes m t × FirstShort 1 a n (needed_and_lent (areas m) l)))
+  pub short_exactly : (a n : ℕ) → (r.answer ≡ Err (AreaTooShort a n)) ↔ ((m : MapSet) × (Makes m t × FirstShort 1 a n (needed_and_lent (areas m) l)))
   unfolding outcome_of with_room
   short_exactly a n = (
     λ q. by (outcome t l) (outcomes t l) (sym (ap (λ o. o.told) c) ∙ ap told q),
-    λ x. told_once r.answer (Refused (AreaTooShort a n)) (ap (λ o. o.told) (c ∙ ap (λ a. outcome_of a l) (read_made x.1.0) ∙ ap (with_room x.0 l) (first_is 1 a n _ x.1.1))),
+    λ x. told_once r.answer (Err (AreaTooShort a n)) (ap (λ o. o.told) (c ∙ ap (λ a. outcome_of a l) (read_made x.1.0) ∙ ap (with_room x.0 l) (first_is 1 a n _ x.1.1))),
   )
     where
       by : (o : Outcome) → Outcomes t l o → o.told ≡ eleven a n → (m : MapSet) × (Makes m t × FirstShort 1 a n (needed_and_lent (areas m) l))
@@ -168,7 +168,7 @@ module _ (t : List ℕ) (l : Areas) (r : ReadOut) (l' : Areas) (c : Reads t l r 
       by o (not_made w) e = place_clash w l e
 
   -- in every other case all areas are as found
-  pub untouched : (w : Reason) → r.answer ≡ Refused w → l' ≡ l
+  pub untouched : (w : Reason) → r.answer ≡ Err w → l' ≡ l
   unfolding outcome_of with_room
   untouched w q = ap (λ o. o.areas) c ∙ by (outcome t l) (outcomes t l) (sym (ap (λ o. o.told) c) ∙ ap told q)
     where

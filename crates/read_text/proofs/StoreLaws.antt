@@ -12,7 +12,7 @@ use Rattle.mapset.specs.Grid.{columns}
 use Rattle.mapset.specs.MapSet.{MapSet}
 use Rattle.mapset.specs.Areas.{Areas}
 use Rattle.layout.specs.Layout.{per_map}
-use Rattle.reading.specs.Feed.{why}
+use Rattle.reading.specs.declared.Why.{Why}
 use Rattle.reading.specs.Read.{read}
 use Rattle.areas.specs.Flat.{areas}
 use Rattle.read_fill.specs.Filled as filled
@@ -26,9 +26,9 @@ use Rattle.read_needs.specs.declared.Others.{Others}
 use Rattle.read_needs.proofs.ShortLaws.{all_long}
 
 -- ---- a refusal leaves all areas as found
-pub outcome_refused : (t : List ℕ) (l : Areas) (k n c : ℕ) → read t ≡ refused (why k n c) → record { told = at_place k n c; texts = no_texts; areas = l } ≡ outcome t l
+pub outcome_refused : (t : List ℕ) (l : Areas) (w : Why) → read t ≡ refused w → record { told = at_place w.number w.line w.column; texts = no_texts; areas = l } ≡ outcome t l
 unfolding outcome_of
-outcome_refused t l k n c e = sym (ap (λ r. outcome_of r l) e)
+outcome_refused t l w e = sym (ap (λ r. outcome_of r l) e)
 
 module _ (t : List ℕ) (x : FullTexts) (h : Header) (e : ℤ) (at : ℕ) (o : Others) (a : Accepts t x h e at o) where
   abbrev m : MapSet

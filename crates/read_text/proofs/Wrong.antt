@@ -6,6 +6,7 @@ use native.Mathlib.Omega.{arith}
 use native.Mathlib.Decide.{ℕ_discrete, dec_le}
 use lib.IntN.{pos, nat_abs}
 use lib.ListN.{get_or, replicate}
+use Rattle.std.specs.Prelude.{Result, Ok, Err}
 use Rattle.kit.specs.Answer.{pick}
 use Rattle.mapset.specs.declared.Header.{Header}
 use Rattle.mapset.specs.declared.Texts.{Texts}
@@ -15,16 +16,16 @@ use Rattle.layout.specs.Samples.{lines}
 use Rattle.reading.proofs.Vectors.{two_faults, eight_before_seven, small_text, small_set, small_read, two_text, two_set, two_read}
 use Rattle.areas.specs.Flat.{areas_of, areas}
 use Rattle.areas.specs.Fronts.{fronts}
+use Rattle.reading.specs.declared.Why.{Why}
+use Rattle.reading.specs.Feed.{why}
 use Rattle.read_needs.specs.Needs.{first_short}
+use Rattle.read_needs.specs.declared.Elements.{Elements}
 use Rattle.read_outcome.specs.Measures.{Measures}
 use Rattle.read_outcome.proofs.Once.{needs_once}
 use Rattle.read_outcome.specs.Outcome.{ToldReading, accepted, at_place, eleven, with_room, outcome_of, outcome}
 use Rattle.read_text.proofs.Once.{Reads, not_accepted}
-use Rattle.read_outcome.specs.declared.Measured.{Measured}
-use Rattle.read_outcome.specs.declared.Measured.TheVariants.{Needs}
 use Rattle.read_outcome.specs.declared.Reason.{Reason}
 use Rattle.read_outcome.specs.declared.Reason.TheVariants.{Disagrees, AreaTooShort}
-use Rattle.read_outcome.specs.declared.Reading.TheVariants.{Accepted, Refused}
 use Rattle.read_outcome.specs.declared.ReadOut.{ReadOut}
 
 -- areas of these lengths, 0 everywhere
@@ -58,12 +59,12 @@ unfolding outcome_of
 faults_come l = ap (λ a. (outcome_of a l).told) eight_before_seven
 
 -- a reader that refuses everything
-pub not_refused : (w : Reason) (x : Texts) (d : Descriptions) (l' : Areas) → ¬ Reads (lines small_text) small_areas (record { answer = Refused w; texts = x; descriptions = d }) l'
+pub not_refused : (w : Reason) (x : Texts) (d : Descriptions) (l' : Areas) → ¬ Reads (lines small_text) small_areas (record { answer = Err w; texts = x; descriptions = d }) l'
 not_refused w x d l' c = not_accepted w (ap (λ o. o.told) (c ∙ small_comes))
 
 -- a constant map set
 pub not_constant : (h : Header) (x y : Texts) (d f : Descriptions) (l' l'' : Areas)
-    → Reads (lines small_text) small_areas (record { answer = Accepted h; texts = x; descriptions = d }) l' → ¬ Reads (lines two_text) two_areas (record { answer = Accepted h; texts = y; descriptions = f }) l''
+    → Reads (lines small_text) small_areas (record { answer = Ok h; texts = x; descriptions = d }) l' → ¬ Reads (lines two_text) two_areas (record { answer = Ok h; texts = y; descriptions = f }) l''
 unfolding small_set two_set
 not_constant h x y g f l' l'' c d =
     let p : accepted h ≡ accepted small_set.header = ap (λ o. o.told) (c ∙ small_comes) in
@@ -88,14 +89,14 @@ not_map_one r l' t c =
     let f : nat_abs (get_or l'.tec 2 (pos 0)) ≡ 9999 = ap (λ v. nat_abs (get_or v 2 (pos 0))) t in omega arith
 
 -- an invented need
-pub not_another_need : (n : ℕ) (x : Texts) (d : Descriptions) (l' : Areas) → Reads (lines small_text) short_areas (record { answer = Refused (AreaTooShort 1 n); texts = x; descriptions = d }) l' → n ≡ 6
+pub not_another_need : (n : ℕ) (x : Texts) (d : Descriptions) (l' : Areas) → Reads (lines small_text) short_areas (record { answer = Err (AreaTooShort 1 n); texts = x; descriptions = d }) l' → n ≡ 6
 not_another_need n x d l' c = let e : eleven 1 n ≡ eleven 1 6 = ap (λ o. o.told) c ∙ short_comes in cc
 
 -- an invented line number
-pub not_another_line : (n : ℕ) (x : Texts) (d : Descriptions) (l l' : Areas) → Reads (lines two_faults) l (record { answer = Refused (Disagrees n 0); texts = x; descriptions = d }) l' → n ≡ 15
+pub not_another_line : (n : ℕ) (x : Texts) (d : Descriptions) (l l' : Areas) → Reads (lines two_faults) l (record { answer = Err (Disagrees n 0); texts = x; descriptions = d }) l' → n ≡ 15
 not_another_line n x d l l' c = let e : at_place 8 n 0 ≡ at_place 8 15 0 = ap (λ o. o.told) c ∙ faults_come l in cc
 
 -- other needs than these, or a refusal, told of a text with one TEC map and its RMS map
-pub not_other_needs : (r : Measured) → Measures (lines small_text) r → r ≡ Needs (record { tec = 6; rms = 6; height = 0; exponents = 6; epochs = 1; marks = 1 })
+pub not_other_needs : (r : Result Elements Why) → Measures (lines small_text) r → r ≡ Ok (record { tec = 6; rms = 6; height = 0; exponents = 6; epochs = 1; marks = 1 })
 unfolding pick ℕ_discrete areas_of small_set
 not_other_needs r s = needs_once (lines small_text) r _ s (small_set, (small_read, refl))

@@ -7,20 +7,16 @@ ghost use Rattle.mapset.specs.Described.{full};
 ghost use Rattle.read_judge.specs.Scanned.{Accepts};
 ghost use Rattle.read_outcome.specs.Outcome.{outcome, comes};
 
-use mapset::{Descriptions, Header, Texts};
-use read_judge::Judged;
-use read_needs::{Elements, LentRoom, Others};
-use read_outcome::{ReadOut, Reading, Reason};
+use mapset::Descriptions;
+use read_judge::FirstScan;
+use read_needs::Elements;
+use read_outcome::{ReadOut, Reason};
 
 // A text that is accepted, into the areas, if each is long enough.
 fn store(
     text: &[u8],
-    header: Header,
-    texts: Texts,
+    scan: FirstScan,
     lines: &[u8; 1200],
-    exponent: i32,
-    at: usize,
-    some: Others,
     tec: &mut [i32],
     rms: &mut [i32],
     height: &mut [i32],
@@ -28,14 +24,14 @@ fn store(
     epochs: &mut [u64],
     marks: &mut [u8],
 ) -> ReadOut
-    requires { Accepts text.now (full texts lines.now) header exponent at some }
+    requires { Accepts text.now (full scan.texts lines.now) scan.header scan.exponent scan.at scan.some }
     ensures { comes result
         (six tec.new rms.new height.new exponents.new epochs.new marks.new)
         ≡ outcome text.now
         (six tec.old rms.old height.old exponents.old epochs.old marks.old) }
 {
-    let size = read_needs::size_of(header);
-    let need = read_needs::needed(size, some);
+    let size = read_needs::size_of(scan.header);
+    let need = read_needs::needed(size, scan.some);
     let lent = Elements {
         tec: tec.len(),
         rms: rms.len(),
@@ -45,14 +41,12 @@ fn store(
         marks: marks.len(),
     };
     match read_needs::room_for(need, lent) {
-        LentRoom::Short(area, elements) => read_outcome::refused(Reason::AreaTooShort(
-            area, elements,
-        )),
-        LentRoom::Enough => {
+        Err(short) => read_outcome::refused(Reason::AreaTooShort(short.area, short.need)),
+        Ok(()) => {
             read_fill::fill_maps(
                 text,
-                at,
-                exponent,
+                scan.at,
+                scan.exponent,
                 size,
                 need.rms,
                 need.height,
@@ -64,15 +58,16 @@ fn store(
                 marks,
             );
             ReadOut {
-                answer: Reading::Accepted(header),
-                texts: texts,
+                answer: Ok(scan.header),
+                texts: scan.texts,
                 descriptions: Descriptions { bytes: *lines },
             }
         }
     }
 }
 
-// A text into six lent areas: the map set's header record and texts, or the reason why not.
+// A text into six lent areas: the map set's header record and texts, or the reason why not. (Where a text is refused, texts stand beside
+// the reason, so the two refusals end here and not by `?`: a Result of all that is read is a copy more on the stack.)
 pub fn read_text(
     text: &[u8],
     tec: &mut [i32],
@@ -88,16 +83,10 @@ pub fn read_text(
         (six tec.old rms.old height.old exponents.old epochs.old marks.old) }
 {
     let mut lines = [b' '; 1200];
-    let scan = read_judge::judge(text, &mut lines);
-    let answer = scan.answer;
-    let texts = scan.texts;
-    match answer {
-        Judged::Wrong(number, line, column) => read_outcome::refused(read_outcome::reason_of(
-            number, line, column,
-        )),
-        Judged::Fine(header, exponent, at, some) => store(
-            text, header, texts, &lines, exponent, at, some, tec, rms, height, exponents, epochs,
-            marks,
+    match read_judge::judge(text, &mut lines) {
+        Err(why) => read_outcome::refused(Reason::from(why)),
+        Ok(scan) => store(
+            text, scan, &lines, tec, rms, height, exponents, epochs, marks,
         ),
     }
 }

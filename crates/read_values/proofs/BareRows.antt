@@ -1,3 +1,4 @@
+use Rattle.std.specs.Prelude.{Some}
 -- The fast way to store a row that has no minus: by pairs of digits.
 use mathlib.Core.Path.{◌≡◌, sym, ap, ◌∙◌}
 use mathlib.Core.Bool.{Bool, true, false, ◌&&◌}
@@ -7,15 +8,14 @@ use Prim.Native.Nat.{ℕ, zero, suc, ◌+◌, ◌-◌, ◌*◌, ◌≤◌, ◌<�
 use native.Mathlib.Omega.{arith}
 use native.Mathlib.Decide.{ℕ_discrete, dec_le}
 use lib.Dec.{eqb}
-use lib.ListN.{length, get_or, take, drop, set, length-take, length-drop}
-use lib.Seq.{length-take-le, get_or-set_same, get_or-set_other}
+use lib.ListN.{length, get_or, take, drop, length-take, length-drop}
+use lib.Seq.{length-take-le}
 use borrow.Author.Tests.{eqb-true, ne_eqb}
 use Rattle.kit.specs.Range.{Within}
 use Rattle.kit.proofs.TruthLaws.{clash, and_true, or_true}
 use Rattle.forms.specs.Form.{I, Digit, numeral, signed}
 use Rattle.forms.specs.Read.{read_field, is_number}
 use Rattle.forms.specs.Bytes.{is_digit, may_precede, has_minus}
-use Rattle.forms.specs.declared.Field.TheVariants.{Number}
 use Rattle.fields.proofs.Judged.{well, true_digit, int_judged, int_number, int_below}
 use Rattle.layout.specs.Text.{pad}
 use Rattle.reading.specs.Fields.{cells}
@@ -49,22 +49,6 @@ abbrev pub SoBare : Bool → List ℕ → ℕ → Type 0
 SoBare true l n = Bare l n
 SoBare false l n = Unit {0}
 
-pub bare_none : (l : List ℕ) → Bare l 0
-bare_none l i h = absurd (omega arith)
-
-pub bare_next : (ok : Bool) (l : List ℕ) (i : ℕ) (x : Bool) → x ≡ bare (get_or l i 0) → SoBare ok l i → SoBare (ok && x) l (i + 1)
-bare_next false l i x e s = tt
-bare_next true l i false e s = tt
-bare_next true l i true e s = λ j h. by j h (ℕ_discrete j i)
-  where
-    by : (j : ℕ) → j < i + 1 → Dec (j ≡ i) → bare (get_or l j 0) ≡ true
-    by j h (yes p) = rw p (sym e)
-    by j h (no n) = s j (omega arith)
-
-pub bare_end : (ok : Bool) (l : List ℕ) (i : ℕ) → i ≡ 16 → SoBare ok l i → Bares ok l 16
-bare_end false l i e s = tt
-bare_end true l i e s = (omega arith, λ j h. s j (omega arith))
-
 pub bare_on : (l : List ℕ) (a s w : ℕ) → s ≤ a → w ≡ 16 → Bare l a → (ok : Bool) → Bares ok (take w (drop s l)) 16 → ok ≡ true → Bare l (s + 16)
 bare_on l a s w from long b false st e = clash (cc)
 bare_on l a s w from long b true st e = λ j h. by j h (dec_le s j)
@@ -76,44 +60,28 @@ bare_on l a s w from long b true st e = λ j h. by j h (dec_le s j)
         rw e at x
     by j h (no q) = b j (omega arith)
 
-pub bare_whole : (l : List ℕ) (n a : ℕ) → 16 ≤ n → n ≤ a → Bare l a → Bares true l n
-bare_whole l n a h g b = (h, λ j q. b j (omega arith))
-
 -- ---- the row
 
-ending_low : (t : List ℕ) (w z : ℕ) → Ending t w z → 0 < z → get_or t w 0 ≤ 57
-ending_low t w zero e s = absurd (omega arith)
-ending_low t w (suc zero) e s = let x : get_or t w 0 ≡ 10 = e in omega arith
-ending_low t w (suc (suc zero)) e s = let x : get_or t w 0 ≡ 13 = e.1.0 in omega arith
-ending_low t w (suc (suc (suc z))) e s = absurd e
+ending_low : (t : List ℕ) (w z : ℕ) → Ending t w z → get_or t w 0 ≤ 57
+ending_low t w zero e = absurd e
+ending_low t w (suc zero) e = let x : get_or t w 0 ≡ 10 = e in omega arith
+ending_low t w (suc (suc zero)) e = let x : get_or t w 0 ≡ 13 = e.1.0 in omega arith
+ending_low t w (suc (suc (suc z))) e = absurd e
 
-pub bare_row_of : (t : List ℕ) (m z i : ℕ) → 0 < m → m ≤ 16 → m * 5 < length t → Ending t (m * 5) z → 0 < z → i ≡ m * 5 - 1 → ¬ (get_or t i 0 ≡ 32)
+pub bare_row_of : (t : List ℕ) (m z i : ℕ) → 0 < m → m ≤ 16 → m * 5 < length t → Ending t (m * 5) z → i ≡ m * 5 - 1 → ¬ (get_or t i 0 ≡ 32)
     → (ok : Bool) → Bares ok t (m * 5) → ok ≡ true → BareRow t m (m * 5 + z)
-bare_row_of t m z i some most long e s is n false b o = clash (cc)
-bare_row_of t m z i some most long e s is n true b o =
+bare_row_of t m z i some most long e is n false b o = clash (cc)
+bare_row_of t m z i some most long e is n true b o =
     record {
-      rows = known_row t (m * 5) z long e s (omega arith) (λ j q. bare_shown (get_or t j 0) (b.1 j q)) i (omega arith) n;
+      rows = known_row t (m * 5) z long e (omega arith) (λ j q. bare_shown (get_or t j 0) (b.1 j q)) i (omega arith) n;
       plain = record { long = b.0; within = long; bares = b.1; lows = λ j q. low j q (ℕ_discrete j (m * 5)) };
     }
   where
     low : (j : ℕ) → j ≤ m * 5 → Dec (j ≡ m * 5) → get_or t j 0 ≤ 57
-    low j q (yes p) = rw p (ending_low t (m * 5) z e s)
+    low j q (yes p) = rw p (ending_low t (m * 5) z e)
     low j q (no k) = bare_low (get_or t j 0) (b.1 j (omega arith))
 
 -- ---- pairs
-
-pub paired_none : (l p : List ℕ) → Paired l p 0
-paired_none l p = record { pair = λ i h. absurd (omega arith) }
-
-pub paired_less : (l p : List ℕ) (a s : ℕ) → s ≤ a → Paired l p a → Paired l p s
-paired_less l p a s h q = record { pair = λ i k. q.pair i (omega arith) }
-
-pub paired_next : (l p : List ℕ) (j v : ℕ) → j < length p → v ≡ (get_or l j 0 - 48) * 10 + (get_or l (suc j) 0 - 48) → Paired l p j → Paired l (set p j v) (j + 1)
-paired_next l p j v h e q = record { pair = λ i k. by i k (ℕ_discrete i j) }
-  where
-    by : (i : ℕ) → i < j + 1 → Dec (i ≡ j) → get_or (set p j v) i 0 ≡ (get_or l i 0 - 48) * 10 + (get_or l (suc i) 0 - 48)
-    by i k (yes s) = rw s (get_or-set_same p j v 0 h ∙ e)
-    by i k (no n) = get_or-set_other p j i v 0 n ∙ q.pair i (omega arith)
 
 -- ---- a value
 
@@ -161,8 +129,8 @@ module _ (t p : List ℕ) (m k : ℕ) (h : k < m) (pl : Plain t m) (pairs : Pair
       (by_pairs (get_or t (k * 5) 0) (get_or t (suc (k * 5)) 0) (get_or t (suc (suc (k * 5))) 0) (get_or t (suc (suc (suc (k * 5)))) 0) (get_or t (suc (suc (suc (suc (k * 5))))) 0)
       (get_or p (k * 5) 0) (get_or p (suc (suc (k * 5))) 0) (pairs.pair (k * 5) (omega arith)) (pairs.pair (suc (suc (k * 5))) (omega arith)))
 
-  pub bare_value : value_field (take (m * 5) t) k ≡ Number (signed false (get_or p (k * 5) 0 * 1000 + get_or p (k * 5 + 2) 0 * 10 + (get_or t (k * 5 + 4) 0 - 48)))
-  bare_value = sym same ∙ sym (int_number (take 5 (drop (k * 5) t)) is_num) ∙ (λ i. Number (signed (minus i) (number i)))
+  pub bare_value : value_field (take (m * 5) t) k ≡ Some (signed false (get_or p (k * 5) 0 * 1000 + get_or p (k * 5 + 2) 0 * 10 + (get_or t (k * 5 + 4) 0 - 48)))
+  bare_value = sym same ∙ sym (int_number (take 5 (drop (k * 5) t)) is_num) ∙ (λ i. Some (signed (minus i) (number i)))
 
   pub bare_below : get_or p (k * 5) 0 * 1000 + get_or p (k * 5 + 2) 0 * 10 + (get_or t (k * 5 + 4) 0 - 48) < 1000000000
   bare_below = let w = pl.within in rw (← number) (int_below (take 5 (drop (k * 5) t)) is_num (simp (length-take, length-drop) (omega arith)))

@@ -1,12 +1,11 @@
 -- The fast way over a row of values: byte by byte, with the byte behind it.
 use mathlib.Core.Path.{◌≡◌, refl, sym, ap, ◌∙◌}
 use mathlib.Core.Bool.{Bool, true, false, not, ◌&&◌, ◌||◌, cond}
-use mathlib.Core.Logic.{◌⊎◌, ⊎_elim}
+use mathlib.Core.Logic.{⊎_elim}
 use mathlib.Core.List.{List, [], ◌∷◌}
 use Prim.Native.Nat.{ℕ, zero, suc, ◌+◌, ◌-◌, ◌*◌, ◌≤◌, ◌<◌}
 use native.Mathlib.Omega.{arith}
-use native.Mathlib.Numerals.{add-one}
-use native.Mathlib.Decide.{ℕ_discrete, dec_le}
+use native.Mathlib.Decide.{dec_le}
 use lib.Dec.{T, eqb}
 use lib.ListN.{length, get_or, take, drop, length-drop}
 use lib.Seq.{drop-cons, length-take-le, get_or-take, get_or-drop}
@@ -22,7 +21,7 @@ use Rattle.read_lines.specs.Quick.{Ending}
 use Rattle.read_lines.proofs.QuickLines.{known_row}
 use Rattle.read_values.specs.Quick.{fits_as, last_columns, Standing, Fitting, UsualRow}
 use Rattle.read_values.specs.Values.{value_field, Passed}
-use Rattle.read_values.specs.declared.Cells.TheVariants.{Fine}
+use Rattle.std.specs.Prelude.{Ok}
 use Rattle.read_values.proofs.ValueLaws.{field_whole, passed_none, passed_more, judged, rest_none}
 
 -- ---- a byte
@@ -42,25 +41,6 @@ abbrev pub Stood : Bool → List ℕ → List ℕ → ℕ → ℕ → Type 0
 Stood true b es a i = (j : ℕ) → j < i → fits_as (get_or b j 0) (get_or b (suc j) 0) (eqb (get_or es (a + j) 0) 49) ≡ true
 Stood false b es a i = Unit {0}
 
-pub stood_none : (b es : List ℕ) (a : ℕ) → Stood true b es a 0
-stood_none b es a j h = absurd (omega arith)
-
-pub stood_next : (ok : Bool) (b es : List ℕ) (a i : ℕ) (x : Bool) → x ≡ fits_as (get_or b i 0) (get_or b (i + 1) 0) (eqb (get_or es (a + i) 0) 49) → Stood ok b es a i → Stood (ok && x) b es a (i + 1)
-stood_next false b es a i x e s = tt
-stood_next true b es a i false e s = tt
-stood_next true b es a i true e s = λ j h. by j h (ℕ_discrete j i)
-  where
-    here : fits_as (get_or b i 0) (get_or b (suc i) 0) (eqb (get_or es (a + i) 0) 49) ≡ true
-    here = sym (rw add-one at e)
-
-    by : (j : ℕ) → j < i + 1 → Dec (j ≡ i) → fits_as (get_or b j 0) (get_or b (suc j) 0) (eqb (get_or es (a + j) 0) 49) ≡ true
-    by j h (yes p) = rw p here
-    by j h (no n) = s j (omega arith)
-
-pub stood_end : (ok : Bool) (b es : List ℕ) (a i : ℕ) → i ≡ 16 → Stood ok b es a i → Standing ok b es a
-stood_end false b es a i e s = tt
-stood_end true b es a i e s = λ j h. s j (omega arith)
-
 -- ---- 16 bytes at a time
 
 abbrev last? : ℕ → Bool
@@ -72,9 +52,6 @@ fits_at l i = fits_as (get_or l i 0) (get_or l (suc i) 0) (last? i)
 -- the first i bytes of the line fit
 abbrev pub Fit : List ℕ → ℕ → Type 0
 Fit l i = (j : ℕ) → j < i → fits_at l j ≡ true
-
-pub fit_none : (l : List ℕ) → Fit l 0
-fit_none l j h = absurd (omega arith)
 
 pub part_at : (l : List ℕ) (s w i : ℕ) → i < w → get_or (take w (drop s l)) i 0 ≡ get_or l (s + i) 0
 part_at l s w i h = get_or-take w (drop s l) i 0 h ∙ get_or-drop s l i 0
@@ -151,9 +128,6 @@ module _ (l : List ℕ) (m : ℕ) (long : m * 5 < length l) (most : m ≤ 16) (f
       let w : read_field I (take 5 (drop (k * 5) l)) ≡ value_field l k = rw n at (field_whole l k (omega arith)) in
       sym (well_at k h) ∙ int_judged (take 5 (drop (k * 5) l)) ∙ ap is_number w
 
-pub fit_end : (l : List ℕ) (m i : ℕ) → m * 5 ≤ i → Fit l i → Fitting true l m
-fit_end l m i e s = λ j q. s j (omega arith)
-
 -- ---- the row
 
 pub take_in : (n a w : ℕ) (l : List ℕ) → a + n ≤ w → take n (drop a (take w l)) ≡ take n (drop a l)
@@ -216,12 +190,12 @@ fits_shown : (b n : ℕ) (x : Bool) → fits_as b n x ≡ true → Within 32 126
 fits_shown b n true e = digit_shown b e
 fits_shown b n false e = precede_shown b n e
 
-pub usual : (t : List ℕ) (m z : ℕ) → 0 < m → m ≤ 16 → m * 5 < length t → Ending t (m * 5) z → 0 < z → (ok : Bool) → Fitting ok t m → ok ≡ true → UsualRow t m (m * 5 + z)
-usual t m z some most long e s false f o = clash (cc)
-usual t m z some most long e s true f o =
+pub usual : (t : List ℕ) (m z : ℕ) → 0 < m → m ≤ 16 → m * 5 < length t → Ending t (m * 5) z → (ok : Bool) → Fitting ok t m → ok ≡ true → UsualRow t m (m * 5 + z)
+usual t m z some most long e false f o = clash (cc)
+usual t m z some most long e true f o =
     let d = true_digit (get_or t 4 0) (f 4 (omega arith)) in
     let l : length (take (m * 5) t) ≡ m * 5 = length-take-le (m * 5) t (omega arith) in
     record {
-      rows = known_row t (m * 5) z long e s (omega arith) (λ i q. fits_shown (get_or t i 0) (get_or t (suc i) 0) (last? i) (f i q)) 4 (omega arith) (λ x. omega (arith, d.0));
-      fine = judged (take (m * 5) t) m (upto t (m * 5) m (omega arith) (omega arith) most (omega arith) (number_at t m long most f) m (omega arith)) Fine (rest_none (take (m * 5) t) m (omega arith));
+      rows = known_row t (m * 5) z long e (omega arith) (λ i q. fits_shown (get_or t i 0) (get_or t (suc i) 0) (last? i) (f i q)) 4 (omega arith) (λ x. omega (arith, d.0));
+      fine = judged (take (m * 5) t) m (upto t (m * 5) m (omega arith) (omega arith) most (omega arith) (number_at t m long most f) m (omega arith)) (Ok tt) (rest_none (take (m * 5) t) m (omega arith));
     }

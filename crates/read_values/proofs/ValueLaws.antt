@@ -1,3 +1,4 @@
+use Rattle.std.specs.Prelude.{Option, Some, None, Result, Ok, Err}
 -- The fields of a value line, one after the other.
 use mathlib.Core.Path.{◌≡◌, refl, sym, ap, ◌∙◌}
 use mathlib.Core.Bool.{Bool, true, false}
@@ -17,8 +18,6 @@ use Rattle.forms.specs.Form.{I}
 use Rattle.forms.specs.Read.{read_field, is_number}
 use Rattle.forms.specs.Columns.{Blank}
 use Rattle.forms.proofs.ColumnLaws.{columns_padded}
-use Rattle.forms.specs.declared.Field.{Field}
-use Rattle.forms.specs.declared.Field.TheVariants.{Number, Bad}
 use Rattle.fields.proofs.Lines as lines
 use Rattle.layout.specs.Text.{pad}
 use Rattle.reading.specs.Feed.{fault}
@@ -26,8 +25,7 @@ use Rattle.reading.specs.Fields.{number, blanks, blank, cells}
 use Rattle.reading.proofs.RecordLaws.{blank_of, blank_spaces}
 use Rattle.read_lines.specs.Lines.{passing, blank?}
 use Rattle.read_values.specs.Values.{Okay, list_of, value_field, Judges, Passed}
-use Rattle.read_values.specs.declared.Cells.{Cells}
-use Rattle.read_values.specs.declared.Cells.TheVariants.{Fine, Wrong}
+use Rattle.reading.specs.declared.Fault.{Fault}
 use Rattle.read_lines.proofs.Passing.{passing_le, passing_whole, passing_not, passing_append}
 
 -- ---- a field
@@ -48,13 +46,13 @@ module _ (l : List ℕ) (k : ℕ) where
   pub five : k * 5 + 5 ≤ length l → length (take (k * 5 + 5 - k * 5) (drop (k * 5) l)) ≤ 9
   five h = simp (length-take, length-drop) (omega arith)
 
-some_number : (f : Field) → true ≡ is_number f → (z : ℤ) × (f ≡ Number z)
-some_number (Number z) e = (z, refl)
-some_number Bad e = clash (cc)
+some_number : (f : Option ℤ) → true ≡ is_number f → (z : ℤ) × (f ≡ Some z)
+some_number (Some z) e = (z, refl)
+some_number None e = clash (cc)
 
-no_number : (f : Field) → false ≡ is_number f → f ≡ Bad
-no_number (Number z) e = clash (cc)
-no_number Bad e = refl
+no_number : (f : Option ℤ) → false ≡ is_number f → f ≡ None
+no_number (Some z) e = clash (cc)
+no_number None e = refl
 
 -- ---- the values
 
@@ -71,7 +69,7 @@ module _ (l : List ℕ) (m k : ℕ) (fits : length l ≤ 80) (most : m ≤ 16) (
       let b : k * 5 + 5 ≡ (k + 1) * 5 = omega arith in
       rw left (rw (a, drop-drop, b, field_of l k fits (omega arith)))
 
-  passed_with : (z : ℤ) → value_field l k ≡ Number z → Passed l m (k + 1)
+  passed_with : (z : ℤ) → value_field l k ≡ Some z → Passed l m (k + 1)
   passed_with z e =
       let s : cells (k * 5 + 1) (m - k) (drop (k * 5) (pad l)) ≡ amap (λ zs. z ∷ zs) (cells ((k + 1) * 5 + 1) (m - (k + 1)) (drop ((k + 1) * 5) (pad l))) =
       step ∙ rw e (unfold number in refl) in
@@ -89,17 +87,14 @@ module _ (l : List ℕ) (m k : ℕ) (fits : length l ≤ 80) (most : m ≤ 16) (
       let b : cells (k * 5 + 1) (m - k) (drop (k * 5) (pad l)) ≡ refused (fault 6 (k * 5 + 1)) = step ∙ rw (no_number (value_field l k) e) (unfold number in refl) in
       p.on ∙ ap (amap (λ zs. p.have ++ zs)) b ∙ (unfold amap in refl)
 
-pub passed_all : (l : List ℕ) (m k : ℕ) → k ≡ m → Passed l m k → Passed l m m
-passed_all l m k e p = rw e at p
-
 -- what the rest says is what the line says
 module _ (l : List ℕ) (m : ℕ) (p : Passed l m m) where
   whole_line : cells 1 m (pad l) ≡ amap (λ zs. p.have ++ zs) (cells (m * 5 + 1) 0 (drop (m * 5) (pad l)))
   whole_line = let none : m - m ≡ 0 = omega arith in p.on ∙ rw none
 
-  pub judged : (r : Cells) → Judges r (cells (m * 5 + 1) 0 (drop (m * 5) (pad l))) → Judges r (cells 1 m (pad l))
-  judged Fine t = (p.have ++ t.0, whole_line ∙ ap (amap (λ zs. p.have ++ zs)) t.1 ∙ (unfold amap in refl))
-  judged (Wrong col) t = whole_line ∙ ap (amap (λ zs. p.have ++ zs)) t ∙ (unfold amap in refl)
+  pub judged : (r : Result (Unit {0}) Fault) → Judges r (cells (m * 5 + 1) 0 (drop (m * 5) (pad l))) → Judges r (cells 1 m (pad l))
+  judged (Ok u) t = (p.have ++ t.0, whole_line ∙ ap (amap (λ zs. p.have ++ zs)) t.1 ∙ (unfold amap in refl))
+  judged (Err f) t = whole_line ∙ ap (amap (λ zs. p.have ++ zs)) t ∙ (unfold amap in refl)
 
 -- ---- the rest of the line
 
@@ -149,9 +144,9 @@ module _ (l : List ℕ) (m : ℕ) where
 
 -- ---- the second time over: the line is judged
 
-is_number_lem : (f : Field) → (f ≡ Bad → ⊥) → true ≡ is_number f
-is_number_lem (Number z) n = refl
-is_number_lem Bad n = absurd (n refl)
+is_number_lem : (f : Option ℤ) → (f ≡ None → ⊥) → true ≡ is_number f
+is_number_lem (Some z) n = refl
+is_number_lem None n = absurd (n refl)
 
 not_okay : {W A : Type 0} {w : W} (x : Answer W A) → Okay x → x ≡ refused w → ⊥
 not_okay (ok a) h e = clash (cc)
@@ -197,7 +192,7 @@ pub put_none : (l : List ℕ) (out : List ℤ) → Put l (length out) 0 out
 unfolding passed_none
 put_none l out = record { passed = passed_none l (length out); sized = refl; front = refl }
 
-pub put_more : {l : List ℕ} {m k : ℕ} {out : List ℤ} → Put l m k out → length l ≤ 80 → m ≤ 16 → k < m → (z : ℤ) → value_field l k ≡ Number z → Put l m (k + 1) (set out k z)
+pub put_more : {l : List ℕ} {m k : ℕ} {out : List ℤ} → Put l m k out → length l ≤ 80 → m ≤ 16 → k < m → (z : ℤ) → value_field l k ≡ Some z → Put l m (k + 1) (set out k z)
 unfolding passed_with
 put_more {l} {m} {k} {out} u fits most h z e =
     let s = u.sized in

@@ -28,10 +28,6 @@ pub record BareRow (t : List ℕ) (m next : ℕ) : Type 0 where
   pub rows : Rows t (m * 5) next
   pub plain : Plain t m
 
--- 0 says nothing
-abbrev pub Bared : List ℕ → ℕ → ℕ → Type 0
-Bared t m r = 0 < r → BareRow t m r
-
 -- the digits of the first n columns, each with the one behind it
 pub record Paired (l p : List ℕ) (n : ℕ) : Type 0 where
   pub pair : (i : ℕ) → i < n → get_or p i 0 ≡ (get_or l i 0 - 48) * 10 + (get_or l (suc i) 0 - 48)

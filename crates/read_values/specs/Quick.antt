@@ -29,7 +29,3 @@ Fitting false l m = Unit {0}
 pub record UsualRow (t : List ℕ) (m next : ℕ) : Type 0 where
   pub rows : Rows t (m * 5) next
   pub fine : (zs : List ℤ) × (cells 1 m (pad (take (m * 5) t)) ≡ ok zs)
-
--- 0 says nothing
-abbrev pub Usual : List ℕ → ℕ → ℕ → Type 0
-Usual t m r = 0 < r → UsualRow t m r

@@ -1,20 +1,23 @@
 // The values on a line of a data block: I5, 16 to a line, the last line holding the rest and blanks.
 #![tactic(auto)]
 
-ghost use Rattle.std.specs.Prelude.{◌≡◌, ◌+◌, ◌-◌, ◌*◌, ◌<◌, ◌≤◌, false, length, take, drop};
+ghost use Rattle.std.specs.Prelude.{◌≡◌, ◌+◌, ◌-◌, ◌*◌, ◌<◌, ◌≤◌, false, length, take, drop, IfSome};
 ghost use Rattle.forms.specs.Form.{signed};
 ghost use Rattle.forms.specs.Read.{is_number};
 ghost use Rattle.layout.specs.Text.{pad};
+ghost use Rattle.reading.specs.Feed.{fault};
 ghost use Rattle.reading.specs.Fields.{cells};
 ghost use Rattle.read_values.specs.Values.{value_field, Judges, Values, Okay, list_of};
-ghost use Rattle.read_values.specs.Quick.{fits_as, last_columns, Standing, Fitting, Usual};
-ghost use Rattle.read_values.specs.Bare.{bare, Bares, Bared, Lows, Paired, Plain};
+ghost use Rattle.read_values.specs.Quick.{fits_as, last_columns, Standing, Fitting, UsualRow};
+ghost use Rattle.read_values.specs.Bare.{bare, Bares, BareRow, Lows, Paired, Plain};
 
-// A line of values: as it should be, or the first wrong column.
-#[derive(Clone, Copy)]
-pub enum Cells {
-    Fine,
-    Wrong(u64),
+use reading::Fault;
+
+// 01's number of a field that is ill-formed, in which column it begins, or of a byte where blanks belong.
+fn ill_formed(column: u64) -> Fault
+    ensures { result ≡ fault 6 column }
+{
+    Fault { number: 6, column }
 }
 
 // Whether the k-th five columns hold a number. Nearly all bytes of a file pass here: no branch per byte.
@@ -30,45 +33,40 @@ fn is_value(line: &[u8], k: usize) -> bool
     fields::is_int(&line[a..e])
 }
 
-fn values_in(line: &[u8], m: usize) -> Cells
+fn values_in(line: &[u8], m: usize) -> Result<(), Fault>
     requires { (length line.now ≤ 80) × (m ≤ 16) }
     ensures { Values line.now m result }
 {
-    let mut k = 0;
-    while k < m {
-        let ok = is_value(line, k);
-        if !ok {
-            return Cells::Wrong(k as u64 * 5 + 1);
+    for k in 0..m {
+        if !is_value(line, k) {
+            return Err(ill_formed(k as u64 * 5 + 1));
         }
-        k += 1;
     }
-    Cells::Fine
+    Ok(())
 }
 
 // Behind the last value all is blank; a byte that is not tells its own column.
-fn rest_in(line: &[u8], m: usize) -> Cells
+fn rest_in(line: &[u8], m: usize) -> Result<(), Fault>
     requires { (length line.now ≤ 80) × (m ≤ 16) }
     ensures { Judges result (cells (m * 5 + 1) 0 (drop (m * 5) (pad line.now))) }
 {
     let a = m * 5;
     if line.len() <= a {
-        return Cells::Fine;
+        return Ok(());
     }
     let b = read_lines::blanks_in(&line[a..]);
     if a + b < line.len() {
-        return Cells::Wrong((a + b) as u64 + 1);
+        return Err(ill_formed((a + b) as u64 + 1));
     }
-    Cells::Fine
+    Ok(())
 }
 
-fn cells_in(line: &[u8], m: usize) -> Cells
+fn cells_in(line: &[u8], m: usize) -> Result<(), Fault>
     requires { (length line.now ≤ 80) × (m ≤ 16) }
     ensures { Judges result (cells 1 m (pad line.now)) }
 {
-    match values_in(line, m) {
-        Cells::Wrong(column) => Cells::Wrong(column),
-        Cells::Fine => rest_in(line, m),
-    }
+    values_in(line, m)?;
+    rest_in(line, m)
 }
 
 // Where a field of a value line ends: 1 at its last column.
@@ -87,23 +85,18 @@ fn sixteen_stand(b: &[u8], ends: &[u8; 80], a: usize) -> bool
     ensures { Standing result b.now ends.now a }
 {
     let mut ok = true;
-    let mut j = 0;
-    while j < 16 {
+    for j in 0..16 {
         ok = ok & may_stand(b[j], b[j + 1], ends[a + j] == b'1');
-        j += 1;
     }
     ok
 }
 
-// Where the next 16 of n bytes start, of which a are passed: the last 16 may overlap those before.
+// Where the next 16 of n bytes start, of which a are passed: the last 16 may overlap those before, so that they are no chunks.
 fn sixteen_from(a: usize, n: usize) -> usize
     requires { (a < n) × (16 ≤ n) }
     ensures { (result ≤ a) × ((a < result + 16) × (result + 16 ≤ n)) }
 {
-    if n - a < 16 {
-        return n - 16;
-    }
-    a
+    a.min(n - 16)
 }
 
 // Whether the first m fields are numbers, 16 bytes at a time. A no says nothing.
@@ -128,28 +121,25 @@ fn fields_fit(text: &[u8], ends: &[u8; 80], m: usize) -> bool
     true
 }
 
-// A row of m numbers that ends right behind them, as nearly all rows do, seen without a look for its end: where the next line starts, or 0.
-pub fn usual_row(text: &[u8], ends: &[u8; 80], m: usize) -> usize
+// A row of m numbers that ends right behind them, as nearly all rows do, seen without a look for its end: where the next line starts.
+// None says nothing.
+pub fn usual_row(text: &[u8], ends: &[u8; 80], m: usize) -> Option<usize>
     requires { (0 < m) × ((m ≤ 16) × (ends.now ≡ last_columns)) }
-    ensures { Usual text.now m result }
+    ensures { IfSome result (UsualRow text.now m) }
 {
     let n = m * 5;
     if text.len() <= n {
-        return 0;
+        return None;
     }
-    let z = read_lines::end_at(text, n);
-    if z == 0 {
-        return 0;
+    let z = read_lines::end_at(text, n)?;
+    if !fields_fit(text, ends, m) {
+        return None;
     }
-    let ok = fields_fit(text, ends, m);
-    if !ok {
-        return 0;
-    }
-    n + z
+    Some(n + z)
 }
 
 // The values of a row: by the fast test, or where that fails field by field, which finds the column.
-pub fn row_at(text: &[u8], ends: &[u8; 80], at: usize, width: usize, m: usize) -> Cells
+pub fn row_at(text: &[u8], ends: &[u8; 80], at: usize, width: usize, m: usize) -> Result<(), Fault>
     requires { (at + width ≤ length text.now) × ((width ≤ 80) × ((m ≤ 16) × (ends.now ≡ last_columns))) }
     ensures { Judges result (cells 1 m (pad (take (at + width - at) (drop at text.now)))) }
 {
@@ -160,8 +150,7 @@ pub fn row_at(text: &[u8], ends: &[u8; 80], at: usize, width: usize, m: usize) -
     if width < m * 5 {
         return cells_in(&text[at..e], m);
     }
-    let ok = fields_fit(&text[at..], ends, m);
-    if !ok {
+    if !fields_fit(&text[at..], ends, m) {
         return cells_in(&text[at..e], m);
     }
     rest_in(&text[at..e], m)
@@ -182,10 +171,8 @@ fn sixteen_bare(b: &[u8]) -> bool
     ensures { Bares result b.now 16 }
 {
     let mut ok = true;
-    let mut j = 0;
-    while j < 16 {
-        ok = ok & is_bare(b[j]);
-        j += 1;
+    for x in b {
+        ok = ok & is_bare(*x);
     }
     ok
 }
@@ -202,8 +189,7 @@ fn all_bare(text: &[u8], n: usize) -> bool
     while a < n {
         let s = sixteen_from(a, n);
         let e = s + 16;
-        let ok = sixteen_bare(&text[s..e]);
-        if !ok {
+        if !sixteen_bare(&text[s..e]) {
             return false;
         }
         a = e;
@@ -211,37 +197,30 @@ fn all_bare(text: &[u8], n: usize) -> bool
     true
 }
 
-// A row of m fields of blanks and digits that ends right behind them: where the next line starts, or 0 where it is not seen at once.
-pub fn bare_row(text: &[u8], m: usize) -> usize
+// A row of m fields of blanks and digits that ends right behind them: where the next line starts. None where it is not seen at once.
+pub fn bare_row(text: &[u8], m: usize) -> Option<usize>
     requires { (0 < m) × (m ≤ 16) }
-    ensures { Bared text.now m result }
+    ensures { IfSome result (BareRow text.now m) }
 {
     let n = m * 5;
     if text.len() <= n {
-        return 0;
+        return None;
     }
-    let z = read_lines::end_at(text, n);
-    if z == 0 {
-        return 0;
-    }
+    let z = read_lines::end_at(text, n)?;
     let i = n - 1;
     if text[i] == b' ' {
-        return 0;
+        return None;
     }
-    let ok = all_bare(text, n);
-    if !ok {
-        return 0;
+    if !all_bare(text, n) {
+        return None;
     }
-    n + z
+    Some(n + z)
 }
 
 fn low(b: u8) -> u8
     ensures { result ≡ b - 48 }
 {
-    if b < 48 {
-        return 0;
-    }
-    b - 48
+    b.saturating_sub(b'0')
 }
 
 // Two digits as a number, from each of 16 columns on. No branch per byte, so that vector code is made of it.
@@ -250,10 +229,8 @@ fn sixteen_pairs(line: &[u8], s: usize, p: &mut [u8])
     ensures { Paired line.now p.new (s + 16) }
 {
     let e = s + 16;
-    let mut j = s;
-    while j < e {
+    for j in s..e {
         p[j] = low(line[j]) * 10 + low(line[j + 1]);
-        j += 1;
     }
 }
 
@@ -299,11 +276,9 @@ pub fn fill_bare(line: &[u8], out: &mut [i32])
     let n = m * 5;
     let mut p = [0u8; 80];
     pairs_in(line, n, &mut p);
-    let mut k = 0;
-    while k < m {
+    for k in 0..m {
         let a = k * 5;
         out[k] = positive(five_digits(p[a], p[a + 2], line[a + 4]));
-        k += 1;
     }
 }
 
@@ -313,11 +288,9 @@ pub fn fill_row(line: &[u8], out: &mut [i32])
     ensures { out.new ≡ list_of (cells 1 (length out.old) (pad line.now)) }
 {
     let m = out.len();
-    let mut k = 0;
-    while k < m {
+    for k in 0..m {
         let a = k * 5;
         let e = a + 5;
         out[k] = fields::int_value(&line[a..e]);
-        k += 1;
     }
 }

@@ -1,9 +1,10 @@
+use Rattle.std.specs.Prelude.{Option, Some, None, Result, Ok, Err}
 -- Which numbers and columns a row can be refused with: 3 or 6 where the version record is due, and 4 to 9 after it.
 use mathlib.Core.Path.{◌≡◌, refl}
 use mathlib.Core.Logic.{inl, inr}
 use lib.Dec.{T}
 use native.Mathlib.Omega.{arith}
-use mathlib.Core.Option.{Option, none, some}
+use mathlib.Core.Option.{Option as Maybe, none, some}
 use native.Mathlib.Decide.{ℕ_discrete}
 use Prim.Native.Nat.{ℕ, zero, suc, ◌+◌, ◌*◌, ◌≤◌, ◌<◌}
 use mathlib.Core.List.{List, [], ◌∷◌, ◌++◌}
@@ -14,10 +15,6 @@ use Rattle.kit.proofs.AnswerLaws.{pick_elim}
 use Rattle.calendar.specs.Calendar.{Number as DateNumber, within, numbers, second, first, wrong_at, dated}
 use Rattle.calendar.specs.declared.Field.TheVariants as K
 use Rattle.calendar.specs.declared.Field.{Field as DateField}
-use Rattle.calendar.specs.declared.Taken.{Taken}
-use Rattle.calendar.specs.declared.Taken.TheVariants.{At, Wrong}
-use Rattle.forms.specs.declared.Field.{Field}
-use Rattle.forms.specs.declared.Field.TheVariants.{Number, Bad}
 use Rattle.mapset.specs.declared.Kind.{Kind}
 use Rattle.mapset.specs.declared.Kind.TheVariants.{Tec, Rms, Height}
 use Rattle.mapset.specs.declared.Version.{Version}
@@ -26,7 +23,8 @@ use Rattle.mapset.specs.Header.{Content, count, tenths, epoch as an_epoch, axis,
 use Rattle.layout.specs.Records.{Item, I, F, D, X, A, U, Vals}
 use Rattle.layout.specs.Labels.{Label, version, description, comment, system, exponent, aux_start, aux_end, header_end, epoch, block, file_end, head, start, end, items, content, layout}
 use Rattle.layout.specs.Layout.{Force, Slots, Lines, Mode, plain, aux, Date}
-use Rattle.reading.specs.Feed.{Fault, fault}
+use Rattle.reading.specs.declared.Fault.{Fault}
+use Rattle.reading.specs.Feed.{fault}
 use Rattle.reading.specs.Fields.{number, blanks, blank, scan, fields, cells}
 use Rattle.reading.specs.Maps.{Step, date, on_date, loose, on_comment, on_exponent, start_tec, start_other, start_map, on_start, end_map, on_end, epoch_tec, epoch_other, on_epoch, open_block, on_block, on_file, taken, step}
 use Rattle.reading.specs.Head.{meant, once, on_description, on_system, on_end as on_header_end, at_head, head_step}
@@ -59,7 +57,7 @@ module _ {W A : Type 0} {P : W → Type 0} where
   pick_blames (yes q) a b = a
   pick_blames (no n) a b = b
 
-  get_blames : {B : Type 0} (o : Option B) (w : W) {f : B → Answer W A} → P w → ((b : B) → Blames P (f b)) → Blames P (get o w f)
+  get_blames : {B : Type 0} (o : Maybe B) (w : W) {f : B → Answer W A} → P w → ((b : B) → Blames P (f b)) → Blames P (get o w f)
   unfolding get
   get_blames (some b) w p h = h b
   get_blames none w p h = b_no p
@@ -93,10 +91,10 @@ blanks_less [] n = absurd (n tt)
 blanks_less (b ∷ bs) n = pick_elim (λ (k : ℕ). k < suc (length bs)) (ℕ_discrete b 32) (λ e. omega (arith, blanks_less bs (λ a. n (e, a)))) (λ _. omega arith)
 
 module _ {A : Type 0} {P : Fault → Type 0} where
-  number_blames : (o : Field) (c : ℕ) {f : ℤ → Answer Fault A} → P (fault 6 c) → ((z : ℤ) → Blames P (f z)) → Blames P (number o c f)
+  number_blames : (o : Option ℤ) (c : ℕ) {f : ℤ → Answer Fault A} → P (fault 6 c) → ((z : ℤ) → Blames P (f z)) → Blames P (number o c f)
   unfolding number
-  number_blames (Number z) c k h = h z
-  number_blames Bad c k h = b_no k
+  number_blames (Some z) c k h = h z
+  number_blames None c k h = b_no k
 
   blank_blames : (bs : List ℕ) (c : ℕ) {x : Answer Fault A} → ((i : ℕ) → i < length bs → P (fault 6 (c + i))) → Blames P x → Blames P (blank bs c x)
   unfolding blank
@@ -130,9 +128,9 @@ cells_blame c (suc m) w bs n k =
     number_blames _ c (k c (inl refl)) (λ z. amap_blames _ (cells_blame (c + 5) m w (drop 5 bs) (omega (arith, length-drop 5 bs)) (λ x h. k x (inr h))))
 
 -- ---- 7: the fields of a date
-abbrev InDate : Taken → Type 0
-InDate (At t) = Unit {0}
-InDate (Wrong c) = T (among c (0 ∷ 1 ∷ 3 ∷ 6 ∷ 7 ∷ 9 ∷ 13 ∷ 15 ∷ 19 ∷ 25 ∷ 31 ∷ []))
+abbrev InDate : Result ℕ ℕ → Type 0
+InDate (Ok t) = Unit {0}
+InDate (Err c) = T (among c (0 ∷ 1 ∷ 3 ∷ 6 ∷ 7 ∷ 9 ∷ 13 ∷ 15 ∷ 19 ∷ 25 ∷ 31 ∷ []))
 
 field_in : (f : DateField) → InDate (wrong_at f)
 field_in K.Year = tt
@@ -142,18 +140,18 @@ field_in K.Hour = tt
 field_in K.Minute = tt
 field_in K.Second = tt
 
-first_in : (t : Taken) (ns : List DateNumber) → InDate t → InDate (first wrong_at t ns)
+first_in : (t : Result ℕ ℕ) (ns : List DateNumber) → InDate t → InDate (first wrong_at t ns)
 first_in t [] h = h
 first_in t (n ∷ ns) h = pick_elim InDate (within n) (λ _. first_in t ns h) (λ _. field_in n.field)
 
 date_in : (d : Date) → InDate (date d)
 unfolding dated
-date_in d = first_in (At (second d.0 d.1.0 d.1.1.0 d.1.1.1.0 d.1.1.1.1.0 d.1.1.1.1.1.0)) (numbers d.0 d.1.0 d.1.1.0 d.1.1.1.0 d.1.1.1.1.0 d.1.1.1.1.1.0) tt
+date_in d = first_in (Ok (second d.0 d.1.0 d.1.1.0 d.1.1.1.0 d.1.1.1.1.0 d.1.1.1.1.1.0)) (numbers d.0 d.1.0 d.1.1.0 d.1.1.1.0 d.1.1.1.1.0 d.1.1.1.1.1.0) tt
 
-date_blames : {A : Type 0} (t : Taken) {f : ℕ → Answer Fault A} → InDate t → ((t : ℕ) → Blames Later (f t)) → Blames Later (on_date t f)
+date_blames : {A : Type 0} (t : Result ℕ ℕ) {f : ℕ → Answer Fault A} → InDate t → ((t : ℕ) → Blames Later (f t)) → Blames Later (on_date t f)
 unfolding on_date
-date_blames (At t) k h = h t
-date_blames (Wrong c) k h = b_no (seven k)
+date_blames (Ok t) k h = h t
+date_blames (Err c) k h = b_no (seven k)
 
 -- ---- the maps
 
@@ -246,7 +244,7 @@ module _ (c : Version) (e : ℤ) (got : Slots) (ds : Lines) (r : List ℕ) where
   unfolding once
   once_blames i b = need_blames _ _ five (bind_blames b (λ s. b_ok))
 
-  system_blames : (o : Option ℕ) → Blames Later (on_system e got ds r o)
+  system_blames : (o : Maybe ℕ) → Blames Later (on_system e got ds r o)
   unfolding on_system
   system_blames none = bind_blames (in_fields system r) (λ v. b_no (seven tt))
   system_blames (some j) = once_blames _ (bind_blames (in_fields system r) (meant_blames a_system))

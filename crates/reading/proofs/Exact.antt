@@ -19,7 +19,8 @@ use Rattle.mapset.proofs.Groups.{takes_known}
 use Rattle.mapset.specs.MapSet.{MapSet}
 use Rattle.layout.specs.Labels.{version, codes, Rec}
 use Rattle.layout.specs.Layout.{plain, Rows, rows_of, Makes, makes}
-use Rattle.reading.specs.Feed.{Why, on_line, Feed, over, bad, row, feed, split}
+use Rattle.reading.specs.declared.Why.{Why}
+use Rattle.reading.specs.Feed.{on_line, Feed, over, bad, row, feed, split}
 use Rattle.reading.specs.Fields.{fields}
 use Rattle.reading.specs.Maps.{short}
 use Rattle.reading.specs.Head.{place}

@@ -10,7 +10,8 @@ use native.Mathlib.Decide.{dec_le}
 use Rattle.kit.specs.Answer.{refused, all_dec}
 use Rattle.kit.proofs.AnswerLaws.{pick_yes, pick_no}
 use Rattle.kit.specs.Range.{Within, within?, Printable}
-use Rattle.reading.specs.Feed.{Why, why, split, bad, bad_column, feed}
+use Rattle.reading.specs.declared.Why.{Why}
+use Rattle.reading.specs.Feed.{why, split, bad, bad_column, feed}
 use Rattle.reading.specs.Maps.{short}
 use Rattle.reading.specs.Read.{begin, read}
 use Rattle.reading.proofs.Machine.{first, from, from_bad}

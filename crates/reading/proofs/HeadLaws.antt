@@ -22,7 +22,8 @@ use Rattle.mapset.specs.MapSet.{MapSet, Maps}
 use Rattle.layout.specs.Records.{Vals, Fields, f_blank, f_text}
 use Rattle.layout.specs.Labels.{Label, version, description, comment, system, exponent, aux_start, aux_end, header_end, epoch, block, file_end, head, start, end, name, items, content, layout, letters, Rec, rec}
 use Rattle.layout.specs.Layout.{maps, Slots, Lines, Shows, s_count, s_tenths, s_epoch, s_axis, s_program, s_mapping, s_observables, Mode, plain, aux, Heads, h_description, h_comment, h_exponent, h_field, h_system, h_aux, h_skip, h_back, h_end, begins}
-use Rattle.reading.specs.Feed.{Why, on_line, Feed, over, bad, row}
+use Rattle.reading.specs.declared.Why.{Why}
+use Rattle.reading.specs.Feed.{on_line, Feed, over, bad, row}
 use Rattle.reading.specs.Fields.{label, fields}
 use Rattle.reading.specs.Maps.{short, run}
 use Rattle.mapset.specs.Said.{axis_of}

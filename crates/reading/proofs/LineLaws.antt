@@ -11,7 +11,8 @@ use Rattle.kit.proofs.ListLaws.{all_append}
 use Rattle.kit.specs.Range.{Within, within?, Printable}
 use Rattle.forms.specs.Columns.{Blank}
 use Rattle.layout.specs.Text.{Ended, none, last, lf, crlf, Clean, pad, Laid, blank, line}
-use Rattle.reading.specs.Feed.{Why, why, bad_column, front, LineOpens, opens?, split, Feed, over, bad, row, feed}
+use Rattle.reading.specs.declared.Why.{Why}
+use Rattle.reading.specs.Feed.{why, bad_column, front, LineOpens, opens?, split, Feed, over, bad, row, feed}
 
 -- ---- text and lines
 

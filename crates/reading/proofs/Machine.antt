@@ -12,7 +12,9 @@ use Rattle.mapset.specs.declared.Header.{Header}
 use Rattle.mapset.specs.MapSet.{MapSet}
 use Rattle.layout.specs.Labels.{Label, version, description, comment, system, exponent, aux_start, aux_end, header_end, epoch, block, file_end, head, start, end}
 use Rattle.layout.specs.Layout.{Force, Slots, Lines, Mode, plain, begins}
-use Rattle.reading.specs.Feed.{Fault, fault, Why, on_line, Feed, over, bad, row}
+use Rattle.reading.specs.declared.Fault.{Fault}
+use Rattle.reading.specs.declared.Why.{Why}
+use Rattle.reading.specs.Feed.{fault, on_line, Feed, over, bad, row}
 use Rattle.reading.specs.Fields.{label, cells}
 use Rattle.reading.specs.Maps.{Todo, misplaced, loose, on_comment, on_exponent, on_start, on_end, on_epoch, on_block, on_file, taken, step, short, finish, on_row, run}
 use Rattle.reading.specs.Head.{made, made_texts, Turn, more, done, head_step, heading}

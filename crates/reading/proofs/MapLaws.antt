@@ -1,3 +1,4 @@
+use Rattle.std.specs.Prelude.{Result, Ok, Err}
 -- The maps: what the rules write is read, and what is read the rules write.
 use mathlib.Core.Path.{◌≡◌, refl, sym, ◌∙◌}
 use mathlib.Core.Bool.{Bool, true, false}
@@ -12,8 +13,6 @@ use Rattle.kit.specs.Answer.{Answer, ok, bind, amap, get}
 use Rattle.kit.proofs.AnswerLaws.{need_yes, Yields, y_ok, y_no, yields, need_yields, get_yields, bind_yields, amap_yields, yields_map}
 use Rattle.kit.specs.Range.{Natural}
 use Rattle.calendar.proofs.FieldLaws.{dated_at, dated_ok}
-use Rattle.calendar.specs.declared.Taken.{Taken}
-use Rattle.calendar.specs.declared.Taken.TheVariants.{At, Wrong}
 use Rattle.mapset.specs.declared.Kind.{Kind}
 use Rattle.mapset.specs.declared.Kind.TheVariants.{Tec, Rms, Height}
 use Rattle.mapset.specs.declared.Header.{Header}
@@ -22,7 +21,8 @@ use Rattle.mapset.specs.MapSet.{Maps}
 use Rattle.layout.specs.Records.{Vals, Cells, ValueRows, v_last, v_full}
 use Rattle.layout.specs.Labels.{Label, version, description, comment, system, exponent, aux_start, aux_end, header_end, epoch, block, file_end, head, start, end, layout, Rec}
 use Rattle.layout.specs.Layout.{Force, under, with_epoch, last_of, with_last, one_more, one_tec, Other, Left, nothing, maps, early, blocks, Loose, Exponent, Date, DateOf, InTime, per_map, Opens, Writes, w_end, w_comment, w_exponent, w_tec, w_epoch, w_other, w_again, w_block, w_close, w_file}
-use Rattle.reading.specs.Feed.{Fault, on_line, Feed, over, bad, row}
+use Rattle.reading.specs.declared.Fault.{Fault}
+use Rattle.reading.specs.Feed.{on_line, Feed, over, bad, row}
 use Rattle.reading.specs.Fields.{label, fields, cells}
 use Rattle.reading.specs.Maps.{Todo, Next, Step, goes, stays, date, on_date, loose, on_comment, on_exponent, start_tec, start_other, start_map, on_start, end_map, on_end, epoch_tec, settled, epoch_other, on_epoch, open_block, on_block, on_file, taken, step, short, finish, on_row, run}
 use Rattle.reading.proofs.LineLaws.{Carries, c_over, c_row, Sized}
@@ -204,9 +204,9 @@ pub on_date_yields : {A : Type 0} {Q : A → Type 0} (d : Date) {f : ℕ → Ans
 unfolding on_date
 on_date_yields {A} {Q} d {f} k = by (date d) (λ t e. dated_ok d.0 d.1.0 d.1.1.0 d.1.1.1.0 d.1.1.1.1.0 d.1.1.1.1.1.0 t e)
   where
-    by : (x : Taken) → ((t : ℕ) → x ≡ At t → DateOf d t) → Yields Q (on_date x f)
-    by (At t) e = k t (e t refl)
-    by (Wrong c) e = y_no
+    by : (x : Result ℕ ℕ) → ((t : ℕ) → x ≡ Ok t → DateOf d t) → Yields Q (on_date x f)
+    by (Ok t) e = k t (e t refl)
+    by (Err c) e = y_no
 
 module _ (h : Header) (p : Force) (r : List ℕ) (z : length r ≡ 80) where
   -- a step with no values to come

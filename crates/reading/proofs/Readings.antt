@@ -17,7 +17,8 @@ use Rattle.mapset.specs.Header.{Said, number as number_said, along, counts}
 use Rattle.mapset.specs.MapSet.{MapSet}
 use Rattle.layout.specs.Text.{pad}
 use Rattle.layout.specs.Labels.{bytes, head, content}
-use Rattle.reading.specs.Feed.{Fault, fault, why}
+use Rattle.reading.specs.declared.Fault.{Fault}
+use Rattle.reading.specs.Feed.{fault, why}
 use Rattle.reading.specs.Fields.{fields}
 use Rattle.layout.specs.Samples.{lines}
 use Rattle.reading.specs.Head.{meant}

@@ -1,3 +1,4 @@
+use Rattle.std.specs.Prelude.{Option, Some, None}
 -- A row's label and fields are the only ones: what a layout makes is what is scanned.
 use mathlib.Core.Path.{◌≡◌, refl, sym, ap, ◌∙◌}
 use Prim.Native.Nat.{ℕ, zero, suc, ◌+◌, ◌*◌, ◌≤◌, ◌<◌}
@@ -18,14 +19,12 @@ use Rattle.forms.specs.Form.{Form, Spells}
 use Rattle.forms.specs.Read.{read_field}
 use Rattle.forms.specs.Columns.{Blank}
 use Rattle.forms.proofs.FieldLaws.{read_made, made_read, spells_width}
-use Rattle.forms.specs.declared.Field.{Field}
-use Rattle.forms.specs.declared.Field.TheVariants.{Number, Bad}
 use Rattle.mapset.specs.declared.Kind.{Kind}
 use Rattle.mapset.specs.declared.Kind.TheVariants.{Tec, Rms, Height}
 use Rattle.mapset.specs.Header.{Content, count, tenths, epoch as an_epoch, axis, program, mapping, observables, system as a_system, Written}
 use Rattle.layout.specs.Records.{Item, I, F, D, X, A, U, Vals, Fields, f_end, f_int, f_tenths, f_thousandths, f_blank, f_text, f_unread, Cells, c_blank, c_value}
 use Rattle.layout.specs.Labels.{Label, version, description, comment, system, exponent, aux_start, aux_end, header_end, epoch, block, file_end, head, start, end, name, items, content, layout, labels, Rec, rec}
-use Rattle.reading.specs.Feed.{Fault}
+use Rattle.reading.specs.declared.Fault.{Fault}
 use Rattle.reading.specs.Fields.{lookup, label, number, blank, scan, fields, cells}
 
 -- ---- blanks
@@ -44,10 +43,10 @@ module _ {A : Type 0} where
   blank_of bs c x a = need_yes _ _ _ a
 
 module _ {A : Type 0} {Q : A → Type 0} where
-  number_yields : (o : Field) (c : ℕ) {f : ℤ → Answer Fault A} → ((z : ℤ) → o ≡ Number z → Yields Q (f z)) → Yields Q (number o c f)
+  number_yields : (o : Option ℤ) (c : ℕ) {f : ℤ → Answer Fault A} → ((z : ℤ) → o ≡ Some z → Yields Q (f z)) → Yields Q (number o c f)
   unfolding number
-  number_yields (Number z) c h = h z refl
-  number_yields Bad c h = y_no
+  number_yields (Some z) c h = h z refl
+  number_yields None c h = y_no
 
   blank_yields : (bs : List ℕ) (c : ℕ) {x : Answer Fault A} → (All Blank bs → Yields Q x) → Yields Q (blank bs c x)
   unfolding blank
@@ -89,17 +88,17 @@ length_fields (f_text bs {rest = rest} e h) = let i = length_fields h in simp le
 length_fields (f_unread bs {rest = rest} e h) = let i = length_fields h in simp length-append (omega arith)
 
 -- a field, of columns that are cut and not joined
-cut_field : (fm : Form) (w : ℕ) (bs : List ℕ) {z : ℤ} → w ≤ length bs → read_field fm (take w bs) ≡ Number z → Spells fm w z (take w bs)
+cut_field : (fm : Form) (w : ℕ) (bs : List ℕ) {z : ℤ} → w ≤ length bs → read_field fm (take w bs) ≡ Some z → Spells fm w z (take w bs)
 cut_field fm w bs l e = rw (length-take-le w bs l) at (made_read (take w bs) e)
 
 module _ (w : ℕ) (bs : List ℕ) (l : w ≤ length bs) {is : List Item} {vs : Vals is} (h : Fields is vs (drop w bs)) where
-  cut_int : {z : ℤ} → read_field form.I (take w bs) ≡ Number z → Fields (I w ∷ is) (z, vs) bs
+  cut_int : {z : ℤ} → read_field form.I (take w bs) ≡ Some z → Fields (I w ∷ is) (z, vs) bs
   cut_int e = rw take-append-drop at (f_int (take w bs) (cut_field form.I w bs l e) h)
 
-  cut_tenths : {z : ℤ} → read_field form.F1 (take w bs) ≡ Number z → Fields (F w ∷ is) (z, vs) bs
+  cut_tenths : {z : ℤ} → read_field form.F1 (take w bs) ≡ Some z → Fields (F w ∷ is) (z, vs) bs
   cut_tenths e = rw take-append-drop at (f_tenths (take w bs) (cut_field form.F1 w bs l e) h)
 
-  cut_thousandths : {z : ℤ} → read_field form.F3 (take w bs) ≡ Number z → Fields (D w ∷ is) (z, vs) bs
+  cut_thousandths : {z : ℤ} → read_field form.F3 (take w bs) ≡ Some z → Fields (D w ∷ is) (z, vs) bs
   cut_thousandths e = rw take-append-drop at (f_thousandths (take w bs) (cut_field form.F3 w bs l e) h)
 
   cut_blank : All Blank (take w bs) → Fields (X w ∷ is) vs bs
@@ -295,7 +294,7 @@ unfolding cells number amap
 cells_of (c_blank g) c = blank_of (replicate g 32) c _ (blank_spaces g)
 cells_of (c_value bs {rest = rest} s h) c = rw (take_at bs rest 5 (spells_width s), drop_at bs rest 5 (spells_width s), read_made s, cells_of h (c + 5))
 
-cut_cell : {z : ℤ} {zs : List ℤ} (bs : List ℕ) → 5 ≤ length bs → read_field form.I (take 5 bs) ≡ Number z → Cells zs (drop 5 bs) → Cells (z ∷ zs) bs
+cut_cell : {z : ℤ} {zs : List ℤ} (bs : List ℕ) → 5 ≤ length bs → read_field form.I (take 5 bs) ≡ Some z → Cells zs (drop 5 bs) → Cells (z ∷ zs) bs
 cut_cell bs l e h = rw take-append-drop at (c_value (take 5 bs) (cut_field form.I 5 bs l e) h)
 
 pub cells_yields : (c m : ℕ) (bs : List ℕ) → m * 5 ≤ length bs → Yields (λ zs. Cells zs bs × (length zs ≡ m)) (cells c m bs)

@@ -15,7 +15,9 @@ use Rattle.mapset.specs.declared.Version.{Version}
 use Rattle.mapset.specs.declared.Header.{Header}
 use Rattle.layout.specs.Text.{Clean, pad}
 use Rattle.layout.specs.Layout.{Force, Slots, Lines, Mode}
-use Rattle.reading.specs.Feed.{Fault, Why, why, on_line, over, bad, row, bad_column, feed}
+use Rattle.reading.specs.declared.Fault.{Fault}
+use Rattle.reading.specs.declared.Why.{Why}
+use Rattle.reading.specs.Feed.{why, on_line, over, bad, row, bad_column, feed}
 use Rattle.reading.specs.Maps.{short, on_row}
 use Rattle.reading.specs.Head.{Turn, more, done}
 use Rattle.reading.proofs.LineLaws.{feed_blank, feed_row, padded}

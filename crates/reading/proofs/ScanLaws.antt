@@ -1,3 +1,4 @@
+use Rattle.std.specs.Prelude.{Option, Some, None}
 -- A record's fields by the columns of its line, which may stop early.
 use mathlib.Core.Path.{◌≡◌, refl, sym, ap, ap₂, ◌∙◌}
 use mathlib.Core.List.{List, [], ◌∷◌}
@@ -15,19 +16,18 @@ use Rattle.forms.specs.Form as form
 use Rattle.forms.specs.Read.{read_field}
 use Rattle.forms.specs.Columns.{columns, further, first_not_blank}
 use Rattle.forms.proofs.ColumnLaws.{columns_padded}
-use Rattle.forms.specs.declared.Found.{Found}
-use Rattle.forms.specs.declared.Found.TheVariants.{At, Nowhere}
 use Rattle.layout.specs.Text.{pad}
 use Rattle.layout.specs.Records.{Item, I, F, D, X, A, U, Vals}
-use Rattle.reading.specs.Feed.{Fault, fault}
+use Rattle.reading.specs.declared.Fault.{Fault}
+use Rattle.reading.specs.Feed.{fault}
 use Rattle.reading.specs.Fields.{number, blanks, blank, scan, unless}
 use Rattle.reading.proofs.RecordLaws.{size}
 
 -- ---- columns that must be blank
 
-further_one : (c : ℕ) (f : Found) → further c (further 1 f) ≡ further (suc c) f
-further_one c (At i) = ap At (omega arith)
-further_one c Nowhere = refl
+further_one : (c : ℕ) (f : Option ℕ) → further c (further 1 f) ≡ further (suc c) f
+further_one c (Some i) = ap Some (omega arith)
+further_one c None = refl
 
 need_iff : {A P Q : Type 0} (d : Dec P) (e : Dec Q) (w : Fault) (x : Answer Fault A) → (P → Q) → (Q → P) → need d w x ≡ need e w x
 unfolding need

@@ -23,7 +23,8 @@ use Rattle.layout.specs.Text.{pad}
 use Rattle.layout.specs.Labels.{version, bytes, name}
 use Rattle.layout.specs.Layout.{Makes, exponent?}
 use Rattle.layout.specs.Samples.{lines, mix_line, head_lines, one_map_lines, head_texts, pair_axes, pair_map}
-use Rattle.reading.specs.Feed.{Why, fault, why, on_line, front, opens?, split, feed, bad_column}
+use Rattle.reading.specs.declared.Why.{Why}
+use Rattle.reading.specs.Feed.{fault, why, on_line, front, opens?, split, feed, bad_column}
 use Rattle.reading.specs.Fields.{lookup, label, number, blanks, blank, scan, fields, cells}
 use Rattle.reading.specs.Maps.{on_date, kind?, true?, after?, implies?, in_time?, height?, loose, on_comment, on_exponent, start_tec, start_other, start_map, on_start, end_map, on_end as on_map_end, epoch_tec, epoch_other, on_epoch, open_block, on_block, on_file, taken, step, finish, run, short}
 use Rattle.reading.specs.Head.{meant, place, none?, complete?, made, made_texts, once, on_description, on_system, on_end, at_head, head_step, heading}

@@ -1,26 +1,23 @@
 -- The lines of a text, and the rows that they hand on: 01's refusals 1 and 2, and blank lines.
-use Rattle.std.specs.Prelude.{◌≡◌, ℕ, suc, List, [], ◌∷◌, length}
+use Rattle.std.specs.Prelude.{◌≡◌, ℕ, suc, List, [], ◌∷◌, length, Result, Ok, Err}
 use Rattle.std.proofs.Math.Decide.{ℕ_discrete, dec_le}
 use Rattle.kit.specs.Answer.{Answer, ok, refused, pick, ×_dec, all_dec}
 use Rattle.kit.specs.Range.{within?}
 use Rattle.layout.specs.Text.{pad}
-
--- a refusal of one line: 01's number, and the column
-pub record Fault : Type 0 where
-  pub number : ℕ
-  pub column : ℕ
-
--- a refusal, with its line
-pub record Why : Type 0 where
-  pub number : ℕ
-  pub line : ℕ
-  pub column : ℕ
+-- a refusal of one line: 01's number, and the column; and with its line, of a text
+use Rattle.reading.specs.declared.Fault.{Fault}
+use Rattle.reading.specs.declared.Why.{Why}
 
 abbrev pub why : ℕ → ℕ → ℕ → Why
 why k n c = record { number = k; line = n; column = c }
 
 abbrev pub fault : ℕ → ℕ → Fault
 fault k c = record { number = k; column = c }
+
+-- what the code answers, as the definitions have it
+abbrev pub answer_of : {W A : Type 0} → Result A W → Answer W A
+answer_of (Ok a) = ok a
+answer_of (Err w) = refused w
 
 unfoldable pub on_line : {A : Type 0} → ℕ → Answer Fault A → Answer Why A
 on_line n (ok a) = ok a

@@ -1,31 +1,28 @@
 -- A row's label and fields: 01's refusals 4 and 6.
-use Rattle.std.specs.Prelude.{ℕ, zero, suc, ◌+◌, ◌-◌, List, [], ◌∷◌, take, drop, ℤ}
-use Rattle.std.proofs.Math.Option.{Option, none, some}
+use Rattle.std.specs.Prelude.{ℕ, zero, suc, ◌+◌, ◌-◌, List, [], ◌∷◌, take, drop, ℤ, Option, Some, None}
+use Rattle.std.proofs.Math.Option.{Option as Maybe, none, some}
 use Rattle.std.proofs.Math.Decide.{ℕ_discrete}
 use Rattle.kit.specs.Answer.{Answer, ok, refused, need, amap, pick, same, all_dec}
 use Rattle.forms.specs.Form as form
 use Rattle.forms.specs.Read.{read_field}
-use Rattle.forms.specs.declared.Field.{Field}
-use Rattle.forms.specs.declared.Field.TheVariants.{Number, Bad}
 use Rattle.layout.specs.Records.{Item, I, F, D, X, A, U, Vals}
 use Rattle.layout.specs.Labels.{Label, name, layout, labels}
-use Rattle.reading.specs.Feed.{Fault, fault}
+use Rattle.reading.specs.declared.Fault.{Fault}
+use Rattle.reading.specs.Feed.{fault}
 use Rattle.forms.specs.Columns.{columns, further, first_not_blank}
-use Rattle.forms.specs.declared.Found.{Found}
-use Rattle.forms.specs.declared.Found.TheVariants.{At, Nowhere}
 
 -- columns 61 to 80, compared byte by byte
-unfoldable pub lookup : List ℕ → List Label → Option Label
+unfoldable pub lookup : List ℕ → List Label → Maybe Label
 lookup s [] = none
 lookup s (l ∷ ls) = pick (same s (name l)) (some l) (lookup s ls)
 
-unfoldable pub label : List ℕ → Option Label
+unfoldable pub label : List ℕ → Maybe Label
 label r = lookup (drop 60 r) labels
 
 -- go on with a field's number; ill-formed is 6 at the field's first column
-unfoldable pub number : {A : Type 0} → Field → ℕ → (ℤ → Answer Fault A) → Answer Fault A
-number (Number z) c f = f z
-number Bad c f = refused (fault 6 c)
+unfoldable pub number : {A : Type 0} → Option ℤ → ℕ → (ℤ → Answer Fault A) → Answer Fault A
+number (Some z) c f = f z
+number None c f = refused (fault 6 c)
 
 -- how many blanks stand in front
 unfoldable pub blanks : List ℕ → ℕ
@@ -55,10 +52,10 @@ cells c zero bs = blank bs c (ok [])
 cells c (suc m) bs = number (read_field form.I (take 5 bs)) c (λ z. amap (λ zs. z ∷ zs) (cells (c + 5) m (drop 5 bs)))
 
 -- the first of the columns after the first a and up to e that is not blank
-unfoldable pub blank_to : List ℕ → ℕ → ℕ → Found
+unfoldable pub blank_to : List ℕ → ℕ → ℕ → Option ℕ
 blank_to line a e = further (a + 1) (first_not_blank (columns line a (e - a)))
 
 -- 6 there, else x
-abbrev pub unless : {A : Type 0} → Found → Answer Fault A → Answer Fault A
-unless (At c) x = refused (fault 6 c)
-unless Nowhere x = x
+abbrev pub unless : {A : Type 0} → Option ℕ → Answer Fault A → Answer Fault A
+unless (Some c) x = refused (fault 6 c)
+unless None x = x

@@ -15,7 +15,9 @@ use Rattle.mapset.specs.MapSet.{MapSet}
 use Rattle.layout.specs.Records.{Vals}
 use Rattle.layout.specs.Labels.{Label, version, description, comment, system, exponent, aux_start, aux_end, header_end, epoch, block, file_end, head, start, end, name, items, content, letters}
 use Rattle.layout.specs.Layout.{Slots, Lines, systems, Mode, plain, aux, begins, exponent?}
-use Rattle.reading.specs.Feed.{Fault, fault, Why, on_line, Feed, over, bad, row}
+use Rattle.reading.specs.declared.Fault.{Fault}
+use Rattle.reading.specs.declared.Why.{Why}
+use Rattle.reading.specs.Feed.{fault, on_line, Feed, over, bad, row}
 use Rattle.reading.specs.Fields.{label, fields}
 use Rattle.reading.specs.Maps.{misplaced, missing, date, on_date, short, run}
 use Rattle.reading.specs.declared.Place.TheVariants.{Between}

@@ -1,13 +1,11 @@
 -- 01, 'Maps', read row by row. On one row the order is 4, 5, 6, 9, 8, 7: each test is a `need`, and they stand in that order.
-use Rattle.std.specs.Prelude.{◌≡◌, refl, Bool, true, false, ℕ, zero, suc, ◌-◌, ◌/◌, ◌%◌, List, [], ◌∷◌, ◌++◌, length, get_or, ℤ, pos, nat_abs}
+use Rattle.std.specs.Prelude.{◌≡◌, refl, Bool, true, false, ℕ, zero, suc, ◌-◌, ◌/◌, ◌%◌, List, [], ◌∷◌, ◌++◌, length, get_or, ℤ, pos, nat_abs, Result, Ok, Err}
 use Rattle.std.proofs.Common.{arith}
 use Rattle.std.proofs.Math.Decide.{ℕ_discrete, dec_le, dec_lt}
 use Rattle.kit.specs.Answer.{Answer, ok, refused, need, bind, amap, get, pick, ×_dec, ⊎_dec}
 use Rattle.kit.specs.Range.{natural?}
 use Rattle.kit.specs.Integer.{int?}
 use Rattle.calendar.specs.Calendar.{dated}
-use Rattle.calendar.specs.declared.Taken.{Taken}
-use Rattle.calendar.specs.declared.Taken.TheVariants.{At, Wrong}
 use Rattle.mapset.specs.declared.Kind.{Kind}
 use Rattle.mapset.specs.declared.Kind.TheVariants.{Tec, Rms, Height}
 use Rattle.mapset.specs.declared.Header.{Header}
@@ -16,7 +14,9 @@ use Rattle.mapset.specs.Decisions.{follows?}
 use Rattle.mapset.specs.MapSet.{Block, TecMap, Maps}
 use Rattle.layout.specs.Labels.{Label, version, description, comment, system, exponent, aux_start, aux_end, header_end, epoch, block, file_end, head, start, end}
 use Rattle.layout.specs.Layout.{Force, under, with_epoch, last_of, with_last, one_more, one_tec, Date, After, InTime, per_map, node, HeightOf, exponent?}
-use Rattle.reading.specs.Feed.{Fault, fault, Why, why, on_line, Feed, over, bad, row}
+use Rattle.reading.specs.declared.Fault.{Fault}
+use Rattle.reading.specs.declared.Why.{Why}
+use Rattle.reading.specs.Feed.{fault, why, on_line, Feed, over, bad, row}
 use Rattle.reading.specs.Fields.{label, fields, cells}
 use Rattle.reading.specs.declared.Open.{Open}
 use Rattle.reading.specs.declared.Place.{Place}
@@ -57,13 +57,13 @@ abbrev pub disagrees : ℕ → Fault
 disagrees c = fault 8 c
 
 -- the second of six numbers that are a date
-abbrev pub date : Date → Taken
+abbrev pub date : Date → Result ℕ ℕ
 date d = dated d.0 d.1.0 d.1.1.0 d.1.1.1.0 d.1.1.1.1.0 d.1.1.1.1.1.0
 
 -- no epoch at all is 7 at its first wrong field
-unfoldable pub on_date : {A : Type 0} → Taken → (ℕ → Answer Fault A) → Answer Fault A
-on_date (At t) f = f t
-on_date (Wrong c) f = refused (fault 7 c)
+unfoldable pub on_date : {A : Type 0} → Result ℕ ℕ → (ℕ → Answer Fault A) → Answer Fault A
+on_date (Ok t) f = f t
+on_date (Err c) f = refused (fault 7 c)
 
 unfoldable pub kind? : (a b : Kind) → Dec (a ≡ b)
 kind? Tec Tec = yes refl

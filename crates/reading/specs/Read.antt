@@ -8,7 +8,9 @@ use Rattle.mapset.specs.Decisions.{takes_code?}
 use Rattle.mapset.specs.MapSet.{MapSet}
 use Rattle.layout.specs.Labels.{version, name, codes}
 use Rattle.layout.specs.Layout.{Slots, plain}
-use Rattle.reading.specs.Feed.{Fault, fault, Why, on_line, Feed, over, bad, row, split, feed}
+use Rattle.reading.specs.declared.Fault.{Fault}
+use Rattle.reading.specs.declared.Why.{Why}
+use Rattle.reading.specs.Feed.{fault, on_line, Feed, over, bad, row, split, feed}
 use Rattle.reading.specs.Fields.{fields}
 use Rattle.reading.specs.Maps.{short}
 use Rattle.reading.specs.Head.{place, heading}

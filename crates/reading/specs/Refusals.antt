@@ -4,7 +4,9 @@ use Rattle.kit.specs.Answer.{Answer, ok, refused, All}
 use Rattle.kit.specs.Range.{Within, Printable}
 use Rattle.forms.specs.Columns.{Blank}
 use Rattle.mapset.specs.MapSet.{MapSet}
-use Rattle.reading.specs.Feed.{Why, split, bad_column, feed, Fault, fault}
+use Rattle.reading.specs.declared.Fault.{Fault}
+use Rattle.reading.specs.declared.Why.{Why}
+use Rattle.reading.specs.Feed.{split, bad_column, feed, fault}
 use Rattle.reading.specs.Maps.{short}
 use Rattle.reading.specs.Read.{begin, read}
 use Rattle.layout.specs.Text.{Clean}

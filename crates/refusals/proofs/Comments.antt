@@ -8,7 +8,8 @@ use lib.ListN.{length, take}
 use Rattle.layout.specs.Text.{pad}
 use Rattle.layout.specs.Labels.{Label, comment, layout}
 use Rattle.layout.specs.Layout.{plain, aux}
-use Rattle.reading.specs.Feed.{Fault, Why}
+use Rattle.reading.specs.declared.Fault.{Fault}
+use Rattle.reading.specs.declared.Why.{Why}
 use Rattle.reading.proofs.LineLaws.{padded}
 use Rattle.reading.proofs.RecordLaws.{rec_name}
 use Rattle.refusals.specs.Faulty.{Broken, formed, between, ended, inside, Standing, opening, heading, mapping, Rule, Labelled, WrongRecord, unknown, misplaced, ill_formed, wrong, Wrong, FaultyFrom, by_bytes, by_row, past_blank, past_row, at_end_of_text}

@@ -3,7 +3,7 @@ use Rattle.std.proofs.Math.Option.{Option, none, some}
 use Rattle.std.specs.Prelude.{List, ℕ, suc}
 use Rattle.mapset.specs.declared.Header.{Header}
 use Rattle.layout.specs.Layout.{Force}
-use Rattle.reading.specs.Feed.{Why}
+use Rattle.reading.specs.declared.Why.{Why}
 use Rattle.refusals.specs.Faulty.{Place, ended, Standing, opening, mapping, FaultyFrom, by_bytes, by_row, past_blank, past_row, at_end_of_text}
 
 -- the line that is refused, where it is one of printable bytes, not too long and not blank; and what stands before it

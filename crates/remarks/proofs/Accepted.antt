@@ -10,7 +10,8 @@ use lib.Seq.{take-take, take-length}
 use Rattle.kit.specs.Answer.{Answer, ok, refused}
 use Rattle.mapset.specs.MapSet.{MapSet}
 use Rattle.layout.specs.Labels.{comment}
-use Rattle.reading.specs.Feed.{Why, split}
+use Rattle.reading.specs.declared.Why.{Why}
+use Rattle.reading.specs.Feed.{split}
 use Rattle.reading.specs.Maps.{short}
 use Rattle.reading.specs.Read.{read}
 use Rattle.reading.proofs.Machine.{first, from}

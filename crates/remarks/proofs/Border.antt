@@ -14,7 +14,8 @@ use Rattle.kit.proofs.TruthLaws.{truth_true}
 use Rattle.mapset.specs.MapSet.{MapSet}
 use Rattle.layout.specs.Text.{pad}
 use Rattle.layout.specs.Labels.{aux_start, aux_end, name}
-use Rattle.reading.specs.Feed.{Why, front, opens?, split}
+use Rattle.reading.specs.declared.Why.{Why}
+use Rattle.reading.specs.Feed.{front, opens?, split}
 use Rattle.reading.specs.Read.{read}
 use Rattle.reading.proofs.Vectors.{whole_reading}
 use Rattle.layout.specs.Samples.{lines}

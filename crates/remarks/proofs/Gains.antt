@@ -1,3 +1,4 @@
+use Rattle.std.specs.Prelude.{Result, Ok, Err}
 -- What the second scan brings for an index from each state of the reading on: what each row that is taken adds, and that a remark's row adds nothing.
 use mathlib.Core.Path.{◌≡◌, refl, sym, ap, ◌∙◌}
 use mathlib.Core.Option.{Option, none, some}
@@ -11,15 +12,14 @@ use Rattle.kit.specs.Answer.{Answer, ok, refused, same}
 use Rattle.kit.proofs.AnswerLaws.{pick_yes, pick_no, Yields, y_ok, y_no, need_yields, get_yields, bind_yields, amap_yields, pick_yields, yields_map}
 use Rattle.mapset.specs.declared.Kind.{Kind}
 use Rattle.mapset.specs.declared.Kind.TheVariants.{Tec, Rms, Height}
-use Rattle.calendar.specs.declared.Taken.{Taken}
-use Rattle.calendar.specs.declared.Taken.TheVariants.{At, Wrong}
 use Rattle.mapset.specs.declared.Version.{Version}
 use Rattle.mapset.specs.declared.Header.{Header}
 use Rattle.mapset.specs.Header.{Said}
 use Rattle.mapset.specs.Grid.{columns}
 use Rattle.layout.specs.Labels.{Label, version, description, comment, system, exponent, aux_start, aux_end, header_end, epoch, block, file_end, head, start, end, name, labels, letters}
 use Rattle.layout.specs.Layout.{Force, Slots, Lines, Mode, plain, aux}
-use Rattle.reading.specs.Feed.{Fault, fault}
+use Rattle.reading.specs.declared.Fault.{Fault}
+use Rattle.reading.specs.Feed.{fault}
 use Rattle.reading.specs.Fields.{lookup, label, fields, cells}
 use Rattle.reading.specs.Maps.{Next, on_date, loose, on_comment, on_exponent, start_tec, start_other, start_map, on_start, end_map, on_end as on_map_end, epoch_tec, epoch_other, on_epoch, open_block, on_block, on_file, taken, step, on_row, date}
 use Rattle.reading.specs.Head.{Turn, more, done, place, once, on_description, on_system, on_end, at_head, head_step}
@@ -68,10 +68,10 @@ loose_undue Between y = y
 loose_undue Early y = y
 loose_undue (Inside o) y = y
 
-date_undue : (q : Place) (t : Taken) {f : ℕ → Answer Fault (Next q)} → ((n : ℕ) → Yields (Undue q) (f n)) → Yields (Undue q) (on_date t f)
+date_undue : (q : Place) (t : Result ℕ ℕ) {f : ℕ → Answer Fault (Next q)} → ((n : ℕ) → Yields (Undue q) (f n)) → Yields (Undue q) (on_date t f)
 unfolding on_date
-date_undue q (At n) y = y n
-date_undue q (Wrong c) y = y_no
+date_undue q (Ok n) y = y n
+date_undue q (Err c) y = y_no
 
 module _ (h : Header) (p : Force) (r : List ℕ) where
   comment_undue : (q : Place) → Yields (Undue q) (on_comment q p r)

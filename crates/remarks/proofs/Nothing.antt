@@ -8,12 +8,14 @@ use native.Mathlib.Omega.{arith}
 use lib.IntN.{ℤ, negsuc}
 use lib.ListN.{length, take, drop, get_or, length-take}
 use lib.Seq.{take-length}
+use Rattle.std.specs.Prelude.{Result, Ok, Err}
 use Rattle.kit.specs.Answer.{Answer, ok, refused}
 use Rattle.mapset.specs.Grid.{columns}
 use Rattle.mapset.specs.MapSet.{MapSet}
 use Rattle.mapset.specs.Areas.{Areas}
 use Rattle.layout.specs.Text.{pad}
-use Rattle.reading.specs.Feed.{Why, split, feed}
+use Rattle.reading.specs.declared.Why.{Why}
+use Rattle.reading.specs.Feed.{split, feed}
 use Rattle.reading.specs.Maps.{short}
 use Rattle.reading.specs.Read.{begin, read}
 use Rattle.reading.proofs.Machine.{first, from}
@@ -25,8 +27,7 @@ use Rattle.read_needs.specs.Needs.{first_short}
 use Rattle.read_outcome.specs.Outcome.{accepted, outcome, outcome_of, comes}
 use Rattle.read_outcome.specs.Measures.{Measures}
 use Rattle.read_outcome.proofs.Once.{needs_once}
-use Rattle.read_outcome.specs.declared.Measured.{Measured}
-use Rattle.read_outcome.specs.declared.Measured.TheVariants as M
+use Rattle.read_needs.specs.declared.Elements.{Elements}
 use Rattle.read_outcome.specs.declared.ReadOut.{ReadOut}
 use Rattle.c_answers.specs.Own.{too_short, unless}
 use Rattle.c_answers.specs.ReadExported.{crossed, crosses, read_crossed}
@@ -91,11 +92,11 @@ module _ (t t' : List ℕ) (r : Remarked t t') where
   nothing_crosses l h x p = ap (λ o. unless (too_short (length h) (length x) (length p) 2) (crosses o h x p) (λ k. crossed k l h x p)) (nothing_in_areas l)
 
   -- what each area needs is the same too, or the refusal
-  needed : (a : Measured) → Measures t' a → Measures t a
-  needed (M.Needs n) (m, (e, f)) = (m, (nothing_from_remarks ∙ e, f))
-  needed (M.Refused w) (y, (e, f)) = (y, (nothing_from_remarks ∙ e, f))
+  needed : (a : Result Elements Why) → Measures t' a → Measures t a
+  needed (Ok n) (m, (e, f)) = (m, (nothing_from_remarks ∙ e, f))
+  needed (Err w) e = nothing_from_remarks ∙ e
 
-  pub nothing_needed : (a b : Measured) → Measures t a → Measures t' b → a ≡ b
+  pub nothing_needed : (a b : Result Elements Why) → Measures t a → Measures t' b → a ≡ b
   nothing_needed a b p q = needs_once t a b p (needed b q)
 
   -- and two calls of `ionex_needs`

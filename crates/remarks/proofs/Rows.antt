@@ -1,3 +1,4 @@
+use Rattle.std.specs.Prelude.{Option, Some, None}
 -- What a remark's row does, whatever its columns 1 to 60 hold.
 use mathlib.Core.Path.{◌≡◌, refl, sym, ap, ◌∙◌}
 use mathlib.Core.Logic.{◌⊎◌, inl, inr}
@@ -15,14 +16,13 @@ use Rattle.kit.proofs.ListLaws.{all_append, all_drop}
 use Rattle.forms.specs.Form as form
 use Rattle.forms.specs.Read.{read_field, number_of, formed?}
 use Rattle.forms.specs.Columns.{Blank}
-use Rattle.forms.specs.declared.Field.{Field}
-use Rattle.forms.specs.declared.Field.TheVariants.{Number, Bad}
 use Rattle.mapset.specs.declared.Version.{Version}
 use Rattle.mapset.specs.declared.Header.{Header}
 use Rattle.layout.specs.Text.{pad}
 use Rattle.layout.specs.Labels.{Label, version, comment, aux_start, aux_end, name, labels}
 use Rattle.layout.specs.Layout.{Force, Slots, Lines, plain, aux}
-use Rattle.reading.specs.Feed.{Fault, fault}
+use Rattle.reading.specs.declared.Fault.{Fault}
+use Rattle.reading.specs.Feed.{fault}
 use Rattle.reading.specs.Fields.{lookup, label, number, blank, scan, fields, cells}
 use Rattle.reading.specs.Maps.{on_comment, taken, step, on_row}
 use Rattle.reading.specs.Head.{more, at_head, head_step}
@@ -38,7 +38,7 @@ use Rattle.remarks.specs.Remarks.{Bears}
 -- what is needed of a label: it is not blank, its first five bytes are no number, and it is known and neither of two others
 pub record Word (x : Label) : Type 0 where
   pub shown : ¬ All Blank (name x)
-  pub no_number : read_field form.I (take 5 (name x)) ≡ Bad
+  pub no_number : read_field form.I (take 5 (name x)) ≡ None
   pub known : lookup (name x) labels ≡ some x
   pub no_version : ¬ (name x ≡ name version)
   pub no_end : ¬ (name x ≡ name aux_end)
@@ -71,12 +71,12 @@ not_blank l w e a = w.shown (rw e at (all_drop Blank 60 (l ++ replicate (80 - le
 
 -- ---- no row of values bears such a label
 
-number_yields : {A : Type 0} {Q : A → Type 0} (x : Field) (c : ℕ) {f : ℤ → Answer Fault A} → ((z : ℤ) → Yields Q (f z)) → Yields Q (number x c f)
+number_yields : {A : Type 0} {Q : A → Type 0} (x : Option ℤ) (c : ℕ) {f : ℤ → Answer Fault A} → ((z : ℤ) → Yields Q (f z)) → Yields Q (number x c f)
 unfolding number
-number_yields (Number z) c h = h z
-number_yields Bad c h = y_no
+number_yields (Some z) c h = h z
+number_yields None c h = y_no
 
-number_bad : {A : Type 0} {Q : A → Type 0} (x : Field) (c : ℕ) (f : ℤ → Answer Fault A) → x ≡ Bad → Yields Q (number x c f)
+number_bad : {A : Type 0} {Q : A → Type 0} (x : Option ℤ) (c : ℕ) (f : ℤ → Answer Fault A) → x ≡ None → Yields Q (number x c f)
 unfolding number
 number_bad x c f e = rw e y_no
 

@@ -12,7 +12,9 @@ use Rattle.kit.specs.Range.{within?, Printable}
 use Rattle.forms.specs.Columns.{Blank}
 use Rattle.layout.specs.Text.{pad, Clean}
 use Rattle.layout.specs.Labels.{comment, aux_start, aux_end}
-use Rattle.reading.specs.Feed.{Fault, Why, why, on_line, bad, row, bad_column, feed}
+use Rattle.reading.specs.declared.Fault.{Fault}
+use Rattle.reading.specs.declared.Why.{Why}
+use Rattle.reading.specs.Feed.{why, on_line, bad, row, bad_column, feed}
 use Rattle.reading.specs.Maps.{short}
 use Rattle.reading.proofs.LineLaws.{feed_blank, feed_row}
 use Rattle.reading.proofs.Machine.{State, Out, from, Move, on_row_of, from_bad, from_row, amap_id}

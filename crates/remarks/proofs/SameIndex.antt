@@ -16,7 +16,9 @@ use Rattle.layout.specs.Text.{Clean, pad}
 use Rattle.layout.specs.Labels.{comment, aux_start, aux_end}
 use Rattle.layout.specs.Layout.{plain, per_map}
 use Rattle.read_lines.specs.Cuts.{Cut, with_byte, with_cr, cuts}
-use Rattle.reading.specs.Feed.{Fault, Why, opens?, row, feed}
+use Rattle.reading.specs.declared.Fault.{Fault}
+use Rattle.reading.specs.declared.Why.{Why}
+use Rattle.reading.specs.Feed.{opens?, row, feed}
 use Rattle.reading.proofs.LineLaws.{feed_row}
 use Rattle.reading.proofs.Machine.{State, first, Out, from, Move, on_row_of}
 use Rattle.reading.proofs.RefusalLaws.{Sort, long, dirty, blank, shown, sort}

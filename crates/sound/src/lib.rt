@@ -6,33 +6,34 @@ ghost use Rattle.mapset.specs.Described.{full};
 ghost use Rattle.mapset.specs.Areas.{six};
 ghost use Rattle.kit.specs.Truth.{truth};
 ghost use Rattle.mapset.specs.Grid.{Limits};
-ghost use Rattle.mapset.specs.Sound.{runs?, epochs?, lengths?};
-ghost use Rattle.mapset.specs.SoundDecided.{sound?};
+ghost use Rattle.mapset.specs.Sound.{epochs?, lengths?};
+ghost use Rattle.mapset.specs.SoundDecided.{run?, sound?};
 
 use mapset::{Header, Kind, Lengths, Texts, Times, axes};
 
 // Each epoch follows the one before, and the last one is the header's.
-fn epochs_run(interval: u32, last: u64, epochs: &[u64]) -> bool
-    requires { 1 ≤ length epochs.now }
-    ensures { result ≡ truth (runs? interval last epochs.now) }
+fn epochs_run(interval: u32, last: u64, first: u64, rest: &[u64]) -> bool
+    ensures { result ≡ truth (run? interval last first rest.now) }
 {
-    let mut i: usize = 0;
-    while i < epochs.len() - 1 {
-        if !mapset::follows(interval, epochs[i], epochs[i + 1]) {
+    let mut before = first;
+    for epoch in rest {
+        if !mapset::follows(interval, before, *epoch) {
             return false;
         }
-        i += 1;
+        before = *epoch;
     }
-    epochs[i] == last
+    before == last
 }
 
 fn epochs_fit(times: Times, epochs: &[u64]) -> bool
     ensures { result ≡ truth (epochs? times epochs.now) }
 {
-    if epochs.len() < 1 {
-        return false;
+    match epochs {
+        [] => false,
+        [first, rest @ ..] => {
+            (*first == times.first) & epochs_run(times.interval, times.last, *first, rest)
+        }
     }
-    (epochs[0] == times.first) & epochs_run(times.interval, times.last, epochs)
 }
 
 fn lengths_fit(header: Header, marks: &[u8], l: Lengths) -> bool
@@ -65,10 +66,7 @@ pub fn sound(
         return false;
     }
     let maps = header.times.maps as usize;
-    if epochs.len() < maps {
-        return false;
-    }
-    if marks.len() < maps {
+    if epochs.len() < maps || marks.len() < maps {
         return false;
     }
     let lengths = Lengths {

@@ -10,7 +10,7 @@ ghost use Rattle.mapset.specs.Judged.{line};
 ghost use Rattle.mapset.specs.Sound.{version?, lines?, texts?, times?, model?, grid?, count?, system?, systems?, header?};
 ghost use Rattle.mapset.specs.SoundDecided.{axis?};
 
-use mapset::axes::{Judged, Line};
+use mapset::axes::Line;
 use mapset::{Axis, Grid, Header, Model, System, Systems, Texts, Times, Version, axes};
 
 fn within(low: u32, high: u32, x: u32) -> bool
@@ -24,10 +24,8 @@ pub fn all_within(low: u8, high: u8, bytes: &[u8]) -> bool
     ensures { result ≡ truth (all_dec (within? low high) bytes.now) }
 {
     let mut fits = true;
-    let mut i: usize = 0;
-    while i < bytes.len() {
-        fits = fits & ((low <= bytes[i]) & (bytes[i] <= high));
-        i += 1;
+    for b in bytes {
+        fits = fits & ((low <= *b) & (*b <= high));
     }
     fits
 }
@@ -42,10 +40,7 @@ fn version_fits(v: Version) -> bool
 fn descriptions_fit(n: u32, lines: &[u8]) -> bool
     ensures { result ≡ truth (lines? n lines.now) }
 {
-    if 20 < n {
-        return false;
-    }
-    if lines.len() != 1200 {
+    if 20 < n || lines.len() != 1200 {
         return false;
     }
     let end = 60 * (n as usize);
@@ -55,16 +50,11 @@ fn descriptions_fit(n: u32, lines: &[u8]) -> bool
 fn texts_fit(t: Texts, n: u32, lines: &[u8]) -> bool
     ensures { result ≡ truth (texts? n (full t lines.now)) }
 {
-    let program = t.program;
-    let agency = t.agency;
-    let date = t.date;
-    let mapping = t.mapping;
-    let observables = t.observables;
-    all_within(32, 126, &program)
-        & (all_within(32, 126, &agency)
-            & (all_within(32, 126, &date)
-                & (all_within(32, 126, &mapping)
-                    & (all_within(32, 126, &observables) & descriptions_fit(n, lines)))))
+    all_within(32, 126, &t.program)
+        & (all_within(32, 126, &t.agency)
+            & (all_within(32, 126, &t.date)
+                & (all_within(32, 126, &t.mapping)
+                    & (all_within(32, 126, &t.observables) & descriptions_fit(n, lines)))))
 }
 
 fn times_fit(t: Times) -> bool
@@ -83,13 +73,7 @@ fn model_fits(m: Model) -> bool
 fn axis_fits(which: Line, a: Axis) -> bool
     ensures { result ≡ truth (axis? (line which) a) }
 {
-    match axes::judge(which, a) {
-        Judged::First => false,
-        Judged::Last => false,
-        Judged::Step => false,
-        Judged::Together => false,
-        Judged::Fine => true,
-    }
+    axes::judge(which, a).is_ok()
 }
 
 fn grid_fits(g: Grid) -> bool
@@ -104,9 +88,10 @@ fn count_fits(stands: bool, count: u32) -> bool
     ensures { result ≡ truth (count? stands count) }
 {
     if stands {
-        return within(0, 999_999, count);
+        within(0, 999_999, count)
+    } else {
+        count == 0
     }
-    count == 0
 }
 
 fn system_fits(s: System) -> bool

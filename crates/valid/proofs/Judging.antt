@@ -3,15 +3,14 @@ use mathlib.Core.Path.{◌≡◌, refl, sym, ap, ◌∙◌}
 use mathlib.Core.Bool.{true, false}
 use mathlib.Core.Logic.{◌⊎◌}
 use mathlib.Core.List.{List, [], ◌∷◌}
-use Prim.Native.Nat.{ℕ, zero, suc, ◌+◌, ◌-◌, ◌≤◌, ◌<◌}
+use Prim.Native.Nat.{ℕ, zero, suc, min, ◌+◌, ◌≤◌, ◌<◌}
 use native.Mathlib.Numerals.{add-one}
 use native.Mathlib.Omega.{arith}
 use native.Mathlib.Decide.{dec_lt}
 use lib.IntN.{ℤ}
-use lib.ListN.{length, get_or, take, drop, length-drop, drop_of_length-le}
-use lib.Seq.{drop-cons, drop-drop}
-use Rattle.kit.specs.Answer.{All, all_dec, pick}
-use Rattle.kit.proofs.AnswerLaws.{pick_yes, pick_no}
+use lib.ListN.{length, get_or, take, drop, drop_of_length-le}
+use lib.Seq.{drop-cons}
+use Rattle.kit.specs.Answer.{All, all_dec}
 use Rattle.kit.specs.Integer.{Between, int?, between?}
 use Rattle.kit.proofs.Parts.{eq_parts, parts_le, le_parts}
 use Rattle.kit.specs.Truth.{truth}
@@ -19,7 +18,6 @@ use Rattle.kit.proofs.TruthLaws.{truth_same, holds, fails}
 use Rattle.mapset.specs.declared.Kind.{Kind}
 use Rattle.mapset.specs.Areas.{Present}
 use Rattle.areas.specs.ValidDecided.{blank?}
-use Rattle.kit.specs.Range.{lesser}
 
 -- ---- from v to v is v
 same_between : (v x : ℤ) → x ≡ v → Between v v x
@@ -48,43 +46,36 @@ module _ {A : Type 0} where
   take_over (suc w) [] h = refl
   take_over (suc w) (x ∷ l) h = ap (λ r. x ∷ r) (take_over w l (omega arith))
 
-  by_lesser : (w : ℕ) (l : List A) → (take (lesser w (length l)) l ≡ take w l) × (drop (lesser w (length l)) l ≡ drop w l)
-  unfolding lesser
-  by_lesser w l = go (dec_lt w (length l))
+  by_min : (w : ℕ) (l : List A) → (take (min w (length l)) l ≡ take w l) × (drop (min w (length l)) l ≡ drop w l)
+  by_min w l = go (dec_lt w (length l))
     where
-      go : (d : Dec (w < length l)) → (take (pick d w (length l)) l ≡ take w l) × (drop (pick d w (length l)) l ≡ drop w l)
-      go (yes h) = rw (pick_yes (yes h) w (length l) h) (refl, refl)
+      go : Dec (w < length l) → (take (min w (length l)) l ≡ take w l) × (drop (min w (length l)) l ≡ drop w l)
+      go (yes h) = let e : min w (length l) ≡ w = omega arith in rw e (refl, refl)
       go (no n) =
+          let e : min w (length l) ≡ length l = omega arith in
           let g : length l ≤ w = omega arith in
           let z : length l ≤ length l = omega arith in
-          rw (pick_no (no n) w (length l) n) (
+          rw e (
             take_over (length l) l z ∙ sym (take_over w l g),
             drop_of_length-le l z ∙ sym (drop_of_length-le l g),
           )
 
--- ---- the marks from an index on, against the area from an element on
-module _ (k : Kind) (w : ℕ) (v : ℤ) (ms : List ℕ) (l : List ℤ) (i at : ℕ) where
+-- ---- the marks from an index on, against what is left of the area
+module _ (k : Kind) (w : ℕ) (v : ℤ) (ms : List ℕ) (i : ℕ) (l : List ℤ) where
   abbrev here : ℕ
-  here = lesser w (length l - at)
-
-  part : take here (drop at l) ≡ take w (drop at l)
-  part = rw (← length-drop at l) (by_lesser w (drop at l)).0
-
-  rest_is : drop (at + here) l ≡ drop w (drop at l)
-  rest_is = sym (drop-drop here at l) ∙ rw (← length-drop at l) (by_lesser w (drop at l)).1
+  here = min w (length l)
 
   -- the map of the mark i is there or v everywhere
   abbrev Here : Type 0
-  Here = Present k (get_or ms i 0) ⊎ All (λ x. x ≡ v) (take here (drop at l))
+  Here = Present k (get_or ms i 0) ⊎ All (λ x. x ≡ v) (take here l)
 
-  pub blank_next : i < length ms → Here
-      → truth (blank? k w v (drop i ms) (drop at l)) ≡ truth (blank? k w v (drop (i + 1) ms) (drop (at + here) l))
+  pub blank_next : i < length ms → Here → truth (blank? k w v (drop i ms) l) ≡ truth (blank? k w v (drop (i + 1) ms) (drop here l))
   blank_next h p =
-      rw (add-one, drop-cons ms i 0 h, rest_is)
-      (truth_same (blank? k w v (get_or ms i 0 ∷ drop (suc i) ms) (drop at l)) (blank? k w v (drop (suc i) ms) (drop w (drop at l))) (λ a. a.1) (λ a. (rw part at p, a)))
+      rw (add-one, drop-cons ms i 0 h, (by_min w l).1)
+      (truth_same (blank? k w v (get_or ms i 0 ∷ drop (suc i) ms) l) (blank? k w v (drop (suc i) ms) (drop w l)) (λ a. a.1) (λ a. (rw (by_min w l).0 at p, a)))
 
-  pub blank_stop : i < length ms → ¬ Here → truth (blank? k w v (drop i ms) (drop at l)) ≡ false
-  blank_stop h n = rw (drop-cons ms i 0 h) (sym (fails (blank? k w v (get_or ms i 0 ∷ drop (suc i) ms) (drop at l)) (λ a. n (rw part a.0))))
+  pub blank_stop : i < length ms → ¬ Here → truth (blank? k w v (drop i ms) l) ≡ false
+  blank_stop h n = rw (drop-cons ms i 0 h) (sym (fails (blank? k w v (get_or ms i 0 ∷ drop (suc i) ms) l) (λ a. n (rw (by_min w l).0 a.0))))
 
-  pub blank_end : length ms ≤ i → truth (blank? k w v (drop i ms) (drop at l)) ≡ true
-  blank_end h = rw (drop_of_length-le ms h) (sym (holds (blank? k w v [] (drop at l)) tt))
+  pub blank_end : length ms ≤ i → truth (blank? k w v (drop i ms) l) ≡ true
+  blank_end h = rw (drop_of_length-le ms h) (sym (holds (blank? k w v [] l) tt))

@@ -18,10 +18,8 @@ fn all_between(low: i32, high: i32, values: &[i32]) -> bool
     ensures { result ≡ truth (all_dec (between? low high) values.now) }
 {
     let mut fits = true;
-    let mut i: usize = 0;
-    while i < values.len() {
-        fits = fits & kit::between(low, high, values[i]);
-        i += 1;
+    for z in values {
+        fits = fits & ((low <= *z) & (*z <= high));
     }
     fits
 }
@@ -37,25 +35,20 @@ fn all_same(v: i32, values: &[i32]) -> bool
 fn there_or(kind: Kind, mark: u8, v: i32, values: &[i32]) -> bool
     ensures { result ≡ truth (⊎_dec (present? kind mark) (all_dec (λ x. int? x v) values.now)) }
 {
-    if mapset::present(kind, mark) {
-        return true;
-    }
-    all_same(v, values)
+    mapset::present(kind, mark) || all_same(v, values)
 }
 
 // Of maps of width elements each, those that their marks say are absent hold v everywhere.
 fn blank(kind: Kind, width: usize, v: i32, marks: &[u8], area: &[i32]) -> bool
     ensures { result ≡ truth (blank? kind width v marks.now area.now) }
 {
-    let mut at: usize = 0;
-    let mut i: usize = 0;
-    while i < marks.len() {
-        let end = at + kit::lesser(width, area.len() - at);
-        if !there_or(kind, marks[i], v, &area[at..end]) {
+    let mut rest = area;
+    for mark in marks {
+        let (map, behind) = rest.split_at(width.min(rest.len()));
+        if !there_or(kind, *mark, v, map) {
             return false;
         }
-        at = end;
-        i += 1;
+        rest = behind;
     }
     true
 }
@@ -126,7 +119,7 @@ pub fn valid(
     ensures { result ≡ truth (validity header (full texts descriptions.now)
         (six tec.now rms.now height.now exponents.now epochs.now marks.now)) }
 {
-    if !sound::sound(
+    sound::sound(
         header,
         texts,
         descriptions,
@@ -136,8 +129,5 @@ pub fn valid(
         exponents,
         epochs,
         marks,
-    ) {
-        return false;
-    }
-    rest_fits(header, tec, rms, height, exponents, marks)
+    ) && rest_fits(header, tec, rms, height, exponents, marks)
 }

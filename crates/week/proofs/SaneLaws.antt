@@ -1,15 +1,14 @@
 -- The tests of a week, and what they say of weeks that sets gave.
 use mathlib.Core.Path.{◌≡◌, refl, sym, ap, subst, ◌∙◌}
-use mathlib.Core.Logic.{⊎_elim}
-use mathlib.Core.Bool.{true, false, ◌&&◌}
+use mathlib.Core.Bool.{◌&&◌}
 use mathlib.Core.List.{List, [], ◌∷◌, Permᴰ}
 use Prim.Native.Nat.{ℕ, zero, suc, ◌+◌, ◌≤◌, ◌<◌}
 use native.Mathlib.Decide.{dec_le}
 use native.Mathlib.Omega.{arith}
 use borrow.Author.Tests.{ne_eqb, lt-ltb}
 use lib.Dec.{T, eqb, ltb}
-use lib.IntN.{ℤ, pos, nat_abs, ◌-ℤ◌}
-use lib.Signed.{lt_z, le_z}
+use lib.IntN.{ℤ}
+use lib.Signed.{le_z}
 use Rattle.kit.specs.Answer.{pick}
 use Rattle.kit.proofs.AnswerLaws.{pick_yes, pick_no, pick_elim}
 use lib.ListN.{length, drop}
@@ -18,19 +17,18 @@ use Rattle.kit.specs.Lists.{front}
 use Rattle.kit.specs.Truth.{truth}
 use Rattle.kit.proofs.TruthLaws.{tells}
 use Rattle.kit.specs.Integer.{le?}
-use Rattle.kit.proofs.Parts.{one_zero, abs_parts, sub_parts2, lt_true, lt_false}
 use Rattle.week_tally.specs.Figures.{figures, joined, Ready}
 use Rattle.week_tally.proofs.FigureLaws.{fit_all, joined_fit, nodes_figures, nodes_joined, bounded_joined}
 use Rattle.week_set.specs.SetFigures.{kind_nodes, kind_figures, set_rows, rows_need}
 use Rattle.week_set.proofs.RowLaws.{set_rows_length}
 use Rattle.week_set.proofs.SetLaws.{kind_bounded}
 use Rattle.week_tally.specs.declared.Tally.{Tally}
-use Rattle.week_tally.specs.declared.Range.TheVariants as R
+use Rattle.std.specs.Prelude.{Some, None, Ok, Err}
+use Rattle.week_tally.specs.declared.Range.{Range}
 use Rattle.week.specs.Week.{Given, ValidSet, valid?, RowRoom, room?, Accepted, accepted?, accepted, week_nodes, week_of, grown, added, no_sets, report}
 use Rattle.week.proofs.WeekLaws.{week_bounded, week_size, set_size, report_week, report_permuted}
 use Rattle.week.specs.Sane.{Fair, Sane, fit?, sane?, Outcome, comes, outcome, kept, SmallWeek, SmallAnswer}
 use Rattle.week.specs.declared.Week.{Week}
-use Rattle.week.specs.declared.Added.TheVariants as A
 use Rattle.week.specs.declared.Why.{Why}
 use Rattle.week.specs.declared.Why.TheVariants as Y
 
@@ -38,38 +36,15 @@ use Rattle.week.specs.declared.Why.TheVariants as Y
 le_tells : (a b : ℤ) → le_z a b ≡ truth (le? a b)
 le_tells a b = tells (le_z a b) (le? a b) (λ e. record { le = subst T (sym e) tt }) (λ e h. subst T e h.le)
 
-pub fit_nothing : (n : ℕ) → eqb n 0 ≡ truth (fit? n R.Nothing)
+pub fit_none : (n : ℕ) → eqb n 0 ≡ truth (fit? n None)
 unfolding fit? truth
-fit_nothing zero = refl
-fit_nothing (suc n) = ne_eqb (suc n) 0 (λ e. omega arith)
+fit_none zero = refl
+fit_none (suc n) = ne_eqb (suc n) 0 (λ e. omega arith)
 
-pub fit_from : (n : ℕ) (a b : ℤ) → (ltb 0 n && le_z a b) ≡ truth (fit? n (R.From a b))
+pub fit_some : (n : ℕ) (r : Range) → (ltb 0 n && le_z r.smallest r.largest) ≡ truth (fit? n (Some r))
 unfolding fit? truth
-fit_from zero a b = refl
-fit_from (suc n) a b = ap (◌&& le_z a b) (lt-ltb 0 (suc n) (omega arith)) ∙ le_tells a b
-
--- ---- a sum within a bound
-module _ (x : ℤ) (b : ℕ) where
-  pub below : lt_z x (pos 0 -ℤ pos b) ≡ true → ¬ (nat_abs x ≤ b)
-  below e h =
-      let l = lt_true x (pos 0 -ℤ pos b) e in
-      let p = sub_parts2 (pos 0) (pos b) in
-      let a = abs_parts x in
-      ⊎_elim (λ o. omega arith) (λ o. omega arith) (one_zero x)
-
-  pub above : lt_z (pos b) x ≡ true → ¬ (nat_abs x ≤ b)
-  above e h =
-      let l = lt_true (pos b) x e in
-      let a = abs_parts x in
-      ⊎_elim (λ o. omega arith) (λ o. omega arith) (one_zero x)
-
-  pub inside : lt_z x (pos 0 -ℤ pos b) ≡ false → lt_z (pos b) x ≡ false → nat_abs x ≤ b
-  inside e f =
-      let l = lt_false x (pos 0 -ℤ pos b) e in
-      let m = lt_false (pos b) x f in
-      let p = sub_parts2 (pos 0) (pos b) in
-      let a = abs_parts x in
-      ⊎_elim (λ o. omega arith) (λ o. omega arith) (one_zero x)
+fit_some zero r = refl
+fit_some (suc n) r = ap (◌&& le_z r.smallest r.largest) (lt-ltb 0 (suc n) (omega arith)) ∙ le_tells r.smallest r.largest
 
 -- ---- a week that sets gave can be added to
 fair_week : (k : ℕ) (ss : List Given) → Fair (accepted ss) (figures (week_nodes k ss))
@@ -81,7 +56,7 @@ sane_week ss = (fair_week 0 ss, (fair_week 1 ss, fair_week 2 ss))
 
 -- ---- the answer, case by case
 module _ (w : Week) (s : Given) where
-  pub answer_full : 100 ≤ w.sets → outcome w s ≡ comes (A.Refused Y.Full) s.rows
+  pub answer_full : 100 ≤ w.sets → outcome w s ≡ comes (Err Y.Full) s.rows
   unfolding outcome
   answer_full f = pick_yes (dec_le 100 w.sets) _ _ f
 
@@ -89,21 +64,21 @@ module _ (w : Week) (s : Given) where
     not_full : ¬ (100 ≤ w.sets)
     not_full f = omega arith
 
-    pub answer_insane : ¬ Sane w → outcome w s ≡ comes (A.Refused Y.Invalid) s.rows
+    pub answer_insane : ¬ Sane w → outcome w s ≡ comes (Err Y.Invalid) s.rows
     unfolding outcome
     answer_insane h = pick_no (dec_le 100 w.sets) _ _ not_full ∙ pick_no (sane? w) _ _ h
 
     module _ (h : Sane w) where
-      pub answer_invalid : ¬ ValidSet s → outcome w s ≡ comes (A.Refused Y.Invalid) s.rows
+      pub answer_invalid : ¬ ValidSet s → outcome w s ≡ comes (Err Y.Invalid) s.rows
       unfolding outcome
       answer_invalid v = pick_no (dec_le 100 w.sets) _ _ not_full ∙ pick_yes (sane? w) _ _ h ∙ pick_no (valid? s) _ _ v
 
       module _ (v : ValidSet s) where
-        pub answer_short : ¬ RowRoom s → outcome w s ≡ comes (A.Refused (Y.Short (rows_need s.header))) s.rows
+        pub answer_short : ¬ RowRoom s → outcome w s ≡ comes (Err (Y.Short (rows_need s.header))) s.rows
         unfolding outcome
         answer_short r = pick_no (dec_le 100 w.sets) _ _ not_full ∙ pick_yes (sane? w) _ _ h ∙ pick_yes (valid? s) _ _ v ∙ pick_no (room? s) _ _ r
 
-        pub answer_into : RowRoom s → outcome w s ≡ comes (A.Into (grown w s.header s.areas)) (front (set_rows s.header s.areas) s.rows)
+        pub answer_into : RowRoom s → outcome w s ≡ comes (Ok (grown w s.header s.areas)) (front (set_rows s.header s.areas) s.rows)
         unfolding outcome
         answer_into r = pick_no (dec_le 100 w.sets) _ _ not_full ∙ pick_yes (sane? w) _ _ h ∙ pick_yes (valid? s) _ _ v ∙ pick_yes (room? s) _ _ r
 
@@ -183,16 +158,16 @@ front_behind : {A : Type 0} (xs l : List A) (n : ℕ) → length xs ≡ n → dr
 front_behind xs l n e = drop_at xs (drop (length xs) l) n e ∙ ap (λ (k : ℕ). drop k l) e
 
 -- ---- after a refusal the area for the rows is as before, and always what lies behind the rows
-pub refused_rows : (w : Week) (s : Given) (y : Why) → (outcome w s).answer ≡ A.Refused y → (outcome w s).rows ≡ s.rows
+pub refused_rows : (w : Week) (s : Given) (y : Why) → (outcome w s).answer ≡ Err y → (outcome w s).rows ≡ s.rows
 unfolding outcome
 refused_rows w s y =
     pick_elim Left (dec_le 100 w.sets) (λ _ _. refl)
     (λ _. pick_elim Left (sane? w) (λ _. pick_elim Left (valid? s) (λ _. pick_elim Left (room? s) (λ _ e. absurd (apart e)) (λ _ _. refl)) (λ _ _. refl)) (λ _ _. refl))
   where
     Left : Outcome → Type 0
-    Left o = o.answer ≡ A.Refused y → o.rows ≡ s.rows
+    Left o = o.answer ≡ Err y → o.rows ≡ s.rows
 
-    apart : A.Into (grown w s.header s.areas) ≡ A.Refused y → ⊥
+    apart : Ok (grown w s.header s.areas) ≡ Err y → ⊥
     apart e = let z : ◌≡◌ {A = ℕ} 0 1 = cc in omega arith
 
 pub behind_kept : (w : Week) (s : Given) → drop (rows_need s.header) (outcome w s).rows ≡ drop (rows_need s.header) s.rows

@@ -1,8 +1,7 @@
 // The figures of up to a hundred map sets.
 #![tactic(auto)]
 
-ghost use Rattle.std.specs.Prelude.{◌≡◌, [], ◌+◌, ◌*◌, ◌≤◌, ◌<◌, nat_abs, length};
-ghost use Rattle.std.proofs.Math.Decide.{dec_le};
+ghost use Rattle.std.specs.Prelude.{◌≡◌, [], ◌+◌, ◌*◌, ◌≤◌, ◌<◌, length};
 ghost use Rattle.kit.specs.Lists.{front};
 ghost use Rattle.kit.specs.Truth.{truth};
 ghost use Rattle.mapset.specs.Described.{full};
@@ -16,7 +15,8 @@ ghost use Rattle.week.specs.Takes.{Takes, taken, stored};
 use mapset::{Header, Texts, axes};
 use week_tally::{Range, Tally};
 
-// Figures in thousandths of a TECU.
+// Figures in thousandths of a TECU. The two units are types apart, as DECISIONS.md says: one type with the unit as its parameter needs a
+// field for it in every definition.
 #[derive(Clone, Copy)]
 pub struct TecuTally(pub Tally);
 
@@ -33,6 +33,9 @@ pub struct Week {
     pub height: KmTally,
 }
 
+// The sets of a week, at most.
+const MOST_SETS: u64 = 100;
+
 // Why a set was not added: 60, 31, or 11 with the numbers that the area for the rows needs.
 #[derive(Clone, Copy)]
 pub enum Why {
@@ -41,36 +44,14 @@ pub enum Why {
     Short(u64),
 }
 
-// The new week, or why not.
-#[derive(Clone, Copy)]
-pub enum Added {
-    Into(Week),
-    Refused(Why),
-}
-
 // Whether there is a smallest and a largest exactly where a node has a value, and in order.
-fn fits(given: u64, r: Range) -> bool
-    ensures { result ≡ truth (fit? given r) }
+fn fits(given: u64, range: Option<Range>) -> bool
+    ensures { result ≡ truth (fit? given range) }
 {
-    match r {
-        Range::Nothing => given == 0,
-        Range::From(a, b) => (0 < given) & (a <= b),
+    match range {
+        None => given == 0,
+        Some(r) => (0 < given) & (r.smallest <= r.largest),
     }
-}
-
-// Whether x is from -bound to bound.
-fn within(x: i64, bound: u64) -> bool
-    requires { bound ≤ 1_000_000_000_000_000_000 }
-    ensures { result ≡ truth (dec_le (nat_abs x) bound) }
-{
-    let most = bound as i64;
-    if x < 0 - most {
-        return false;
-    }
-    if most < x {
-        return false;
-    }
-    true
 }
 
 // Whether so many sets can have brought such figures.
@@ -79,15 +60,13 @@ fn fair(sets: u64, t: Tally) -> bool
     ensures { result ≡ truth (fair? sets t) }
 {
     let most = sets * 2000000;
-    let given = t.given;
-    let range = t.range;
-    if most < given {
+    if most < t.given {
         return false;
     }
-    if most - given < t.lacking {
+    if most - t.given < t.lacking {
         return false;
     }
-    within(t.sum, given * 99999000) & fits(given, range)
+    (t.sum.unsigned_abs() <= t.given * 99999000) & fits(t.given, t.range)
 }
 
 // Whether the week can be added to.
@@ -95,11 +74,7 @@ fn sane(w: Week) -> bool
     requires { w.sets < 100 }
     ensures { result ≡ truth (sane? w) }
 {
-    let sets = w.sets;
-    let tec = w.tec;
-    let rms = w.rms;
-    let height = w.height;
-    fair(sets, tec.0) & (fair(sets, rms.0) & fair(sets, height.0))
+    fair(w.sets, w.tec.0) & (fair(w.sets, w.rms.0) & fair(w.sets, w.height.0))
 }
 
 // How many numbers the rows of a set are.
@@ -159,12 +134,9 @@ fn grow(
         (six tec.now rms.now height.now exponents.now [] marks.now))
         rows.old) }
 {
-    let first = w.tec;
-    let second = w.rms;
-    let third = w.height;
-    let a = kind_into(first.0, 0, header, tec, exponents, marks, rows);
-    let b = kind_into(second.0, 1, header, rms, exponents, marks, rows);
-    let c = kind_into(third.0, 2, header, height, exponents, marks, rows);
+    let a = kind_into(w.tec.0, 0, header, tec, exponents, marks, rows);
+    let b = kind_into(w.rms.0, 1, header, rms, exponents, marks, rows);
+    let c = kind_into(w.height.0, 2, header, height, exponents, marks, rows);
     Week {
         sets: w.sets + 1,
         tec: TecuTally(a),
@@ -186,16 +158,16 @@ pub fn add(
     epochs: &[u64],
     marks: &[u8],
     rows: &mut [i64],
-) -> Added
+) -> Result<Week, Why>
     ensures { comes result rows.new ≡ outcome w (given_as header (full texts descriptions.now)
         (six tec.now rms.now height.now exponents.now epochs.now marks.now)
         rows.old) }
 {
-    if 100 <= w.sets {
-        return Added::Refused(Why::Full);
+    if MOST_SETS <= w.sets {
+        return Err(Why::Full);
     }
     if !sane(w) {
-        return Added::Refused(Why::Invalid);
+        return Err(Why::Invalid);
     }
     if !valid::valid(
         header,
@@ -208,11 +180,12 @@ pub fn add(
         epochs,
         marks,
     ) {
-        return Added::Refused(Why::Invalid);
+        return Err(Why::Invalid);
     }
     let need = rows_need(header.times.maps);
-    if (rows.len() as u64) < need {
-        return Added::Refused(Why::Short(need));
+    let lent = rows.len() as u64;
+    if lent < need {
+        return Err(Why::Short(need));
     }
-    Added::Into(grow(w, header, tec, rms, height, exponents, marks, rows))
+    Ok(grow(w, header, tec, rms, height, exponents, marks, rows))
 }

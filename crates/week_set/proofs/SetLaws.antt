@@ -13,7 +13,7 @@ use Rattle.areas.proofs.ListLaws.{tab_length, tab_all}
 use Rattle.ask_nodes.specs.Value.{kind_of, corner}
 use Rattle.ask_nodes.specs.Nodes.{Small}
 use Rattle.ask_nodes.proofs.NodeLaws.{small_value}
-use Rattle.week_tally.specs.Figures.{given, lacking, range, figures, total, Bounded}
+use Rattle.week_tally.specs.Figures.{given, lacking, figures, total, Bounded}
 use Rattle.week_tally.proofs.FigureLaws.{counts_add, bounded_figures, Spans, range_spans}
 use Rattle.week_set.specs.SetFigures.{shape, node_value, map_nodes, map_figures, kind_nodes, kind_figures}
 use Rattle.week_set.proofs.TabLaws.{length_flat_tab, all_flat_tab, figures_tab}

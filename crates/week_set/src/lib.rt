@@ -15,15 +15,10 @@ fn blocks_tally(kind: u64, columns: usize, values: &[i32], exponents: &[i32]) ->
 {
     let mut t = week_tally::empty(0);
     let mut at: usize = 0;
-    let mut j: usize = 0;
-    while j < exponents.len() {
+    for &exponent in exponents {
         let end = at + columns;
-        t = week_tally::join(
-            t,
-            week_tally::tally_of(kind, &values[at..end], exponents[j]),
-        );
+        t = week_tally::join(t, week_tally::tally_of(kind, &values[at..end], exponent));
         at = end;
-        j += 1;
     }
     t
 }
@@ -67,13 +62,11 @@ pub fn kind_rows(
         × (rows.new ≡ sets rows.old at (parts_rows kind blocks columns marks.now values.now exponents.now)) }
 {
     let mut t = week_tally::empty(0);
-    let mut i: usize = 0;
-    while i < marks.len() {
-        let m = map_tally(kind, i, blocks, columns, marks[i], values, exponents);
+    for (i, &mark) in marks.iter().enumerate() {
+        let m = map_tally(kind, i, blocks, columns, mark, values, exponents);
         week_tally::put_row(rows, at + 5 * i, m);
         t = week_tally::join(t, m);
-        i += 1;
     }
-    week_tally::put_row(rows, at + 5 * i, t);
+    week_tally::put_row(rows, at + 5 * marks.len(), t);
     t
 }

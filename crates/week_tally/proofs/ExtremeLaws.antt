@@ -1,8 +1,12 @@
 -- Laws of the one that comes first.
-use mathlib.Core.Path.{◌≡◌, sym}
+use mathlib.Core.Path.{◌≡◌}
+use native.Mathlib.Omega.{arith}
 use lib.IntN.{ℤ}
-use Rattle.kit.proofs.AnswerLaws.{pick_yes, pick_no, pick_elim}
-use Rattle.week_tally.proofs.Orders.{Order, first}
+use Rattle.std.specs.Int.{int_min, int_max}
+use Rattle.std.proofs.lemmas.Int.{ints, clamps}
+use Rattle.kit.specs.Integer.{le?}
+use Rattle.kit.proofs.AnswerLaws.{pick_elim}
+use Rattle.week_tally.proofs.Orders.{Order, first, rising, falling, le_other}
 
 module _ {R : ℤ → ℤ → Type 0} (o : Order R) where
   pub first_left : (a b : ℤ) → R (first o a b) a
@@ -33,9 +37,9 @@ module _ {R : ℤ → ℤ → Type 0} (o : Order R) where
       (first_before a b r (first_left a (first o b c)) (o.on r (first o b c) b rbc (first_left b c)))
       (o.on r (first o b c) c rbc (first_right b c)))
 
--- ---- what a test of the code says
-pub first_yes : {R : ℤ → ℤ → Type 0} (o : Order R) (a b : ℤ) → R a b → a ≡ first o a b
-first_yes o a b p = sym (pick_yes (o.first? a b) a b p)
+-- ---- the library's words for the two
+pub min_smaller : (a b : ℤ) → int_min a b ≡ first rising a b
+min_smaller a b = pick_elim (λ (z : ℤ). int_min a b ≡ z) (le? a b) (λ p. omega (arith, ints, clamps)) (λ n. let p = le_other a b n in omega (arith, ints, clamps))
 
-pub first_no : {R : ℤ → ℤ → Type 0} (o : Order R) (a b : ℤ) → ¬ R a b → b ≡ first o a b
-first_no o a b n = sym (pick_no (o.first? a b) a b n)
+pub max_larger : (a b : ℤ) → int_max a b ≡ first falling a b
+max_larger a b = pick_elim (λ (z : ℤ). int_max a b ≡ z) (le? b a) (λ p. omega (arith, ints, clamps)) (λ n. let p = le_other b a n in omega (arith, ints, clamps))

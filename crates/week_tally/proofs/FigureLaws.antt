@@ -19,27 +19,27 @@ use Rattle.ask_nodes.proofs.NodeLaws.{small_plain}
 use Rattle.week_tally.specs.Gathered.{Combines}
 use Rattle.week_tally.proofs.Orders.{Order, first, rising, falling, le_trans}
 use Rattle.week_tally.proofs.ExtremeLaws.{first_left, first_right, first_assoc, first_comm}
-use Rattle.week_tally.specs.Figures.{given, lacking, smaller, larger, hull, point, range, sum, figures, joined, nothing, empty, single, nodes_in, Bounded, Ready, Fit}
+use Rattle.week_tally.specs.Figures.{given, lacking, smaller, larger, hull, point, range, sum, figures, joined, from, nothing, empty, single, nodes_in, Bounded, Ready, Fit}
 use Rattle.week_tally.specs.declared.Tally.{Tally}
 use Rattle.week_tally.specs.declared.Range.{Range}
-use Rattle.week_tally.specs.declared.Range.TheVariants as R
+use Rattle.std.specs.Prelude.{Option as Maybe, Some, None}
 
 -- ---- ranges
-hull_none : (r : Range) → hull r R.Nothing ≡ r
-hull_none R.Nothing = refl
-hull_none (R.From a b) = refl
+hull_none : (r : Maybe Range) → hull r None ≡ r
+hull_none None = refl
+hull_none (Some r) = refl
 
-hull_comm : (r s : Range) → hull r s ≡ hull s r
-hull_comm R.Nothing R.Nothing = refl
-hull_comm R.Nothing (R.From c d) = refl
-hull_comm (R.From a b) R.Nothing = refl
-hull_comm (R.From a b) (R.From c d) = ap₂ R.From (first_comm rising a c) (first_comm falling b d)
+hull_comm : (r s : Maybe Range) → hull r s ≡ hull s r
+hull_comm None None = refl
+hull_comm None (Some s) = refl
+hull_comm (Some r) None = refl
+hull_comm (Some r) (Some s) = ap₂ from (first_comm rising r.smallest s.smallest) (first_comm falling r.largest s.largest)
 
-hull_assoc : (r s t : Range) → hull (hull r s) t ≡ hull r (hull s t)
-hull_assoc R.Nothing s t = refl
-hull_assoc (R.From a b) R.Nothing t = refl
-hull_assoc (R.From a b) (R.From c d) R.Nothing = refl
-hull_assoc (R.From a b) (R.From c d) (R.From e f) = ap₂ R.From (first_assoc rising a c e) (first_assoc falling b d f)
+hull_assoc : (r s t : Maybe Range) → hull (hull r s) t ≡ hull r (hull s t)
+hull_assoc None s t = refl
+hull_assoc (Some r) None t = refl
+hull_assoc (Some r) (Some s) None = refl
+hull_assoc (Some r) (Some s) (Some t) = ap₂ from (first_assoc rising r.smallest s.smallest t.smallest) (first_assoc falling r.largest s.largest t.largest)
 
 -- ---- one operation with a neutral element, associative and commutative
 pub joined_none : (t : Tally) → joined nothing t ≡ t
@@ -134,9 +134,9 @@ abbrev pub Inside : ℤ → ℤ → Option ℤ → Type 0
 Inside a b none = Unit {0}
 Inside a b (some v) = (a ≤ℤ v) × (v ≤ℤ b)
 
-abbrev pub Spans : List (Option ℤ) → Range → Type 0
-Spans ns R.Nothing = All (λ n. n ≡ none) ns
-Spans ns (R.From a b) = Among a ns × Among b ns × All (Inside a b) ns
+abbrev pub Spans : List (Option ℤ) → Maybe Range → Type 0
+Spans ns None = All (λ n. n ≡ none) ns
+Spans ns (Some r) = Among r.smallest ns × Among r.largest ns × All (Inside r.smallest r.largest) ns
 
 wider : (a b c d : ℤ) → a ≤ℤ c → d ≤ℤ b → (ns : List (Option ℤ)) → All (Inside c d) ns → All (Inside a b) ns
 wider a b c d p q [] h = tt
@@ -152,15 +152,17 @@ no_more a b (n ∷ ns) h = (rw h.0 tt, no_more a b ns h.1)
 of_first : {R : ℤ → ℤ → Type 0} (o : Order R) (P : ℤ → Type 0) (a b : ℤ) → P a → P b → P (first o a b)
 of_first o P a b p q = pick_elim P (o.first? a b) (λ _. p) (λ _. q)
 
-spans_cons : (n : Option ℤ) (ns : List (Option ℤ)) (r : Range) → Spans ns r → Spans (n ∷ ns) (hull (point n) r)
-spans_cons none ns R.Nothing h = (refl, h)
-spans_cons none ns (R.From c d) h = (inr h.0, inr h.1, (tt, h.2))
-spans_cons (some v) ns R.Nothing h = (inl refl, inl refl, ((≤ℤ_refl v, ≤ℤ_refl v), no_more v v ns h))
-spans_cons (some v) ns (R.From c d) h = (
-  of_first rising (λ (z : ℤ). Among z (some v ∷ ns)) v c (inl refl) (inr h.0),
-  of_first falling (λ (z : ℤ). Among z (some v ∷ ns)) v d (inl refl) (inr h.1),
-  ((first_left rising v c, first_left falling v d), wider (smaller v c) (larger v d) c d (first_right rising v c) (first_right falling v d) ns h.2),
-)
+spans_cons : (n : Option ℤ) (ns : List (Option ℤ)) (r : Maybe Range) → Spans ns r → Spans (n ∷ ns) (hull (point n) r)
+spans_cons none ns None h = (refl, h)
+spans_cons none ns (Some r) h = (inr h.0, inr h.1, (tt, h.2))
+spans_cons (some v) ns None h = (inl refl, inl refl, ((≤ℤ_refl v, ≤ℤ_refl v), no_more v v ns h))
+spans_cons (some v) ns (Some r) h =
+    let c = r.smallest in
+    let d = r.largest in (
+      of_first rising (λ (z : ℤ). Among z (some v ∷ ns)) v c (inl refl) (inr h.0),
+      of_first falling (λ (z : ℤ). Among z (some v ∷ ns)) v d (inl refl) (inr h.1),
+      ((first_left rising v c, first_left falling v d), wider (smaller v c) (larger v d) c d (first_right rising v c) (first_right falling v d) ns h.2),
+    )
 
 pub range_spans : (ns : List (Option ℤ)) → Spans ns (range ns)
 unfolding range
@@ -173,11 +175,11 @@ fit_figures [] = tt
 fit_figures (none ∷ ns) = fit_figures ns
 fit_figures (some v ∷ ns) = by (given ns) (range ns) (fit_figures ns)
   where
-    by : (k : ℕ) (r : Range) → Fit k r → Fit (suc k) (hull (point (some v)) r)
-    by zero R.Nothing f = ≤ℤ_refl v
-    by zero (R.From a b) f = absurd f
-    by (suc k) R.Nothing f = absurd f
-    by (suc k) (R.From a b) f = le_trans (smaller v a) v (larger v b) (first_left rising v a) (first_left falling v b)
+    by : (k : ℕ) (r : Maybe Range) → Fit k r → Fit (suc k) (hull (point (some v)) r)
+    by zero None f = ≤ℤ_refl v
+    by zero (Some r) f = absurd f
+    by (suc k) None f = absurd f
+    by (suc k) (Some r) f = le_trans (smaller v r.smallest) v (larger v r.largest) (first_left rising v r.smallest) (first_left falling v r.largest)
 
 -- ---- how many nodes
 pub nodes_joined : (t u : Tally) → nodes_in (joined t u) ≡ nodes_in t + nodes_in u
@@ -222,20 +224,22 @@ pub fit_all : (ns : List (Option ℤ)) → Fit (figures ns).given (figures ns).r
 unfolding figures
 fit_all ns = fit_figures ns
 
-fit_joined : (m n : ℕ) (r s : Range) → Fit m r → Fit n s → Fit (m + n) (hull r s)
-fit_joined zero zero R.Nothing R.Nothing f g = tt
-fit_joined zero zero R.Nothing (R.From c d) f g = absurd g
-fit_joined zero zero (R.From a b) s f g = absurd f
-fit_joined zero (suc n) R.Nothing R.Nothing f g = absurd g
-fit_joined zero (suc n) R.Nothing (R.From c d) f g = rw (zero-add (suc n)) g
-fit_joined zero (suc n) (R.From a b) s f g = absurd f
-fit_joined (suc m) n R.Nothing s f g = absurd f
-fit_joined (suc m) zero (R.From a b) R.Nothing f g = rw (add-zero (suc m)) f
-fit_joined (suc m) zero (R.From a b) (R.From c d) f g = absurd g
-fit_joined (suc m) (suc n) (R.From a b) R.Nothing f g = absurd g
-fit_joined (suc m) (suc n) (R.From a b) (R.From c d) f g =
+fit_joined : (m n : ℕ) (r s : Maybe Range) → Fit m r → Fit n s → Fit (m + n) (hull r s)
+fit_joined zero zero None None f g = tt
+fit_joined zero zero None (Some s) f g = absurd g
+fit_joined zero zero (Some r) s f g = absurd f
+fit_joined zero (suc n) None None f g = absurd g
+fit_joined zero (suc n) None (Some s) f g = rw (zero-add (suc n)) g
+fit_joined zero (suc n) (Some r) s f g = absurd f
+fit_joined (suc m) n None s f g = absurd f
+fit_joined (suc m) zero (Some r) None f g = rw (add-zero (suc m)) f
+fit_joined (suc m) zero (Some r) (Some s) f g = absurd g
+fit_joined (suc m) (suc n) (Some r) None f g = absurd g
+fit_joined (suc m) (suc n) (Some r) (Some s) f g =
     let e : suc m + suc n ≡ suc (m + suc n) = omega arith in
-    rw e (le_trans (smaller a c) a (larger b d) (first_left rising a c) (le_trans a b (larger b d) f (first_left falling b d)))
+    let low = first_left rising r.smallest s.smallest in
+    let high = first_left falling r.largest s.largest in
+    rw e (le_trans (smaller r.smallest s.smallest) r.smallest (larger r.largest s.largest) low (le_trans r.smallest r.largest (larger r.largest s.largest) f high))
 
 pub joined_fit : (t u : Tally) → Fit t.given t.range → Fit u.given u.range → Fit (joined t u).given (joined t u).range
 unfolding joined

@@ -1,12 +1,11 @@
 -- The figures of nodes. A node is its value in thousandths, or that it has none.
-use Rattle.std.specs.Prelude.{List, [], ◌∷◌, ℕ, suc, ◌+◌, ◌*◌, ◌≤◌, ℤ, pos, nat_abs, ◌+ℤ◌, zero, ◌≤ℤ◌}
+use Rattle.std.specs.Prelude.{Option as Maybe, Some, None, List, [], ◌∷◌, ℕ, suc, ◌+◌, ◌*◌, ◌≤◌, ℤ, pos, nat_abs, ◌+ℤ◌, zero, ◌≤ℤ◌}
 use Rattle.std.proofs.Math.Option.{Option, none, some}
 use Rattle.kit.specs.Answer.{pick}
 use Rattle.kit.specs.Integer.{le?}
 use Rattle.week_tally.specs.Gathered.{gathered}
 use Rattle.week_tally.specs.declared.Tally.{Tally}
 use Rattle.week_tally.specs.declared.Range.{Range}
-use Rattle.week_tally.specs.declared.Range.TheVariants as R
 use Rattle.ask_nodes.specs.Value.{or_zero}
 
 -- ---- counts
@@ -27,17 +26,20 @@ smaller a b = pick (le? a b) a b
 abbrev pub larger : ℤ → ℤ → ℤ
 larger a b = pick (le? b a) a b
 
-abbrev pub hull : Range → Range → Range
-hull R.Nothing s = s
-hull (R.From a b) R.Nothing = R.From a b
-hull (R.From a b) (R.From c d) = R.From (smaller a c) (larger b d)
+abbrev pub from : (smallest largest : ℤ) → Maybe Range
+from a b = Some (record { smallest = a; largest = b })
 
-abbrev pub point : Option ℤ → Range
-point none = R.Nothing
-point (some v) = R.From v v
+abbrev pub hull : Maybe Range → Maybe Range → Maybe Range
+hull None s = s
+hull (Some r) None = Some r
+hull (Some r) (Some s) = from (smaller r.smallest s.smallest) (larger r.largest s.largest)
 
-unfoldable pub range : List (Option ℤ) → Range
-range [] = R.Nothing
+abbrev pub point : Option ℤ → Maybe Range
+point none = None
+point (some v) = from v v
+
+unfoldable pub range : List (Option ℤ) → Maybe Range
+range [] = None
 range (n ∷ ns) = hull (point n) (range ns)
 
 -- ---- sum
@@ -61,7 +63,7 @@ joined t u =
 
 -- of nodes none of which has a value
 abbrev pub empty : ℕ → Tally
-empty k = record { given = 0; lacking = k; range = R.Nothing; sum = pos 0 }
+empty k = record { given = 0; lacking = k; range = None; sum = pos 0 }
 
 abbrev pub nothing : Tally
 nothing = empty 0
@@ -86,8 +88,8 @@ abbrev pub Ready : Tally → Type 0
 Ready t = Bounded t × (nodes_in t ≤ 1_000_000_000)
 
 -- there is a smallest and a largest exactly where a node has a value
-abbrev pub Fit : ℕ → Range → Type 0
-Fit zero R.Nothing = Unit {0}
-Fit zero (R.From a b) = ⊥
-Fit (suc k) R.Nothing = ⊥
-Fit (suc k) (R.From a b) = a ≤ℤ b
+abbrev pub Fit : ℕ → Maybe Range → Type 0
+Fit zero None = Unit {0}
+Fit zero (Some r) = ⊥
+Fit (suc k) None = ⊥
+Fit (suc k) (Some r) = r.smallest ≤ℤ r.largest

@@ -9,13 +9,13 @@ ghost use Rattle.ask_nodes.specs.Units.{bare};
 ghost use Rattle.week_tally.specs.Figures as figures;
 ghost use Rattle.week_tally.specs.Rows as rows;
 
-use ask_nodes::Node;
+use ask_nodes::Value;
 
-// The smallest and the largest value, where there is one.
+// The smallest and the largest value.
 #[derive(Clone, Copy)]
-pub enum Range {
-    Nothing,
-    From(i32, i32),
+pub struct Range {
+    pub smallest: i32,
+    pub largest: i32,
 }
 
 // Values in thousandths of the kind's unit.
@@ -23,38 +23,21 @@ pub enum Range {
 pub struct Tally {
     pub given: u64,
     pub lacking: u64,
-    pub range: Range,
+    pub range: Option<Range>,
     pub sum: i64,
 }
 
-fn smaller(a: i32, b: i32) -> i32
-    ensures { result ≡ figures.smaller a b }
-{
-    if b < a {
-        return b;
-    }
-    a
-}
-
-fn larger(a: i32, b: i32) -> i32
-    ensures { result ≡ figures.larger a b }
-{
-    if a < b {
-        return b;
-    }
-    a
-}
-
 // From the smaller of two smallest to the larger of two largest.
-fn hull(r: Range, s: Range) -> Range
+fn hull(r: Option<Range>, s: Option<Range>) -> Option<Range>
     ensures { result ≡ figures.hull r s }
 {
-    match r {
-        Range::Nothing => s,
-        Range::From(a, b) => match s {
-            Range::Nothing => r,
-            Range::From(c, d) => Range::From(smaller(a, c), larger(b, d)),
-        },
+    match (r, s) {
+        (None, _) => s,
+        (_, None) => r,
+        (Some(a), Some(b)) => Some(Range {
+            smallest: a.smallest.min(b.smallest),
+            largest: a.largest.max(b.largest),
+        }),
     }
 }
 
@@ -63,12 +46,10 @@ pub fn join(t: Tally, u: Tally) -> Tally
     requires { figures.Ready t × figures.Ready u }
     ensures { result ≡ figures.joined t u }
 {
-    let low = t.range;
-    let high = u.range;
     Tally {
         given: t.given + u.given,
         lacking: t.lacking + u.lacking,
-        range: hull(low, high),
+        range: hull(t.range, u.range),
         sum: t.sum + u.sum,
     }
 }
@@ -80,19 +61,19 @@ pub fn empty(nodes: u64) -> Tally
     Tally {
         given: 0,
         lacking: nodes,
-        range: Range::Nothing,
+        range: None,
         sum: 0,
     }
 }
 
 // The figures of one node.
-fn single(n: Node) -> Tally
+fn single(n: Option<Value>) -> Tally
     ensures { result ≡ figures.single (bare n) }
 {
     match n {
-        Node::Nothing => empty(1),
-        Node::Tecu(v) => of_value(v.0),
-        Node::Km(v) => of_value(v.0),
+        None => empty(1),
+        Some(Value::Tecu(v)) => of_value(v.0),
+        Some(Value::Km(v)) => of_value(v.0),
     }
 }
 
@@ -103,7 +84,10 @@ fn of_value(v: i32) -> Tally
     Tally {
         given: 1,
         lacking: 0,
-        range: Range::From(v, v),
+        range: Some(Range {
+            smallest: v,
+            largest: v,
+        }),
         sum: v as i64,
     }
 }
@@ -114,33 +98,13 @@ pub fn tally_of(kind: u64, values: &[i32], exponent: i32) -> Tally
     ensures { result ≡ figures.figures (map (λ v. plain v exponent) values.now) }
 {
     let mut t = empty(0);
-    let mut i: usize = 0;
-    while i < values.len() {
-        t = join(t, single(ask_nodes::node_of(kind, values[i], exponent)));
-        i += 1;
+    for &value in values {
+        t = join(t, single(ask_nodes::node_of(kind, value, exponent)));
     }
     t
 }
 
 // ---- Figures as a row of five numbers
-
-fn smallest(r: Range) -> i64
-    ensures { result ≡ rows.smallest r }
-{
-    match r {
-        Range::Nothing => 0,
-        Range::From(a, b) => a as i64,
-    }
-}
-
-fn largest(r: Range) -> i64
-    ensures { result ≡ rows.largest r }
-{
-    match r {
-        Range::Nothing => 0,
-        Range::From(a, b) => b as i64,
-    }
-}
 
 pub fn count(n: u64) -> i64
     requires { n ≤ 1_000_000_000 }
@@ -153,11 +117,13 @@ pub fn put_row(out: &mut [i64], at: usize, t: Tally)
     requires { (at + 5 ≤ length out.old) × figures.Ready t }
     ensures { out.new ≡ sets out.old at (rows.row t) }
 {
-    let range = t.range;
-    let sum = t.sum;
+    let (smallest, largest) = match t.range {
+        Some(r) => (r.smallest as i64, r.largest as i64),
+        None => (0, 0),
+    };
     out[at] = count(t.given);
     out[at + 1] = count(t.lacking);
-    out[at + 2] = smallest(range);
-    out[at + 3] = largest(range);
-    out[at + 4] = sum;
+    out[at + 2] = smallest;
+    out[at + 3] = largest;
+    out[at + 4] = t.sum;
 }

@@ -81,13 +81,11 @@ fn put_descriptions(out: &mut [u8], at: usize, n: usize, lines: &[u8]) -> usize
     ensures { Put out.old at (said.lines_rows n lines.now) out.new result }
 {
     let mut next = at;
-    let mut i = 0;
-    while i < n {
+    for i in 0..n {
         let from = LINE * i;
         let end = from + LINE;
         let row = write_head_row::description_row(&lines[from..end]);
         next = write_line::put_line(out, next, &row);
-        i += 1;
     }
     next
 }

@@ -3,12 +3,11 @@
 use mathlib.Core.Path.{◌≡◌, refl, sym, ap, ◌∙◌}
 use mathlib.Core.Bool.{true, false}
 use mathlib.Core.List.{List, [], ◌∷◌}
-use Prim.Native.Nat.{ℕ, zero, suc, ◌+◌, ◌-◌, ◌≤◌, ◌<◌}
+use Prim.Native.Nat.{ℕ, zero, suc, ◌≤◌, ◌<◌}
 use native.Mathlib.Omega.{arith}
 use native.Mathlib.Decide.{dec_le}
 use lib.IntN.{ℤ}
 use lib.ListN.{length, take, drop, length-drop}
-use lib.Seq.{drop-drop, take_all}
 use Rattle.kit.specs.Answer.{pick}
 use Rattle.kit.proofs.AnswerLaws.{pick_yes, pick_no}
 use Rattle.kit.specs.Integer.{int?}
@@ -40,14 +39,14 @@ enough (suc n) (suc m) zs h k = by (dec_le (length zs) 16) (λ g. enough n m (dr
     by (yes p) f = pick_yes (yes p) (value_row zs ∷ []) _ p ∙ sym (pick_yes (yes p) (value_row zs ∷ []) _ p)
     by (no g) f = pick_no (no g) (value_row zs ∷ []) _ g ∙ ap (λ rs. value_row (take 16 zs) ∷ rs) (f g) ∙ sym (pick_no (no g) (value_row zs ∷ []) _ g)
 
-values_last : (zs : List ℤ) → length zs ≤ 16 → value_rows (length zs) zs ≡ value_row zs ∷ []
+pub values_last : (zs : List ℤ) → length zs ≤ 16 → value_rows (length zs) zs ≡ value_row zs ∷ []
 values_last zs h = by (length zs) zs h
   where
     by : (n : ℕ) (zs : List ℤ) → length zs ≤ 16 → value_rows n zs ≡ value_row zs ∷ []
     by zero zs h = unfold value_rows in refl
     by (suc n) zs h = unfold value_rows in pick_yes (dec_le (length zs) 16) (value_row zs ∷ []) _ h
 
-values_more : (zs : List ℤ) → 16 < length zs → value_rows (length zs) zs ≡ value_row (take 16 zs) ∷ value_rows (length (drop 16 zs)) (drop 16 zs)
+pub values_more : (zs : List ℤ) → 16 < length zs → value_rows (length zs) zs ≡ value_row (take 16 zs) ∷ value_rows (length (drop 16 zs)) (drop 16 zs)
 values_more zs h = by (length zs) refl
   where
     by : (n : ℕ) → length zs ≡ n → value_rows n zs ≡ value_row (take 16 zs) ∷ value_rows (length (drop 16 zs)) (drop 16 zs)
@@ -55,18 +54,3 @@ values_more zs h = by (length zs) refl
     by (suc n) e =
         unfold value_rows in pick_no (dec_le (length zs) 16) (value_row zs ∷ []) (value_row (take 16 zs) ∷ value_rows n (drop 16 zs)) (λ k. omega arith)
         ∙ ap (λ rs. value_row (take 16 zs) ∷ rs) (enough n (length (drop 16 zs)) (drop 16 zs) (rw length-drop (omega arith)) (omega arith))
-
--- ---- the values after the first i
-
-abbrev pub values_from : ℕ → List ℤ → List (List ℕ)
-values_from i zs = value_rows (length (drop i zs)) (drop i zs)
-
-pub values_step : (zs : List ℤ) (i : ℕ) → 16 < length zs - i → values_from i zs ≡ value_row (take (i + 16 - i) (drop i zs)) ∷ values_from (i + 16) zs
-values_step zs i h =
-    let d : i + 16 - i ≡ 16 = omega arith in
-    values_more (drop i zs) (rw length-drop h) ∙ rw (d, drop-drop)
-
-pub values_rest : (zs : List ℤ) (i : ℕ) → length zs - i ≤ 16 → values_from i zs ≡ value_row (take (length zs - i) (drop i zs)) ∷ []
-values_rest zs i h =
-    let n = length-drop i zs in
-    values_last (drop i zs) (omega arith) ∙ rw (take_all (length zs - i) (drop i zs) (omega arith))

@@ -1,12 +1,12 @@
 -- A row of m values shows 5m bytes: the last of each is a digit.
 use mathlib.Core.Path.{◌≡◌, refl, sym, ap, ◌∙◌}
 use mathlib.Core.List.{List, [], ◌∷◌, ◌++◌, append_assoc, append-nil}
-use Prim.Native.Nat.{ℕ, zero, suc, ◌+◌, ◌-◌, ◌*◌, ◌≤◌, ◌<◌, ◌/◌, ◌%◌}
+use Prim.Native.Nat.{ℕ, zero, suc, ◌+◌, ◌-◌, ◌*◌, ◌≤◌, ◌/◌, ◌%◌}
 use native.Mathlib.Omega.{arith}
 use lib.IntN.{ℤ, nat_abs}
 use lib.ListN.{length, take, drop, replicate, drop_of_length-le, length-append}
 use lib.Seq.{take_at, take_all, drop-append-le}
-use Rattle.forms.specs.Form.{I, sign, pointed}
+use Rattle.forms.specs.Form.{I, sign}
 use Rattle.forms.specs.Show.{is_minus, figures, digits, with_point, aligned, show_field}
 use Rattle.forms.proofs.ShowLaws.{show_width}
 use Rattle.canonical.specs.Canon.{trimmed, cells_of, value_row}

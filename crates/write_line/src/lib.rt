@@ -17,12 +17,10 @@ use mapset::{Grid, Kind};
 fn shown(row: &[u8]) -> usize
     ensures { (result ≤ length row.now) × (take result row.now ≡ trimmed row.now) }
 {
-    let mut n = row.len();
-    while 0 < n {
-        if row[n - 1] != b' ' {
-            return n;
+    for n in (0..row.len()).rev() {
+        if row[n] != b' ' {
+            return n + 1;
         }
-        n -= 1;
     }
     0
 }
@@ -37,7 +35,7 @@ pub fn put_line(out: &mut [u8], at: usize, row: &[u8]) -> usize
     if out.len() <= e {
         return e + 1;
     }
-    write_row::copy(&row[..n], &mut out[at..e]);
+    out[at..e].copy_from_slice(&row[..n]);
     out[e] = b'\n';
     e + 1
 }
@@ -62,13 +60,13 @@ fn put_values(out: &mut [u8], at: usize, values: &[i32]) -> usize
     ensures { Put out.old at (value_rows (length values.now) values.now) out.new result }
 {
     let mut next = at;
-    let mut i = 0;
-    while 16 < values.len() - i {
-        let e = i + 16;
-        next = put_row(out, next, &values[i..e]);
-        i = e;
+    let mut rest = values;
+    while 16 < rest.len() {
+        let (line, behind) = rest.split_at(16);
+        next = put_row(out, next, line);
+        rest = behind;
     }
-    put_row(out, next, &values[i..])
+    put_row(out, next, rest)
 }
 
 // ---- Records, each with where the next line starts
@@ -96,7 +94,7 @@ fn put_exponent(out: &mut [u8], at: usize, in_force: i32, exponent: i32) -> usiz
     requires { LineRoom at (exponent_rows in_force exponent) }
     ensures { Put out.old at (exponent_rows in_force exponent) out.new result }
 {
-    if kit::same(in_force, exponent) {
+    if in_force == exponent {
         return at;
     }
     put_number(out, at, labels::EXPONENT, exponent)
@@ -137,7 +135,7 @@ pub fn put_start(out: &mut [u8], at: usize, kind: Kind, number: u64) -> usize
     ensures { Put out.old at (row_of (start kind) (pos number, tt) ∷ []) out.new result }
 {
     let k = start_label(kind);
-    put_number(out, at, k, write_row::signed(number))
+    put_number(out, at, k, number as i32)
 }
 
 pub fn put_end(out: &mut [u8], at: usize, kind: Kind, number: u64) -> usize
@@ -145,7 +143,7 @@ pub fn put_end(out: &mut [u8], at: usize, kind: Kind, number: u64) -> usize
     ensures { Put out.old at (row_of (end kind) (pos number, tt) ∷ []) out.new result }
 {
     let k = start_label(kind) + 1;
-    put_number(out, at, k, write_row::signed(number))
+    put_number(out, at, k, number as i32)
 }
 
 // EPOCH OF CURRENT MAP.

@@ -1,5 +1,4 @@
 -- The root of the laws that the functions' proofs cite.
-mod CopyLaws
 pub mod RowLaws
 mod NumberLaws
 mod OpeningLaws

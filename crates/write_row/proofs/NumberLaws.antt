@@ -1,3 +1,4 @@
+use Rattle.std.specs.Prelude.{Option, Some, None}
 -- Numbers that are written: a node, a date.
 use mathlib.Core.Path.{◌≡◌, sym}
 use Prim.Native.Nat.{ℕ, ◌-◌, ◌<◌, ◌^◌}
@@ -14,8 +15,6 @@ use Rattle.calendar.specs.End.{end}
 use Rattle.calendar.proofs.DateLaws.{date_once, dated_below}
 use Rattle.days.proofs.YearLaws.{month_le}
 use Rattle.calendar.specs.declared.Epoch.{Epoch}
-use Rattle.calendar.specs.declared.DateFound.{DateFound}
-use Rattle.calendar.specs.declared.DateFound.TheVariants as D
 use Rattle.canonical.specs.Canon.{no_date, date_of, Wide}
 use Rattle.canonical.proofs.HeadRows.{date_is}
 
@@ -31,13 +30,13 @@ date_past : (t : ℕ) → ¬ (t < end) → no_date ≡ date_of t
 unfolding date_of
 date_past t n = sym (pick_no (dec_lt t end) (date_at t) no_date n)
 
-module _ (t : ℕ) (f : DateFound) (a : The (λ e. DateAt e t) (told_found f)) where
-  pub date_found : (e : Epoch) → f ≡ D.Date e → e ≡ date_of t
+module _ (t : ℕ) (f : Option Epoch) (a : The (λ e. DateAt e t) (told_found f)) where
+  pub date_found : (e : Epoch) → f ≡ Some e → e ≡ date_of t
   date_found e q =
       let d : DateAt e t = rw q at a in
       date_once t e (date_of t) d (date_is t (dated_below _ _ _ _ _ _ t d))
 
-  pub date_refused : f ≡ D.Refused → no_date ≡ date_of t
+  pub date_refused : f ≡ None → no_date ≡ date_of t
   date_refused q = let r = rw q at a in date_past t (λ h. r.1 (date_of t) (date_is t h))
 
 -- each of its numbers is small

@@ -9,18 +9,10 @@ ghost use Rattle.canonical.specs.Canon.{row_of, date_of, six, Wide};
 ghost use Rattle.canonical.specs.Canon as canon;
 ghost use Rattle.write_row.specs.Rows.{row_at, whole, three, six_whole, opening_of, Placed};
 
-use calendar::{DateFound, Epoch};
+use calendar::Epoch;
 use mapset::{Axis, Grid};
 
 // ---- Bytes
-
-// The bytes of one slice into another of its length.
-pub fn copy(from: &[u8], to: &mut [u8])
-    requires { length to.old ≡ length from.now }
-    ensures { to.new ≡ from.now }
-{
-    kit::copy_at(from, to, 0);
-}
 
 // A text, as it stands, into the columns after the first a.
 pub fn put_text(line: &mut [u8], a: usize, text: &[u8])
@@ -28,7 +20,7 @@ pub fn put_text(line: &mut [u8], a: usize, text: &[u8])
     ensures { line.new ≡ take a line.old ++ (text.now ++ drop (a + length text.now) line.old) }
 {
     let e = a + text.len();
-    copy(text, &mut line[a..e]);
+    line[a..e].copy_from_slice(text);
 }
 
 // ---- Rows by the place of their label in LABELS
@@ -67,21 +59,13 @@ pub fn three_row(k: usize, x: i32, y: i32, z: i32) -> [u8; 80]
     row
 }
 
-// A natural number as a record's.
-pub fn signed(n: u64) -> i32
-    requires { n < 2 ^ 31 }
-    ensures { result ≡ pos n }
-{
-    n as i32
-}
-
 // The date of a second, zeros after 2199.
 fn date(second: u64) -> Epoch
     ensures { result ≡ date_of second }
 {
     match Epoch::at_second(second) {
-        DateFound::Date(e) => e,
-        DateFound::Refused => Epoch {
+        Some(e) => e,
+        None => Epoch {
             year: 0,
             month: 0,
             day: 0,
@@ -143,10 +127,8 @@ pub fn value_row(values: &[i32]) -> [u8; 80]
     ensures { result ≡ canon.value_row values.now }
 {
     let mut row = [b' '; 80];
-    let mut i = 0;
-    while i < values.len() {
-        numerals::put_int(&mut row, 5 * i, 5, values[i]);
-        i += 1;
+    for (i, z) in values.iter().enumerate() {
+        numerals::put_int(&mut row, 5 * i, 5, *z);
     }
     row
 }

@@ -2,6 +2,7 @@
 use mathlib.Core.Path.{◌≡◌, refl, sym, ap, ◌∙◌}
 use mathlib.Core.Logic.{◌↔◌}
 use mathlib.Core.List.{List, [], ◌∷◌, ◌++◌}
+use Rattle.std.specs.Prelude.{Result, Ok, Err}
 use Prim.Native.Nat.{ℕ, ◌≤◌}
 use native.Mathlib.Omega.{arith}
 use native.Mathlib.Decide.{dec_le}
@@ -17,30 +18,30 @@ use Rattle.canonical.proofs.Exact.{valid_exactly, round_trip}
 use Rattle.canonical.specs.CanonOf.{canon_of}
 use Rattle.write_text.specs.Write.{ToldWriting, done, refused, told, written}
 use Rattle.write_text.proofs.WriteLaws.{written_unsound, written_short, written_done}
-use Rattle.write_text.specs.declared.Written.{Written}
-use Rattle.write_text.specs.declared.Written.TheVariants as W
+use Rattle.write_text.specs.declared.Unwritten.{Unwritten}
+use Rattle.write_text.specs.declared.Unwritten.TheVariants.{Short, Unsound}
 
 -- r and the output o' are what the contract asks for
-abbrev pub Writes : Header → FullTexts → Areas → (o : List ℕ) (r : Written) (o' : List ℕ) → Type 0
+abbrev pub Writes : Header → FullTexts → Areas → (o : List ℕ) (r : Result ℕ Unwritten) (o' : List ℕ) → Type 0
 Writes h t a o r o' = ◌≡◌ {A = ToldWriting × List ℕ} (told r, o') (written h t a o)
 
-told_once : (r r' : Written) → told r ≡ told r' → r ≡ r'
-told_once (W.Bytes m) (W.Bytes n) e = let z : m ≡ n = cc in ap W.Bytes z
-told_once (W.Bytes m) (W.Short n) e = let z : ◌≡◌ {A = ℕ} 0 1 = cc in absurd (omega arith)
-told_once (W.Bytes m) W.Unsound e = let z : ◌≡◌ {A = ℕ} 0 1 = cc in absurd (omega arith)
-told_once (W.Short m) (W.Bytes n) e = let z : ◌≡◌ {A = ℕ} 0 1 = cc in absurd (omega arith)
-told_once (W.Short m) (W.Short n) e = let z : m ≡ n = cc in ap W.Short z
-told_once (W.Short m) W.Unsound e = let z : ◌≡◌ {A = ℕ} 30 31 = cc in absurd (omega arith)
-told_once W.Unsound (W.Bytes n) e = let z : ◌≡◌ {A = ℕ} 0 1 = cc in absurd (omega arith)
-told_once W.Unsound (W.Short n) e = let z : ◌≡◌ {A = ℕ} 30 31 = cc in absurd (omega arith)
-told_once W.Unsound W.Unsound e = refl
+told_once : (r r' : Result ℕ Unwritten) → told r ≡ told r' → r ≡ r'
+told_once (Ok m) (Ok n) e = cc
+told_once (Ok m) (Err (Short n)) e = cc
+told_once (Ok m) (Err Unsound) e = cc
+told_once (Err (Short m)) (Ok n) e = cc
+told_once (Err (Short m)) (Err (Short n)) e = cc
+told_once (Err (Short m)) (Err Unsound) e = let z : ◌≡◌ {A = ℕ} 30 31 = cc in absurd (omega arith)
+told_once (Err Unsound) (Ok n) e = cc
+told_once (Err Unsound) (Err (Short n)) e = let z : ◌≡◌ {A = ℕ} 30 31 = cc in absurd (omega arith)
+told_once (Err Unsound) (Err Unsound) e = refl
 
 module _ (h : Header) (t : FullTexts) (a : Areas) (o : List ℕ) where
   -- no second result and no second output fit
-  pub write_once : (r r' : Written) (o' o'' : List ℕ) → Writes h t a o r o' → Writes h t a o r' o'' → (r ≡ r') × (o' ≡ o'')
+  pub write_once : (r r' : Result ℕ Unwritten) (o' o'' : List ℕ) → Writes h t a o r o' → Writes h t a o r' o'' → (r ≡ r') × (o' ≡ o'')
   write_once r r' o' o'' p q = let e = p ∙ sym q in (told_once r r' (ap (λ (x : ToldWriting × List ℕ). x.0) e), ap (λ (x : ToldWriting × List ℕ). x.1) e)
 
-  module _ (r : Written) (o' : List ℕ) (w : Writes h t a o r o') where
+  module _ (r : Result ℕ Unwritten) (o' : List ℕ) (w : Writes h t a o r o') where
     -- 31 exactly when no text means this map set
     pub refused_exactly : (told r ≡ refused 31 []) ↔ (¬ ((x : List ℕ) × Means h t a x))
     refused_exactly = (λ e m. valid_told ((valid_exactly h t a).1 m) e, λ n. ap (λ (x : ToldWriting × List ℕ). x.0) (w ∙ written_unsound h t a o (λ v. n ((valid_exactly h t a).0 v))))

@@ -2,6 +2,7 @@
 -- small text of `reading`, in front of whatever the areas hold behind it.
 use mathlib.Core.Path.{◌≡◌, ap, ◌∙◌}
 use mathlib.Core.List.{List}
+use Rattle.std.specs.Prelude.{Result}
 use Prim.Native.Nat.{ℕ, ◌≤◌}
 use lib.ListN.{length}
 use Rattle.mapset.specs.Areas.{Areas}
@@ -15,7 +16,7 @@ use Rattle.canonical.specs.CanonOf.{canon_of}
 use Rattle.write_text.specs.Write.{ToldWriting, done, told}
 use Rattle.write_text.proofs.WriteLaws.{written_done}
 use Rattle.write_text.proofs.Exactly.{Writes}
-use Rattle.write_text.specs.declared.Written.{Written}
+use Rattle.write_text.specs.declared.Unwritten.{Unwritten}
 
 abbrev pub held : Areas → Areas
 held l = fronts (areas small_set) l
@@ -26,6 +27,6 @@ small_valid l = fronts_valid small_set (made_formed small_made) l
 abbrev small_canon : Areas → List ℕ
 small_canon l = canon_of small_set.header small_set.texts (held l)
 
-pub not_refused : (l : Areas) (o : List ℕ) (r : Written) (o' : List ℕ) → length (small_canon l) ≤ length o
+pub not_refused : (l : Areas) (o : List ℕ) (r : Result ℕ Unwritten) (o' : List ℕ) → length (small_canon l) ≤ length o
     → Writes small_set.header small_set.texts (held l) o r o' → told r ≡ done (length (small_canon l))
 not_refused l o r o' h w = ap (λ (x : ToldWriting × List ℕ). x.0) (w ∙ written_done small_set.header small_set.texts (held l) o (small_valid l) h)

@@ -1,5 +1,5 @@
 -- What writing answers, and what it leaves in the lent output.
-use Rattle.std.specs.Prelude.{List, [], ◌∷◌, ◌++◌, ℕ, length, drop}
+use Rattle.std.specs.Prelude.{List, [], ◌∷◌, ◌++◌, ℕ, length, drop, Result, Ok, Err}
 use Rattle.std.proofs.Math.Decide.{dec_le}
 use Rattle.kit.specs.Answer.{pick}
 use Rattle.mapset.specs.declared.Header.{Header}
@@ -7,18 +7,18 @@ use Rattle.mapset.specs.Described.{FullTexts}
 use Rattle.mapset.specs.Areas.{Areas}
 use Rattle.valid.specs.Validity.{validity}
 use Rattle.canonical.specs.CanonOf.{canon_of}
-use Rattle.write_text.specs.declared.Written.{Written}
-use Rattle.write_text.specs.declared.Written.TheVariants as W
+use Rattle.write_text.specs.declared.Unwritten.{Unwritten}
+use Rattle.write_text.specs.declared.Unwritten.TheVariants.{Short, Unsound}
 
 -- so many bytes written; or 01's number, with what comes back
 pub data ToldWriting : Type 0 where
   done : (bytes : ℕ) → ToldWriting
   refused : (number : ℕ) (back : List ℕ) → ToldWriting
 
-abbrev pub told : Written → ToldWriting
-told (W.Bytes n) = done n
-told (W.Short n) = refused 30 (n ∷ [])
-told W.Unsound = refused 31 []
+abbrev pub told : Result ℕ Unwritten → ToldWriting
+told (Ok n) = done n
+told (Err (Short n)) = refused 30 (n ∷ [])
+told (Err Unsound) = refused 31 []
 
 -- a text x for an output o: in front, with what stood behind it; or, where it is too long, the output as it was
 abbrev pub fitted : (x o : List ℕ) → ToldWriting × List ℕ

@@ -35,15 +35,14 @@ fn put_text(
     )
 }
 
-// What writing answers: the bytes written, the bytes needed (30), or that this is no map set (31).
+// Why nothing is written: the output is shorter than the bytes needed (30), or this is no map set (31).
 #[derive(Clone, Copy)]
-pub enum Written {
-    Bytes(u64),
+pub enum Unwritten {
     Short(u64),
     Unsound,
 }
 
-// The text is measured in none of the output, so that 30 leaves it as it was.
+// The bytes written. The text is measured in none of the output, so that 30 leaves it as it was.
 pub fn write_text(
     header: Header,
     texts: Texts,
@@ -55,7 +54,7 @@ pub fn write_text(
     epochs: &[u64],
     marks: &[u8],
     out: &mut [u8],
-) -> Written
+) -> Result<u64, Unwritten>
     ensures { ◌≡◌ {A = ToldWriting × List ℕ} (told result, out.new) (written header (full texts descriptions.now)
         (six tec.now rms.now height.now exponents.now epochs.now marks.now)
         out.old) }
@@ -71,7 +70,7 @@ pub fn write_text(
         epochs,
         marks,
     ) {
-        return Written::Unsound;
+        return Err(Unwritten::Unsound);
     }
     let nothing: usize = 0;
     let needed = put_text(
@@ -88,7 +87,7 @@ pub fn write_text(
         marks,
     );
     if out.len() < needed {
-        return Written::Short(needed as u64);
+        return Err(Unwritten::Short(needed as u64));
     }
     let end = put_text(
         out,
@@ -103,5 +102,5 @@ pub fn write_text(
         epochs,
         marks,
     );
-    Written::Bytes(end as u64)
+    Ok(end as u64)
 }

@@ -9,6 +9,5 @@ returns-then-kind-eq2 c = no_delay (omega (arith, c.if-kind-eq2.true))
 
 pub returns : goal.returns
 returns c =
-    let s = c.before.before.before.before.before.before in
-    let a = rw (to_z-of_z s.ranges.lat, to_z-of_z s.ranges.lon) at c.ask-asked.ensures in
+    let a = rw (to_z-of_z c.ranges.lat, to_z-of_z c.ranges.lon) at c.ask-asked.ensures in
     turns _ _ (λ e. omega (arith, e, c.if-kind-eq2.false)) _ a _ c.turned.ensures

@@ -5,22 +5,13 @@ use native.Mathlib.Omega.{arith}
 use lib.ListN.{get_or}
 use Rattle.ask_nodes.specs.Value.{corner}
 use Rattle.ask_sums.specs.Sums.{four}
-use Rattle.ask_sums.proofs.SumLaws.{plain_node, strip_node, beside_less}
+use Rattle.ask_sums.proofs.SumLaws.{plain_node, strip_node}
 use Rattle.ask_sums.proofs.corner_of.Goals as goal
-
-pub cell_node-requires : goal.cell_node-requires
-cell_node-requires c = let s = c.before.before.before in (s.requires.0, omega (arith, c.other.ensures, beside_less s.args.k))
 
 pub returns-then-c : goal.returns-then-c
 returns-then-c c =
-    let s = c.before.before.before.before in
-    let a = s.args in
-    c.cell_node.ensures ∙ ap (λ (k : ℕ). get_or (four a.share a.map a.c) k (corner 0 0 0 0)) c.other.ensures ∙ sym (strip_node a.share a.map a.c a.k s.requires.1 c.if-c.true)
-
-pub cell_node-requires-2 : goal.cell_node-requires-2
-cell_node-requires-2 c = c.requires
+    let a = c.args in
+    c.cell_node.ensures ∙ ap (λ (k : ℕ). get_or (four a.share a.map a.c) k (corner 0 0 0 0)) c.other.ensures ∙ sym (strip_node a.share a.map a.c a.k c.requires.1 c.if-c.true)
 
 pub returns : goal.returns
-returns c =
-    let a = c.args in
-    c.cell_node-2.ensures ∙ sym (plain_node a.share a.map a.c a.k (λ p. omega (arith, p, c.if-c.false)))
+returns c = c.cell_node-2.ensures ∙ sym (plain_node c.args.share c.args.map c.args.c c.args.k (λ p. omega (arith, p, c.if-c.false)))

@@ -1,13 +1,12 @@
-use mathlib.Core.Path.{◌≡◌}
+use Prim.Native.Nat.{◌-◌}
 use lib.ListN.{length}
 use Rattle.bias_fill.specs.Flat.{lent}
-use Rattle.bias_fill.specs.Filled.{Stays, left}
+use Rattle.bias_fill.specs.Filled.{Stays}
 use Rattle.bias_fill.proofs.fill_areas.Given as goal
 
-abbrev pub invariant-loop-f : goal.invariant-loop-f
-invariant-loop-f l =
-    Stays l.text (lent l.initial.satellites l.initial.stations l.initial.names) l.f (lent l.satellites l.stations l.names) l.f.done
-    × (length l.satellites ≡ length l.initial.satellites) × (length l.stations ≡ length l.initial.stations) × (length l.names ≡ length l.initial.names)
+abbrev pub invariant-loop-next : goal.invariant-loop-next
+invariant-loop-next l =
+    Stays l.text (lent l.initial.satellites l.initial.stations l.initial.names) l.f (lent l.satellites l.stations l.names)
 
-abbrev pub decreases-loop-f : goal.decreases-loop-f
-decreases-loop-f l = left l.text l.f l.f.done
+abbrev pub decreases-loop-next : goal.decreases-loop-next
+decreases-loop-next l = length l.text - l.f.cursor.at

@@ -1,26 +1,21 @@
 -- `bias_fill::store_station` meets its contract.
-use mathlib.Core.Path.{◌≡◌, refl, sym, ap, ◌∙◌}
+use mathlib.Core.Path.{◌≡◌, refl, sym}
+use Prim.Native.Nat.{◌*◌}
 use native.Mathlib.Omega.{arith}
 use lib.ListN.{length}
-use Rattle.bias_line.specs.Lines.{told_station}
-use Rattle.bias_line.specs.declared.StationSaid.{StationSaid}
 use borrow.Author.Rules.{rules}
+use Rattle.bias_fill.proofs.FilledLaws.{mid_sets}
 use Rattle.bias_fill.proofs.store_station.Goals as goal
 
 pub put_station-requires : goal.put_station-requires
-put_station-requires c =
-    let e = (sym c.station-read.ensures ∙ ap (λ (v : StationSaid). told_station v c.station-read.result.station) c.in-Given.is) in
-    rw e at c.requires.1
+put_station-requires c = rw (sym c.in-Ok.ensures) at c.requires.1
 
-pub copy_at-requires : goal.copy_at-requires
-copy_at-requires c =
-    let e = (sym c.station-read.ensures ∙ ap (λ (v : StationSaid). told_station v c.station-read.result.station) c.in-Given.is) in
-    rw e at c.requires.2
+pub returns-in-Err : goal.returns-in-Err
+returns-in-Err c = rw (← c.in-Err.ensures) (omega arith, refl, refl, refl)
 
-pub returns-in-Refused : goal.returns-in-Refused
-returns-in-Refused c = rw (sym c.station-read.ensures ∙ ap (λ (v : StationSaid). told_station v c.station-read.result.station) c.in-Refused.is) (omega arith, refl, refl, refl)
-
-pub returns-in-Given : goal.returns-in-Given
-returns-in-Given c =
-    let n : length c.station-read.result.station.name ≡ 20 = search rules in
-    rw (sym c.station-read.ensures ∙ ap (λ (v : StationSaid). told_station v c.station-read.result.station) c.in-Given.is) (refl, n, c.put_station.ensures, c.copy_at.ensures)
+pub returns-in-Ok : goal.returns-in-Ok
+returns-in-Ok c =
+    let n : length c.in-Ok.s.name ≡ 20 = search rules in
+    let a = c.args in
+    let h = rw (sym c.in-Ok.ensures) at c.requires.2 in
+    rw (← c.in-Ok.ensures) (refl, n, c.put_station.ensures, mid_sets a.names.now c.in-Ok.s.name c.copy_from_slice.new.self (20 * a.k) 20 (sym n) (omega arith) c.copy_from_slice.ensures.after)

@@ -1,22 +1,29 @@
 -- `bias_line::pair_after` meets its contract.
-use mathlib.Core.Path.{refl, sym, ◌∙◌}
-use Rattle.reading.specs.Fields.{number, blank_to}
+use mathlib.Core.Path.{refl}
+use mir.Syntax.{w32}
+use mir.Val.{SFits}
+use mir.Facts.{to_z-of_z}
+use Rattle.kit.specs.Answer.{bind}
 use Rattle.bias_line.specs.Lines.{pair_in, pair_after}
+use Rattle.bias_line.proofs.LineLaws.{number_binds, unless_binds}
 use borrow.Author.Rules.{rules}
 use Rattle.bias_line.proofs.pair_after.Goals as goal
 
-pub returns-in-Bad : goal.returns-in-Bad
-unfolding pair_after pair_in number blank_to
-returns-in-Bad c = rw (sym c.thousandths_at.ensures ∙ c.in-Bad.is) refl
+pub returns-in_err-x : goal.returns-in_err-x
+unfolding pair_after pair_in bind
+returns-in_err-x c = rw (← c.thousandths_at.ensures, number_binds, ← c.in_err-x.ensures) (search rules)
 
-pub returns-in-Bad-thousandths_at : goal.returns-in-Bad-thousandths_at
-unfolding pair_after pair_in number blank_to
-returns-in-Bad-thousandths_at c = rw (sym c.thousandths_at.ensures ∙ c.in-Number.is, sym c.thousandths_at-in-Number.ensures ∙ c.in-Bad-thousandths_at.is) refl
+pub returns-in_err-y : goal.returns-in_err-y
+unfolding pair_after pair_in bind
+returns-in_err-y c = rw (← c.thousandths_at.ensures, number_binds, ← c.in_ok-x.ensures, ← c.thousandths_at-2.ensures, number_binds, ← c.in_err-y.ensures) (search rules)
 
-pub returns-in-At : goal.returns-in-At
-unfolding pair_after pair_in number blank_to
-returns-in-At c = rw (sym c.thousandths_at.ensures ∙ c.in-Number.is, sym c.thousandths_at-in-Number.ensures ∙ c.in-Number-thousandths_at.is, sym c.first_not_blank.ensures ∙ c.in-At.is) refl
+pub returns-in_err-blank : goal.returns-in_err-blank
+unfolding pair_after pair_in bind
+returns-in_err-blank c = rw (← c.thousandths_at.ensures, number_binds, ← c.in_ok-x.ensures, ← c.thousandths_at-2.ensures, number_binds, ← c.in_ok-y.ensures, unless_binds, ← c.in_err-blank.ensures) (search rules)
 
-pub returns-in-Nowhere : goal.returns-in-Nowhere
-unfolding pair_after pair_in number blank_to
-returns-in-Nowhere c = rw (sym c.thousandths_at.ensures ∙ c.in-Number.is, sym c.thousandths_at-in-Number.ensures ∙ c.in-Number-thousandths_at.is, sym c.first_not_blank.ensures ∙ c.in-Nowhere.is) (search rules)
+pub returns : goal.returns
+unfolding pair_after pair_in bind
+returns c =
+    let x : SFits w32 c.in_ok-x.x = search rules in
+    let y : SFits w32 c.in_ok-y.y = search rules in
+    rw (to_z-of_z x, to_z-of_z y, ← c.thousandths_at.ensures, number_binds, ← c.in_ok-x.ensures, ← c.thousandths_at-2.ensures, number_binds, ← c.in_ok-y.ensures, unless_binds, ← c.in_ok-blank.ensures) refl

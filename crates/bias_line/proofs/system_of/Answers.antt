@@ -1,20 +1,14 @@
 -- `bias_line::system_of` meets its contract.
-use mathlib.Core.Path.{sym, ◌∙◌}
-use native.Mathlib.Decide.{ℕ_discrete}
-use Rattle.kit.proofs.AnswerLaws.{pick_yes, pick_no}
-use Rattle.kit.specs.Answer.{⊎_dec}
-use Rattle.kit.proofs.TruthLaws.{either, eq_tells, truth_true, truth_false}
-use Rattle.bias_line.specs.Lines.{system_letter}
+use mathlib.Core.Logic.{inl, inr, ⊎_elim}
+use native.Mathlib.Omega.{arith}
+use Rattle.bias_line.proofs.LineLaws.{letter_g, letter_r, letter_none}
 use Rattle.bias_line.proofs.system_of.Goals as goal
 
-pub returns-then-letter : goal.returns-then-letter
-unfolding system_letter
-returns-then-letter c = sym (pick_yes (⊎_dec (ℕ_discrete _ _) (ℕ_discrete _ _)) _ _ (truth_true _ (sym (either (ℕ_discrete _ _) (ℕ_discrete _ _) (eq_tells _ _) (eq_tells _ _)) ∙ c.if-letter.true)))
+pub returns-in-71 : goal.returns-in-71
+returns-in-71 c = letter_g c.args.letter (⊎_elim inr inl c.in-71.is)
 
-pub returns-then-letter-eq82 : goal.returns-then-letter-eq82
-unfolding system_letter
-returns-then-letter-eq82 c = sym (pick_no (⊎_dec (ℕ_discrete _ _) (ℕ_discrete _ _)) _ _ (truth_false _ (sym (either (ℕ_discrete _ _) (ℕ_discrete _ _) (eq_tells _ _) (eq_tells _ _)) ∙ c.if-letter.false)) ∙ pick_yes (ℕ_discrete _ _) _ _ c.if-letter-eq82.true)
+pub returns-in-82 : goal.returns-in-82
+returns-in-82 c = letter_r c.args.letter c.in-82.is
 
-pub returns : goal.returns
-unfolding system_letter
-returns c = sym (pick_no (⊎_dec (ℕ_discrete _ _) (ℕ_discrete _ _)) _ _ (truth_false _ (sym (either (ℕ_discrete _ _) (ℕ_discrete _ _) (eq_tells _ _) (eq_tells _ _)) ∙ c.if-letter.false)) ∙ pick_no (ℕ_discrete _ _) _ _ c.if-letter-eq82.false)
+pub returns-in_default : goal.returns-in_default
+returns-in_default c = letter_none c.args.letter (λ e. grind arith) (λ e. grind arith) (λ e. grind arith)

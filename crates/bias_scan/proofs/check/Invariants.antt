@@ -1,10 +1,5 @@
-use Prim.Native.Nat.{◌-◌, ◌≤◌}
-use Rattle.bias_scan.specs.Held.{Stood, Clear}
+use Rattle.bias_scan.specs.Held.{StoodAt, Clear}
 use Rattle.bias_scan.proofs.check.Given as goal
 
-abbrev pub invariant-loop-rows : goal.invariant-loop-rows
-invariant-loop-rows l =
-    Stood l.text l.rows l.at l.lines l.place × Clear l.text l.initial.rows l.rows × (l.initial.rows ≤ l.rows) × (l.rows ≤ l.limit)
-
-abbrev pub decreases-loop-rows : goal.decreases-loop-rows
-decreases-loop-rows l = l.limit - l.rows
+abbrev pub invariant-loop-row : goal.invariant-loop-row
+invariant-loop-row l = StoodAt l.text l.row l.next × Clear l.text l.from.rows l.row

@@ -1,5 +1,4 @@
 -- `bias_scan::fresh` meets its contract.
-use Prim.Native.Nat.{◌-◌}
 use native.Mathlib.Omega.{arith}
 use Rattle.bias_scan.proofs.HeldLaws.{stood_first, clear_none}
 use Rattle.bias_scan.proofs.fresh.Goals as goal

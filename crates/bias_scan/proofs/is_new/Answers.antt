@@ -1,7 +1,7 @@
 -- `bias_scan::is_new` meets its contract.
 use mathlib.Core.Path.{◌≡◌, subst}
 use native.Mathlib.Omega.{arith}
-use Prim.Native.Nat.{ℕ, ◌-◌}
+use Prim.Native.Nat.{ℕ}
 use Rattle.kit.specs.Answer.{all_dec, ¬_dec}
 use Rattle.kit.proofs.TruthLaws.{holds, fails}
 use Rattle.biases.specs.Read.{same_station?}
@@ -10,28 +10,34 @@ use Rattle.bias_scan.specs.Turns.{Looks, Unheard}
 use Rattle.bias_scan.proofs.LookLaws.{looking_first, looking_on, looking_same, looking_still}
 use Rattle.bias_scan.proofs.is_new.Goals as goal
 
-pub loop-i-init : goal.loop-i-init
-loop-i-init c = (omega arith, looking_first c.args.text.now c.args.x)
+pub loop-row-init : goal.loop-row-init
+loop-row-init c = looking_first c.args.text.now c.args.x
 
 pub look-requires : goal.look-requires
-look-requires c = (c.loop-i.invariant.1.within, c.loop-i.invariant.1.lines)
+look-requires c = (c.loop-row.invariant.within, c.loop-row.invariant.lines)
 
 pub returns-in-Same : goal.returns-in-Same
-returns-in-Same c = fails (all_dec (λ y. ¬_dec (same_station? c.args.x y)) (walked c.args.rows (first c.args.text.now)).given.stations) (looking_same c.args.text.now c.args.x c.loop-i.i c.loop-i.at c.loop-i.lines c.loop-i.place c.loop-i.invariant.1 c.args.rows (omega arith) (subst (Looks c.args.text.now c.loop-i.at c.loop-i.lines c.loop-i.place c.args.x) c.in-Same.is c.look.ensures))
+returns-in-Same c =
+    let a = c.args in
+    let l = c.loop-row in
+    let o = subst (Looks a.text.now l.next.at l.next.lines l.next.place a.x) c.in-Same.is c.look.ensures in
+    fails (all_dec (λ y. ¬_dec (same_station? a.x y)) (walked a.rows (first a.text.now)).given.stations) (looking_same a.text.now a.x l._row l.next.at l.next.lines l.next.place l.invariant a.rows (omega arith) o)
 
 pub returns-in-Nothing : goal.returns-in-Nothing
-returns-in-Nothing c = holds (all_dec (λ y. ¬_dec (same_station? c.args.x y)) (walked c.args.rows (first c.args.text.now)).given.stations) (looking_still c.args.text.now c.args.x c.loop-i.i c.loop-i.at c.loop-i.lines c.loop-i.place c.loop-i.invariant.1 c.args.rows (omega arith) (subst (Looks c.args.text.now c.loop-i.at c.loop-i.lines c.loop-i.place c.args.x) c.in-Nothing.is c.look.ensures))
+returns-in-Nothing c =
+    let a = c.args in
+    let l = c.loop-row in
+    let o = subst (Looks a.text.now l.next.at l.next.lines l.next.place a.x) c.in-Nothing.is c.look.ensures in
+    holds (all_dec (λ y. ¬_dec (same_station? a.x y)) (walked a.rows (first a.text.now)).given.stations) (looking_still a.text.now a.x l._row l.next.at l.next.lines l.next.place l.invariant a.rows (omega arith) o)
 
-pub overflow_add-i : goal.overflow_add-i
-overflow_add-i c = omega arith
-
-pub loop-i-smaller : goal.loop-i-smaller
-loop-i-smaller c = omega arith
-
-pub loop-i-preserved : goal.loop-i-preserved
-loop-i-preserved c = (omega arith, looking_on c.args.text.now c.args.x c.loop-i.i c.loop-i.at c.loop-i.lines c.loop-i.place c.loop-i.invariant.1 _ _ _ (subst (Looks c.args.text.now c.loop-i.at c.loop-i.lines c.loop-i.place c.args.x) c.in-Other.is c.look.ensures))
+pub loop-row-preserved : goal.loop-row-preserved
+loop-row-preserved c =
+    let a = c.args in
+    let l = c.loop-row in
+    looking_on a.text.now a.x l._row l.next.at l.next.lines l.next.place l.invariant _ _ _ (subst (Looks a.text.now l.next.at l.next.lines l.next.place a.x) c.in-Other.is c.look.ensures)
 
 pub returns : goal.returns
 returns c =
-    let e : c.loop-i.i ≡ c.args.rows = omega arith in
-    holds (all_dec (λ y. ¬_dec (same_station? c.args.x y)) (walked c.args.rows (first c.args.text.now)).given.stations) (subst (λ (k : ℕ). Unheard c.args.x (walked k (first c.args.text.now)).given) e c.loop-i.invariant.1.unheard)
+    let a = c.args in
+    let e : c.loop-row._row ≡ a.rows = omega arith in
+    holds (all_dec (λ y. ¬_dec (same_station? a.x y)) (walked a.rows (first a.text.now)).given.stations) (subst (λ (k : ℕ). Unheard a.x (walked k (first a.text.now)).given) e c.loop-row.invariant.unheard)

@@ -8,8 +8,6 @@ use Rattle.kit.specs.Answer.{ok, refused}
 use Rattle.kit.proofs.TruthLaws.{fails, tells}
 use Rattle.layout.specs.Text.{pad}
 use Rattle.biases.specs.Read.{station_of}
-use Rattle.bias_line.specs.Lines.{told_station}
-use Rattle.bias_line.specs.declared.StationSaid.{StationSaid}
 use Rattle.bias_scan.specs.Turns.{heard?}
 use Rattle.bias_scan.proofs.LookLaws.{not_named, same_name}
 use borrow.Author.Rules.{rules}
@@ -25,15 +23,11 @@ returns-then-not-has c =
     let n : length c.args.x.name ≡ 20 = search rules in
     fails (heard? c.args.x (station_of (pad c.args.line.now))) (not_named c.args.line.now c.requires c.args.x n (sym c.has.ensures ∙ not-true _ (ap not c.if-not-has.true)))
 
-pub returns-in-Refused : goal.returns-in-Refused
-returns-in-Refused c =
-    let e = sym c.station-r.ensures ∙ ap (λ (s : StationSaid). told_station s c.station-r.result.station) c.in-Refused.is in
-    rw e (fails (heard? c.args.x (refused _)) (λ h. h))
+pub returns-in-Err : goal.returns-in-Err
+returns-in-Err c = rw (← c.in-Err.ensures) (fails (heard? c.args.x (refused _)) (λ h. h))
 
-pub returns-in-Given : goal.returns-in-Given
-returns-in-Given c =
+pub returns-in-Ok : goal.returns-in-Ok
+returns-in-Ok c =
     let n : length c.args.x.name ≡ 20 = search rules in
-    let y = c.station-r.result.station in
-    let e = sym c.station-r.ensures ∙ ap (λ (s : StationSaid). told_station s c.station-r.result.station) c.in-Given.is in
-    let m = same_name c.args.line.now c.requires c.args.x n (sym c.has.ensures ∙ not-false _ (ap not c.if-not-has.false)) y e in
-    rw e (tells _ (heard? c.args.x (ok y)) (λ q. (eqb-true _ _ q, m)) (λ q h. eqb-false _ _ q h.0))
+    let m = same_name c.args.line.now c.requires c.args.x n (sym c.has.ensures ∙ not-false _ (ap not c.if-not-has.false)) c.in-Ok.y (sym c.in-Ok.ensures) in
+    rw (← c.in-Ok.ensures) (tells _ (heard? c.args.x (ok c.in-Ok.y)) (λ q. (eqb-true _ _ q, m)) (λ q h. eqb-false _ _ q h.0))

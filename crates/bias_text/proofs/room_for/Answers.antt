@@ -1,30 +1,18 @@
 -- `bias_text::room_for` meets its contract.
-use mathlib.Core.Path.{sym, ◌∙◌}
-use mathlib.Core.Option.{some}
-use Prim.Native.Nat.{ℕ, ◌*◌, ◌≤◌}
-use native.Mathlib.Omega.{arith}
-use native.Mathlib.Decide.{dec_le}
-use Rattle.kit.proofs.AnswerLaws.{pick_yes, pick_no}
-use Rattle.read_needs.specs.Needs.{first_short}
+use mathlib.Core.Path.{◌∙◌}
+use Rattle.std.proofs.lemmas.Result.{err_from_is_err_and}
+use Rattle.read_needs.proofs.ShortLaws.{short_here, enough_here}
 use Rattle.bias_text.proofs.room_for.Goals as goal
 
-pub returns-then-satellites-given : goal.returns-then-satellites-given
-unfolding first_short
-returns-then-satellites-given c = sym (pick_no (dec_le _ _) _ _ (λ e. omega arith))
+pub returns-in_err-fits : goal.returns-in_err-fits
+returns-in_err-fits c =
+    let p = err_from_is_err_and c.from_residual.result c.from_residual.ensures.1 in
+    rw (p.1, p.2) (short_here _ _ _ 1 c.in_err-fits.ensures)
 
-pub returns-then-stations-heard : goal.returns-then-stations-heard
-unfolding first_short
-returns-then-stations-heard c =
-    let three_each : ℕ = 3 * c.args.heard in
-    sym (pick_yes (dec_le _ _) _ _ (omega arith) ∙ pick_no (dec_le _ _) _ (some (2, three_each)) (λ e. omega arith))
-
-pub returns-then-names-heard : goal.returns-then-names-heard
-unfolding first_short
-returns-then-names-heard c = sym (pick_yes (dec_le _ _) _ _ (omega arith) ∙ pick_yes (dec_le _ _) _ _ (omega arith) ∙ pick_no (dec_le _ _) _ _ (λ e. omega arith))
+pub returns-in_err-fits-2 : goal.returns-in_err-fits-2
+returns-in_err-fits-2 c =
+    let p = err_from_is_err_and c.from_residual-in_err-fits-2.result c.from_residual-in_err-fits-2.ensures.1 in
+    rw (p.1, p.2) (short_here _ _ _ 2 c.in_err-fits-2.ensures ∙ enough_here _ _ _ 1 c.in_ok-fits.ensures)
 
 pub returns : goal.returns
-unfolding first_short
-returns c =
-    let a = c.args in
-    let twenty_each : 20 * a.heard ≤ a.names = c.if-names-heard.false in
-    sym (pick_yes (dec_le _ _) _ _ (omega arith) ∙ pick_yes (dec_le _ _) _ _ (omega arith) ∙ pick_yes (dec_le _ _) _ _ twenty_each)
+returns c = c.fits-3.ensures ∙ enough_here _ _ _ 2 c.in_ok-fits-2.ensures ∙ enough_here _ _ _ 1 c.in_ok-fits.ensures

@@ -1,10 +1,9 @@
 use mathlib.Core.Path.{refl}
 use Rattle.c_answers.proofs.put_needs.Goals as goal
 
-pub returns-in-Needs : goal.returns-in-Needs
-returns-in-Needs c = rw c.in-Needs.is (refl, (c.put_elements.ensures, refl))
+pub returns-in-Ok : goal.returns-in-Ok
+returns-in-Ok c = rw c.in-Ok.is (refl, (c.put_elements.ensures, refl))
 
-pub returns-in-Refused : goal.returns-in-Refused
-returns-in-Refused c =
-    let w = c.put_refusal.ensures in
-    rw c.in-Refused.is (w.0, (refl, w.1))
+pub returns-in-Err : goal.returns-in-Err
+returns-in-Err c =
+    rw c.in-Err.is (refl, (refl, c.put_pair.ensures))

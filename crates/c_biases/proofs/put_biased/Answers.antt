@@ -3,10 +3,10 @@ use mathlib.Core.Path.{refl, ap, ◌∙◌}
 use Rattle.kit.specs.Lists.{front}
 use Rattle.c_biases.proofs.put_biased.Goals as goal
 
-pub returns-in-Given : goal.returns-in-Given
-returns-in-Given c = rw c.in-Given.is (refl, (c.put_pair.ensures, refl))
+pub returns-in-Ok : goal.returns-in-Ok
+returns-in-Ok c = rw c.in-Ok.is (refl, (c.put_pair.ensures, refl))
 
-pub returns-in-Refused : goal.returns-in-Refused
-returns-in-Refused c =
+pub returns-in-Err : goal.returns-in-Err
+returns-in-Err c =
     let w = c.refusal_of-w.ensures in
-    rw c.in-Refused.is (w.0, (refl, c.put_pair-in-Refused.ensures ∙ ap (λ l. front l c.args.place.now) w.1))
+    rw c.in-Err.is (w.0, (refl, c.put_pair-in-Err.ensures ∙ ap (λ l. front l c.args.place.now) w.1))

@@ -4,7 +4,7 @@ use Rattle.c_index.specs.Crossed.{Ordered}
 use Rattle.c_index.proofs.put_block.Goals as goal
 
 pub overflow_sub-count : goal.overflow_sub-count
-overflow_sub-count c = omega (arith, subst Ordered c.in-Given.is c.requires.1)
+overflow_sub-count c = omega (arith, subst Ordered c.in-Ok.is c.requires.1)
 
-pub returns-in-Given : goal.returns-in-Given
-returns-in-Given c = rw c.in-Given.is (refl, c.put_pair.ensures)
+pub returns-in-Ok : goal.returns-in-Ok
+returns-in-Ok c = rw c.in-Ok.is (refl, c.put_pair.ensures)

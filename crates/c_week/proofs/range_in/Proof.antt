@@ -11,7 +11,7 @@ use mir.Facts.{to_z-of_z}
 use Rattle.kit.specs.Integer.{between?}
 use Rattle.kit.specs.Truth.{truth}
 use Rattle.kit.proofs.TruthLaws.{truth_true, truth_false, both}
-use Rattle.week_tally.specs.declared.Range.TheVariants as R
+use Rattle.week_tally.specs.Figures.{from}
 use Rattle.c_week.specs.WeekNumbers.{range_of}
 use Rattle.c_week.proofs.RangeLaws.{Narrow, narrow?, narrow_fits, range_from, range_wide}
 use Rattle.c_week.proofs.range_in.Statement.{statement}
@@ -63,7 +63,7 @@ cast-t8 c = let a = s c.before in rw (high_is a) (narrow_fits a.args.high (is_na
 returns-2 : tie.Need-returns-then-between
 returns-2 c =
     let a = s c.before in
-    ap₂ R.From (kept a.args.low (low_is a) (is_narrow c).0) (kept a.args.high (high_is a) (is_narrow c).1)
+    ap₂ from (kept a.args.low (low_is a) (is_narrow c).0) (kept a.args.high (high_is a) (is_narrow c).1)
     ∙ range_from a.args.low a.args.high a.args.given (λ e. omega (arith, e, c.if-given-eq0.false)) (is_narrow c)
 
 returns-3 : tie.Need-returns

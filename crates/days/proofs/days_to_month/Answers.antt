@@ -1,7 +1,6 @@
 -- `days::days_to_month` meets its contract. The loop's invariant: the days so far are those of the first k.
 use native.Mathlib.Omega.{arith}
 use mathlib.Core.Path.{refl, ap, ◌∙◌}
-use Prim.Native.Nat.{◌-◌}
 use Rattle.days.specs.Sums.{sum}
 use Rattle.days.proofs.SumLaws.{sum_suc, sum_bound}
 use Rattle.days.specs.Years.{month_days}
@@ -10,10 +9,7 @@ use Rattle.days.proofs.days_to_month.Goals as goal
 
 pub loop-k-init : goal.loop-k-init
 unfolding sum
-loop-k-init c = (omega arith, refl)
-
-pub month_days-days-requires : goal.month_days-days-requires
-month_days-days-requires c = omega arith
+loop-k-init c = refl
 
 pub overflow_add-days : goal.overflow_add-days
 overflow_add-days c =
@@ -21,14 +17,8 @@ overflow_add-days c =
     let r = c.args.leap in
     record { fits = omega (arith, c.month_days-days.ensures, month_le r k, sum_bound (month_days r) 31 (month_le r) k) }
 
-pub overflow_add-k : goal.overflow_add-k
-overflow_add-k c = omega arith
-
-pub loop-k-smaller : goal.loop-k-smaller
-loop-k-smaller c = omega arith
-
 pub loop-k-preserved : goal.loop-k-preserved
-loop-k-preserved c = (omega arith, omega (arith, sum_suc (month_days c.args.leap) c.loop-k.k, c.month_days-days.ensures))
+loop-k-preserved c = omega (arith, sum_suc (month_days c.args.leap) c.loop-k.k, c.month_days-days.ensures)
 
 pub returns : goal.returns
-returns c = c.loop-k.invariant.1 ∙ ap (sum (month_days c.args.leap)) (omega arith)
+returns c = c.loop-k.invariant ∙ ap (sum (month_days c.args.leap)) (omega arith)

@@ -1,7 +1,7 @@
 -- `days::month_of` meets its contract. The loop's invariant: the days are the rest past those of the first k.
 use native.Mathlib.Omega.{arith}
-use mathlib.Core.Path.{◌≡◌, ap}
-use Prim.Native.Nat.{◌-◌}
+use mathlib.Core.Path.{◌≡◌}
+use Prim.Native.Nat.{◌+◌}
 use Rattle.days.specs.Sums.{sum}
 use Rattle.days.proofs.SumLaws.{sum_suc}
 use Rattle.days.specs.Years.{month_days}
@@ -9,24 +9,16 @@ use Rattle.days.proofs.month_of.Goals as goal
 
 pub loop-k-init : goal.loop-k-init
 unfolding sum
-loop-k-init c = (omega arith, omega arith)
-
-pub month_days-n-requires : goal.month_days-n-requires
-month_days-n-requires c = omega arith
+loop-k-init c = omega arith
 
 pub returns-then-rest-n : goal.returns-then-rest-n
-returns-then-rest-n c = (omega arith, record { at = c.loop-k.invariant.1; less = omega (arith, c.month_days-n.ensures) })
-
-pub overflow_add-k : goal.overflow_add-k
-overflow_add-k c = omega arith
-
-pub loop-k-smaller : goal.loop-k-smaller
-loop-k-smaller c = omega arith
+returns-then-rest-n c = (omega arith, record { at = c.loop-k.invariant; less = omega (arith, c.month_days-n.ensures) })
 
 pub loop-k-preserved : goal.loop-k-preserved
-loop-k-preserved c = (omega arith, omega (arith, sum_suc (month_days c.args.leap) c.loop-k.k, c.month_days-n.ensures))
+loop-k-preserved c = omega (arith, sum_suc (month_days c.args.leap) c.loop-k.k, c.month_days-n.ensures)
 
 pub returns : goal.returns
 returns c =
     let k : c.loop-k.k ≡ 11 = omega arith in
-    (omega arith, record { at = c.loop-k.invariant.1; less = omega (arith, ap (sum (month_days c.args.leap)) k, ap (month_days c.args.leap) k, sum_suc (month_days c.args.leap) 11, c.requires.1) })
+    let m : c.args.days ≡ sum (month_days c.args.leap) 11 + c.loop-k.rest = rw (← k) c.loop-k.invariant in
+    (omega arith, record { at = m; less = omega (arith, m, sum_suc (month_days c.args.leap) 11, c.requires.1) })

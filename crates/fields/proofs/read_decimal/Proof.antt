@@ -1,3 +1,4 @@
+use Rattle.std.specs.Prelude.{Some}
 -- `fields::read_decimal` meets its contract.
 use mir.Syntax.{w32}
 use mathlib.Core.Path.{◌≡◌, sym, ap, ◌∙◌}
@@ -11,7 +12,6 @@ use borrow.Author.Rules.{rules}
 use Rattle.kit.proofs.ListLaws.{rest_of}
 use Rattle.forms.specs.Form.{decimal}
 use Rattle.forms.specs.Read.{read_field, is_number}
-use Rattle.forms.specs.declared.Field.TheVariants.{Number}
 use Rattle.fields.proofs.Judged.{bad_of}
 use Rattle.fields.proofs.Point.{decimal_long, decimal_number, decimal_small}
 use Rattle.fields.proofs.read_decimal.Statement.{statement}
@@ -31,7 +31,7 @@ returns : tie.Need-returns-then-is_decimal
 returns c =
     let i = c.before.before.before in
     let s = i.before.before in
-    ap Number (to_z-of_z {w = w32} (record { sfits = c.decimal_value.type_inv }) ∙ (rw rest_of at c.decimal_value.ensures)) ∙ decimal_number _ s.requires.0 s.args.f.now (number c.before.before)
+    ap Some (to_z-of_z {w = w32} (record { sfits = c.decimal_value.type_inv }) ∙ (rw rest_of at c.decimal_value.ensures)) ∙ decimal_number _ s.requires.0 s.args.f.now (number c.before.before)
 
 sub-k : tie.Need-overflow_sub-k
 sub-k c = let h = long c in omega arith

@@ -10,5 +10,5 @@ use Rattle.head_state.proofs.keep_observables.Goals as goal
 pub returns : goal.returns
 unfolding kept bind
 returns c =
-    let a = c.args in
-    rw (observables_says _ c.requires, c.text60-observables.ensures) (ap (λ (z : Slots). ok (went (mode a.s.aux) a.s.exponent z a.s.descriptions)) (observables_kept a.s (search rules) _))
+    let s = c.args.s.now in
+    rw (observables_says _ c.requires, c.text-s.ensures) (ap (λ (z : Slots). ok (went (mode s.aux) s.exponent z s.descriptions)) (observables_kept s (search rules) _))

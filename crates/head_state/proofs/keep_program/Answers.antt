@@ -10,5 +10,5 @@ use Rattle.head_state.proofs.keep_program.Goals as goal
 pub returns : goal.returns
 unfolding kept bind
 returns c =
-    let a = c.args in
-    rw (program_says _ c.requires, c.text20-program.ensures, c.text20-agency.ensures, c.text20-date.ensures) (ap (λ (z : Slots). ok (went (mode a.s.aux) a.s.exponent z a.s.descriptions)) (program_kept a.s (search rules) _ _ _))
+    let s = c.args.s.now in
+    rw (program_says _ c.requires, c.text-s.ensures, c.text-s-2.ensures, c.text-s-3.ensures) (ap (λ (z : Slots). ok (went (mode s.aux) s.exponent z s.descriptions)) (program_kept s (search rules) _ _ _))

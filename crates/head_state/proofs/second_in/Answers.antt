@@ -4,4 +4,4 @@ use Rattle.head_state.proofs.GotLaws.{second_got}
 use Rattle.head_state.proofs.second_in.Goals as goal
 
 pub returns : goal.returns
-returns c = let s = c.before in rw c.value_in-v.ensures (second_got s.args.s s.args.i (omega arith) s.requires.1)
+returns c = let a = c.args in rw c.value_in.ensures (second_got a.s.now a.i (omega arith) c.requires.1)

@@ -1,12 +1,16 @@
-use mathlib.Core.Path.{sym, ◌∙◌}
-use Rattle.head_step.proofs.StepLaws.{end_is}
+use Rattle.std.proofs.lemmas.Result.{err_from_is_err_and}
 use Rattle.reading.specs.Fields.{blank_to}
+use Rattle.maps_records.proofs.RecordLaws.{blank_fine}
+use Rattle.head_said.proofs.RecordLaws.{blank_no}
+use Rattle.head_step.proofs.StepLaws.{end_is}
 use Rattle.head_step.proofs.at_end.Goals as goal
 
-pub returns-in-At : goal.returns-in-At
-unfolding blank_to
-returns-in-At c = rw (end_is _ _ _ _ c.requires, sym c.first_not_blank.ensures ∙ c.in-At.is) c.refuse.ensures
+pub returns-in_err-blank : goal.returns-in_err-blank
+returns-in_err-blank c =
+    let p = err_from_is_err_and c.from_residual.result c.from_residual.ensures.1 in
+    rw (p.1, p.2, end_is _ _ _ _ c.requires) (blank_no _ _ c.blank.result _ c.blank.ensures c.in_err-blank.was)
 
-pub returns-in-Nowhere : goal.returns-in-Nowhere
-unfolding blank_to
-returns-in-Nowhere c = rw (end_is _ _ _ _ c.requires, sym c.first_not_blank.ensures ∙ c.in-Nowhere.is) c.ended.ensures
+pub returns : goal.returns
+returns c =
+    let n = blank_fine (blank_to c.args.line.now 0 60) _ c.blank.result c.blank.ensures c.in_ok-blank.was in
+    rw (end_is _ _ _ _ c.requires, n) c.ended.ensures

@@ -1,44 +1,29 @@
-use mathlib.Core.Path.{◌≡◌, ◌∙◌, sym}
-use mathlib.Core.List.{List}
-use Prim.Native.Nat.{ℕ, ◌+◌, ◌-◌, ◌≤◌}
+use mathlib.Core.Path.{◌≡◌, sym, ◌∙◌}
+use mathlib.Core.Bool.{true≢false}
+use mathlib.Core.List.{[]}
+use Prim.Native.Nat.{ℕ, ◌≤◌}
 use native.Mathlib.Omega.{arith}
-use borrow.Author.Rules.{rules}
-use lib.ListN.{drop, length, drop_of_length-le}
+use borrow.Author.Count.{below_more}
+use lib.ListN.{length, get_or}
+use lib.Pointwise.{bytes_decides}
+use Rattle.forms.specs.Columns.{columns}
 use Rattle.layout.specs.Labels.{codes}
-use Rattle.layout.specs.Names.{place_of}
-use Rattle.labels.proofs.Laws.{place_of_next, place_of_here}
+use Rattle.head_version.proofs.VersionLaws.{place_here, place_nowhere}
 use Rattle.head_version.proofs.code_place.Goals as goal
 
-pub loop-k-init : goal.loop-k-init
-loop-k-init c = (search rules, omega arith)
-
-pub returns-then-has_code : goal.returns-then-has_code
-returns-then-has_code c =
-    let a = c.args in
-    let l = c.loop-k in
-    omega (arith, l.invariant.1, place_of_here a.line.now 40 codes l.k (omega arith) (sym c.has_code.ensures ∙ c.if-has_code.true))
-
-pub overflow_add-k : goal.overflow_add-k
-overflow_add-k c = omega arith
-
-pub loop-k-smaller : goal.loop-k-smaller
-loop-k-smaller c = omega arith
+pub returns-then-eq-clause-place : goal.returns-then-eq-clause-place
+returns-then-eq-clause-place c =
+    let u : c.text-code.result ≡ columns c.args.line.now 40 3 = c.text-code.ensures in
+    let e : get_or codes c.loop-k.k [] ≡ c.text-code.result = (bytes_decides _ _).0 (sym c.if-eq.ensures) in
+    sym (place_here _ codes c.loop-k.k c.loop-k-test.true (e ∙ u) (λ j l q. c.loop-k.invariant j l (q ∙ sym u)))
 
 pub loop-k-preserved : goal.loop-k-preserved
 loop-k-preserved c =
-    let a = c.args in
-    let l = c.loop-k in (
-      omega arith,
-      omega (arith, l.invariant.1, place_of_next a.line.now 40 codes l.k (omega arith) (sym c.has_code.ensures ∙ c.if-has_code.false)),
-    )
+    let P : ℕ → Type 0 = λ j. ¬ (get_or codes j [] ≡ c.text-code.result) in
+    below_more P c.loop-k.k c.loop-k.invariant (λ q. true≢false (sym (c.if-eq.ensures ∙ (bytes_decides _ _).1 q)))
 
-no_more : (s : List ℕ) (k : ℕ) → k ≤ 11 → 11 ≤ k → k + place_of s 40 (drop k codes) ≡ place_of s 40 codes → ◌≡◌ {A = ℕ} 11 (place_of s 40 codes)
-no_more s k h g i =
-    let n : length codes ≤ k = g in
-    omega (arith, rw (drop_of_length-le codes n) at i)
-
-pub returns : goal.returns
-returns c =
-    let a = c.args in
-    let l = c.loop-k in
-    no_more a.line.now l.k l.invariant.0 c.loop-k-test.false l.invariant.1
+pub returns-clause-place : goal.returns-clause-place
+returns-clause-place c =
+    let u : c.text-code.result ≡ columns c.args.line.now 40 3 = c.text-code.ensures in
+    let n : length codes ≤ c.loop-k.k = c.loop-k-test.false in
+    sym (place_nowhere _ codes (λ j l q. c.loop-k.invariant j (omega arith) (q ∙ sym u)))

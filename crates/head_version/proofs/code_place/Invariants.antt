@@ -1,12 +1,9 @@
 use mathlib.Core.Path.{◌≡◌}
-use Prim.Native.Nat.{◌+◌, ◌-◌, ◌≤◌}
-use lib.ListN.{drop}
+use mathlib.Core.List.{[]}
+use Prim.Native.Nat.{ℕ, ◌<◌}
+use lib.ListN.{get_or}
 use Rattle.layout.specs.Labels.{codes}
-use Rattle.layout.specs.Names.{place_of}
 use Rattle.head_version.proofs.code_place.Given as goal
 
 abbrev pub invariant-loop-k : goal.invariant-loop-k
-invariant-loop-k l = (l.k ≤ 11) × (l.k + place_of l.line 40 (drop l.k codes) ≡ place_of l.line 40 codes)
-
-abbrev pub decreases-loop-k : goal.decreases-loop-k
-decreases-loop-k l = 11 - l.k
+invariant-loop-k l = (j : ℕ) → j < l.k → ¬ (get_or codes j [] ≡ l.code)

@@ -77,7 +77,7 @@ returns-in-Bad c =
     let b = l.before.before.before.before in
     let t = b.args.text.now in
     let h = stands t b.args.at _ _ l.line_in.ensures c.in-Bad.is in
-    from_bad b.args.header b.args.d t b.args.at _ _ h
+    from_bad b.args.header b.args.d t b.args.at _ h
 
 pub returns-in-Skip : goal.returns-in-Skip
 returns-in-Skip c =

@@ -20,8 +20,8 @@ row_at-requires c =
     let h = stands t b.args.at _ _ l.line_in.ensures c.in-Row.is in
     (row_end t b.args.at (omega arith) _ _ h, (h.fits, (omega arith, b.requires.1.1)))
 
-pub overflow_add-result-in-Fine : goal.overflow_add-result-in-Fine
-overflow_add-result-in-Fine c =
+pub overflow_add-result-in-Ok : goal.overflow_add-result-in-Ok
+overflow_add-result-in-Ok c =
     let l = c.before.before.before.before in
     let b = l.before.before.before in
     let t = b.args.text.now in
@@ -29,8 +29,8 @@ overflow_add-result-in-Fine c =
     let e = row_end t b.args.at (omega arith) _ _ h in
     omega arith
 
-pub overflow_add-result-in-Fine-2 : goal.overflow_add-result-in-Fine-2
-overflow_add-result-in-Fine-2 c =
+pub overflow_add-result-in-Ok-2 : goal.overflow_add-result-in-Ok-2
+overflow_add-result-in-Ok-2 c =
     let l = c.before.before.before.before in
     let b = l.before.before.before in
     let t = b.args.text.now in
@@ -52,7 +52,7 @@ returns-in-Bad c =
     let b = l.before.before.before in
     let t = b.args.text.now in
     let h = stands t b.args.at _ _ l.line_in.ensures c.in-Bad.is in
-    at_bad t b.args.at _ (omega arith) _ _ h
+    at_bad t b.args.at _ (omega arith) _ h
 
 pub returns-in-Skip : goal.returns-in-Skip
 returns-in-Skip c =
@@ -62,20 +62,12 @@ returns-in-Skip c =
     let h = stands t b.args.at _ _ l.line_in.ensures c.in-Skip.is in
     at_skip t b.args.at _ (omega arith) _ h
 
-pub returns-in-Wrong : goal.returns-in-Wrong
-returns-in-Wrong c =
-    let l = c.before.before.before.before in
-    let b = l.before.before.before in
-    let t = b.args.text.now in
-    let h = stands t b.args.at _ _ l.line_in.ensures c.in-Row.is in
-    let q = c.before in
-    at_wrong t b.args.at _ (omega arith) _ _ h _ q.on_row-m.ensures _ _ q.row_at.ensures c.in-Wrong.is
+pub returns-in-Err : goal.returns-in-Err
+returns-in-Err c =
+    let a = c.args in
+    at_wrong a.text.now a.at _ c.requires.0 _ _ (stands a.text.now a.at _ _ c.line_in.ensures c.in-Row.is) _ c.on_row.ensures _ c.in-Err.ensures
 
-pub returns-in-Fine : goal.returns-in-Fine
-returns-in-Fine c =
-    let l = c.before.before.before.before in
-    let b = l.before.before.before in
-    let t = b.args.text.now in
-    let h = stands t b.args.at _ _ l.line_in.ensures c.in-Row.is in
-    let q = c.before in
-    at_row t b.args.at _ (omega arith) _ _ h _ q.on_row-m.ensures _ q.row_at.ensures c.in-Fine.is
+pub returns-in-Ok : goal.returns-in-Ok
+returns-in-Ok c =
+    let a = c.args in
+    at_row a.text.now a.at _ c.requires.0 _ _ (stands a.text.now a.at _ _ c.line_in.ensures c.in-Row.is) _ c.on_row.ensures c.in-Ok.ensures

@@ -26,7 +26,7 @@ returns-then-values-gt0 c = let b = c.before.before.before.before.before.before.
     let t = b.args.text.now in
     let at = b.args.at in
     let h = stands t at _ _ c.line_in.ensures c.in-Row.is in
-    rw c.passed-then-values-gt0.ensures (turned_value t at b.args.values b.args.s b.args.columns b.requires.0 _ _ h _ c.if-values-gt0.true c.less_16.ensures)
+    rw c.passed-then-values-gt0.ensures (turned_value t at b.args.values b.args.s b.args.columns b.requires.0 _ _ h _ c.if-values-gt0.true c.saturating_sub.ensures)
 
 pub overflow_add-e : goal.overflow_add-e
 overflow_add-e c = let b = c.before.before.before.before.before in
@@ -71,7 +71,7 @@ returns-in-Bad c = let b = c.before.before.before.before.before in
     let t = b.args.text.now in
     let at = b.args.at in
     let h = stands t at _ _ c.line_in.ensures c.in-Bad.is in
-    rw c.passed-in-Bad.ensures (turned_over t at b.args.values b.args.s b.args.columns b.requires.0 (bad_rows t at _ _ h))
+    rw c.passed-in-Bad.ensures (turned_over t at b.args.values b.args.s b.args.columns b.requires.0 (bad_rows t at _ h))
 
 pub returns-in-Skip : goal.returns-in-Skip
 returns-in-Skip c = let b = c.before.before.before.before.before in

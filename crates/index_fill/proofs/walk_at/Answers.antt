@@ -57,7 +57,7 @@ returns-in-Bad c = let b = c.before.before.before.before in
     let t = b.args.text.now in
     let at = b.args.at in
     let h = stands t at _ _ c.line_in.ensures c.in-Bad.is in
-    walk_over t at b.requires b.args.aux b.args.exponent (bad_rows t at _ _ h) _ (to_z-of_z b.ranges.exponent)
+    walk_over t at b.requires b.args.aux b.args.exponent (bad_rows t at _ h) _ (to_z-of_z b.ranges.exponent)
 
 pub returns-in-Skip : goal.returns-in-Skip
 returns-in-Skip c = let b = c.before.before.before.before in

@@ -1,18 +1,18 @@
 -- `kit::between` meets its contract.
-use mir.Facts.{to_z-of_z, sfits_widen}
-use Rattle.kit.proofs.Signed.{widened}
+use mathlib.Core.Path.{sym, ap, ◌∙◌}
+use mathlib.Core.Bool.{Bool, ◌&&◌}
+use lib.Signed.{le_z}
+use mir.Facts.{to_z-of_z}
+use Rattle.kit.proofs.Signed.{both}
 use Rattle.kit.proofs.between.Goals as goal
 
-pub overflow_cast-low : goal.overflow_cast-low
-overflow_cast-low c = rw (to_z-of_z c.ranges.low) (sfits_widen tt c.ranges.low)
+pub returns-then-low-x : goal.returns-then-low-x
+returns-then-low-x c =
+    let a = c.args in
+    rw (to_z-of_z c.ranges.x, to_z-of_z c.ranges.high) (ap (λ (t : Bool). t && le_z a.x a.high) (sym (rw (to_z-of_z c.ranges.x, to_z-of_z c.ranges.low) at c.if-low-x.true)) ∙ both a.low a.high a.x)
 
-pub overflow_cast-high : goal.overflow_cast-high
-overflow_cast-high c = rw (to_z-of_z c.ranges.high) (sfits_widen tt c.ranges.high)
-
-pub overflow_cast-x : goal.overflow_cast-x
-overflow_cast-x c = rw (to_z-of_z c.ranges.x) (sfits_widen tt c.ranges.x)
-
-pub returns : goal.returns
-returns c =
-    let s = c.before in
-    rw (widened s.args.low s.ranges.low, widened s.args.high s.ranges.high, widened s.args.x s.ranges.x) at c.between.ensures
+pub returns-else-low-x : goal.returns-else-low-x
+returns-else-low-x c =
+    let a = c.args in
+    let e = rw (to_z-of_z c.ranges.x, to_z-of_z c.ranges.low) at c.if-low-x.false in
+    rw (to_z-of_z c.ranges.x, to_z-of_z c.ranges.low) (e ∙ ap (λ (t : Bool). t && le_z a.x a.high) (sym e) ∙ both a.low a.high a.x)

@@ -4,7 +4,7 @@ use Prim.Native.Nat.{suc}
 use Rattle.reading.specs.declared.Place.{Place}
 use Rattle.maps_bounds.specs.Steps.{force_of}
 use Rattle.maps.specs.Turns.{ended_with}
-use Rattle.maps.proofs.TurnLaws.{finish_ended, finish_between, finish_early, finish_inside}
+use Rattle.maps.proofs.TurnLaws.{finish_ended, finish_early}
 use Rattle.maps.proofs.finish_at.Goals as goal
 
 pub returns-in-Ended : goal.returns-in-Ended
@@ -13,16 +13,4 @@ returns-in-Ended c =
     finish_ended a.past (suc a.lines) ∙ sym (ap (λ (q : Place). ended_with q (force_of a.past []) (suc a.lines)) c.in-Ended.is)
 
 pub returns-in-Between : goal.returns-in-Between
-returns-in-Between c =
-    let a = c.args in
-    finish_between (force_of a.past []) a.lines c.requires ∙ sym (ap (λ (q : Place). ended_with q (force_of a.past []) (suc a.lines)) c.in-Between.is)
-
-pub returns-in-Early : goal.returns-in-Early
-returns-in-Early c =
-    let a = c.args in
-    finish_early (force_of a.past []) a.lines c.requires ∙ sym (ap (λ (q : Place). ended_with q (force_of a.past []) (suc a.lines)) c.in-Early.is)
-
-pub returns-in-Inside : goal.returns-in-Inside
-returns-in-Inside c =
-    let a = c.args in
-    finish_inside (force_of a.past []) a.lines c.requires _ ∙ sym (ap (λ (q : Place). ended_with q (force_of a.past []) (suc a.lines)) c.in-Inside.is)
+returns-in-Between c = let a = c.args in finish_early (force_of a.past []) a.lines c.requires a.place c.in-Between.is

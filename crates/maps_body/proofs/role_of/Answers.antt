@@ -1,5 +1,5 @@
 use native.Mathlib.Omega.{arith}
-use Rattle.maps_body.proofs.RoleLaws.{role_unknown, role_at, role_other, but}
+use Rattle.maps_body.proofs.RoleLaws.{role_unknown, role_at, role_other}
 use Rattle.maps_body.proofs.role_of.Goals as goal
 
 pub returns-then-label-ge32 : goal.returns-then-label-ge32
@@ -39,7 +39,4 @@ pub returns-in-31 : goal.returns-in-31
 returns-in-31 c = role_at c.args.line.now c.requires _ c.label_of-label.ensures 31 c.in-31.is (omega arith)
 
 pub returns-in_default : goal.returns-in_default
-returns-in_default c =
-    role_other c.args.line.now c.requires _ c.label_of-label.ensures
-    (but 23 (but 24 (but 25 (but 26 (but 27 (but 28 (but 29 (but 30 (but 31 c.if-label-ge32.false c.in_default.in_default-own.rest.1) c.in_default.in_default-own.rest.0.1) c.in_default.in_default-own.rest.0.0.1) c.in_default.in_default-own.rest.0.0.0.1) c.in_default.in_default-own.rest.0.0.0.0.1) c.in_default.in_default-own.rest.0.0.0.0.0.1) c.in_default.in_default-own.rest.0.0.0.0.0.0.1) c.in_default.in_default-own.rest.0.0.0.0.0.0.0.1) c.in_default.in_default-own.rest.0.0.0.0.0.0.0.0.1)
-    c.in_default.in_default-own.rest.0.0.0.0.0.0.0.0.0.0.1 c.in_default.in_default-own.rest.0.0.0.0.0.0.0.0.0.1
+returns-in_default c = role_other c.args.line.now c.requires _ c.label_of-label.ensures (omega arith) (λ e. omega arith) (λ e. omega arith)

@@ -1,42 +1,38 @@
-use mathlib.Core.Bool.{not}
 use mathlib.Core.Path.{◌≡◌, sym, ap, ◌∙◌}
 use mir.Syntax.{w32}
 use mir.Val.{to_z, of_z}
-use borrow.Author.Tests.{not-true, not-false}
-use Rattle.layout.specs.Text.{pad}
-use Rattle.layout.specs.Layout.{exponent?}
-use Rattle.maps_bounds.specs.Steps.{force_of}
-use Rattle.maps_records.specs.Records.{told_one}
-use Rattle.maps_bounds.proofs.StepLaws.{stops, stills, exponent_ended, exponent_bad, exponent_range, exponent_fine}
 use borrow.Author.Rules.{rules}
+use Rattle.std.specs.Prelude.{Ok}
+use Rattle.layout.specs.Text.{pad}
+use Rattle.maps_bounds.specs.Steps.{force_of}
+use Rattle.maps_bounds.proofs.StepLaws.{stops, halts, stills, exponent_ended, exponent_bad, exponent_low, exponent_high, exponent_fine}
 use Rattle.maps_bounds.proofs.on_exponent.Goals as goal
+use Rattle.maps_bounds.proofs.on_exponent.Goals.{then-exponent-ltminus3-via-then-exponent-ltminus3, then-exponent-ltminus3-via-else-exponent-ltminus3+then-exponent-gt0}
 
 pub returns-then-has_ended : goal.returns-then-has_ended
-returns-then-has_ended c = λ h es. stops es 5 61 (exponent_ended c.args.place _ _ (sym c.has_ended.ensures ∙ c.if-has_ended.true))
+returns-then-has_ended c = λ h es. stops es (exponent_ended c.args.place _ _ (sym c.if-has_ended.ensures))
 
-pub returns-then-not-between : goal.returns-then-not-between
-unfolding exponent?
-returns-then-not-between c =
-    λ h es.
-    let s = c.before.before.before.before.before.before.before in
-    let z : to_z w32 (of_z w32 c.in-Number.e) ≡ c.in-Number.e = search rules in
-    stops es 7 1
-    (exponent_range s.args.place (force_of s.args.past es) (pad s.args.line.now) (sym c.has_ended.ensures ∙ c.if-has_ended.false) c.in-Number.e
-    (sym c.one_number.ensures ∙ ap told_one c.in-Number.is) (rw z at (sym c.between.ensures) ∙ not-true _ (ap not c.if-not-between.true)))
+pub returns-in_err-exponent : goal.returns-in_err-exponent
+returns-in_err-exponent c =
+    λ h es. let a = c.args in
+    halts es _ c.from_residual.ensures (exponent_bad a.place (force_of a.past es) (pad a.line.now) (sym c.if-has_ended.ensures) (sym c.in_err-exponent.ensures))
 
-pub returns-in-Wrong : goal.returns-in-Wrong
-returns-in-Wrong c =
-    λ h es.
-    let s = c.before.before.before.before.before in
-    stops es 6 _ (exponent_bad s.args.place (force_of s.args.past es) (pad s.args.line.now) (sym c.has_ended.ensures ∙ c.if-has_ended.false) (sym c.one_number.ensures ∙ ap told_one c.in-Wrong.is))
+pub returns-then-exponent-ltminus3 : goal.returns-then-exponent-ltminus3
+returns-then-exponent-ltminus3 c =
+    λ h es. let a = c.args in
+    let z : to_z w32 (of_z w32 c.in_ok-exponent.exponent) ≡ c.in_ok-exponent.exponent = search rules in
+    stops es (elim c.then-exponent-ltminus3.branch [
+      | then-exponent-ltminus3-via-then-exponent-ltminus3 w ↦
+          exponent_low a.place (force_of a.past es) (pad a.line.now) (sym c.if-has_ended.ensures) c.in_ok-exponent.exponent (sym c.in_ok-exponent.ensures) (rw z at w.if-exponent-ltminus3.true)
+      | then-exponent-ltminus3-via-else-exponent-ltminus3+then-exponent-gt0 w ↦
+          exponent_high a.place (force_of a.past es) (pad a.line.now) (sym c.if-has_ended.ensures) c.in_ok-exponent.exponent (sym c.in_ok-exponent.ensures) (rw z at w.if-exponent-gt0.true)
+    ])
 
-pub returns-else-not-between : goal.returns-else-not-between
-unfolding exponent?
-returns-else-not-between c =
-    λ h es.
-    let s = c.before.before.before.before.before.before.before.before in
-    let z : to_z w32 (of_z w32 c.in-Number.e) ≡ c.in-Number.e = search rules in
-    rw z at c.still.ensures
-    ∙ stills es s.args.place (record { exponent = c.in-Number.e; rms = s.args.past.rms; height = s.args.past.height })
-    (exponent_fine s.args.place (force_of s.args.past es) (pad s.args.line.now) (sym c.has_ended.ensures ∙ c.if-has_ended.false) c.in-Number.e
-    (sym c.one_number.ensures ∙ ap told_one c.in-Number.is) (rw z at (sym c.between.ensures) ∙ not-false _ (ap not c.if-not-between.false)))
+pub returns : goal.returns
+returns c =
+    λ h es. let a = c.args in
+    let z : to_z w32 (of_z w32 c.in_ok-exponent.exponent) ≡ c.in_ok-exponent.exponent = search rules in
+    ap Ok (rw z at c.still.ensures)
+    ∙ stills es a.place (record { exponent = c.in_ok-exponent.exponent; rms = a.past.rms; height = a.past.height })
+    (exponent_fine a.place (force_of a.past es) (pad a.line.now) (sym c.if-has_ended.ensures) c.in_ok-exponent.exponent (sym c.in_ok-exponent.ensures)
+    (rw z at c.if-exponent-ltminus3.false) (rw z at c.if-exponent-gt0.false))

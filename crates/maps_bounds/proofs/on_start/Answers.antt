@@ -1,15 +1,13 @@
 use mathlib.Core.Path.{sym, ap, ◌∙◌}
+use mathlib.Core.Logic.{⊎_elim}
+use Rattle.std.specs.Prelude.{Result}
 use Rattle.layout.specs.Text.{pad}
 use Rattle.reading.specs.Maps.{on_start}
+use Rattle.reading.specs.declared.Fault.{Fault}
 use Rattle.reading.specs.declared.Place.{Place}
 use Rattle.maps_bounds.specs.Steps.{force_of, moved}
+use Rattle.maps_bounds.specs.declared.Next.{Next}
 use Rattle.maps_bounds.proofs.on_start.Goals as goal
-
-pub returns-in-Ended : goal.returns-in-Ended
-unfolding on_start moved
-returns-in-Ended c =
-    let a = c.args in
-    sym (ap (λ (q : Place). moved a.epochs.now (on_start a.header q (force_of a.past a.epochs.now) a.kind (pad a.line.now))) c.in-Ended.is)
 
 pub returns-in-Between : goal.returns-in-Between
 unfolding on_start moved
@@ -17,14 +15,9 @@ returns-in-Between c =
     let a = c.args in
     c.start_map.ensures ∙ sym (ap (λ (q : Place). moved a.epochs.now (on_start a.header q (force_of a.past a.epochs.now) a.kind (pad a.line.now))) c.in-Between.is)
 
-pub returns-in-Early : goal.returns-in-Early
+pub returns-in-Ended : goal.returns-in-Ended
 unfolding on_start moved
-returns-in-Early c =
+returns-in-Ended c =
     let a = c.args in
-    sym (ap (λ (q : Place). moved a.epochs.now (on_start a.header q (force_of a.past a.epochs.now) a.kind (pad a.line.now))) c.in-Early.is)
-
-pub returns-in-Inside : goal.returns-in-Inside
-unfolding on_start moved
-returns-in-Inside c =
-    let a = c.args in
-    sym (ap (λ (q : Place). moved a.epochs.now (on_start a.header q (force_of a.past a.epochs.now) a.kind (pad a.line.now))) c.in-Inside.is)
+    let at : Place → Result Next Fault = λ q. moved a.epochs.now (on_start a.header q (force_of a.past a.epochs.now) a.kind (pad a.line.now)) in
+    ⊎_elim (λ e. sym (ap at e)) (λ s. ⊎_elim (λ e. sym (ap at e)) (λ x. sym (ap at x.1)) s) c.in-Ended.is

@@ -2,39 +2,40 @@ use mathlib.Core.Path.{◌≡◌, sym, ap, ◌∙◌}
 use native.Mathlib.Omega.{arith}
 use mir.Syntax.{w32}
 use mir.Val.{to_z, of_z}
-use Rattle.layout.specs.Text.{pad}
-use Rattle.kit.specs.Integer.{up}
-use Rattle.maps_bounds.specs.Steps.{force_of}
-use Rattle.maps_records.specs.Records.{told_one}
-use Rattle.maps_bounds.proofs.StepLaws.{stops, stills, tec_bad, tec_number, tec_many, tec_fine}
-use Rattle.reading.specs.declared.Place.TheVariants.{Early}
 use borrow.Author.Rules.{rules}
+use Rattle.std.specs.Prelude.{Ok, Err}
+use Rattle.kit.specs.Integer.{up}
+use Rattle.layout.specs.Text.{pad}
+use Rattle.reading.specs.declared.Place.TheVariants.{Early}
+use Rattle.maps_bounds.specs.Steps.{force_of}
+use Rattle.maps_bounds.proofs.StepLaws.{stops, halts, stills, tec_bad, tec_number, tec_many, tec_fine}
 use Rattle.maps_bounds.proofs.start_tec.Goals as goal
+use Rattle.maps_bounds.proofs.start_tec.Goals.{then-number-before-via-then-number-before, then-number-before-via-else-number-before+then-header-before}
 
-pub returns-then-natural-k : goal.returns-then-natural-k
-returns-then-natural-k c =
-    let s = c.before.before.before.before.before.before in
-    let es = s.args.epochs.now in
-    let z : to_z w32 (of_z w32 c.in-Number.z) ≡ c.in-Number.z = search rules in
-    let n : c.natural.result ≡ up c.in-Number.z = rw z at c.natural.ensures in
-    stops es 8 1 (tec_number s.args.header (force_of s.args.past es) (pad s.args.line.now) c.in-Number.z (sym c.one_number.ensures ∙ ap told_one c.in-Number.is) (λ u. omega arith))
+pub returns-in_err-one_number : goal.returns-in_err-one_number
+returns-in_err-one_number c =
+    let a = c.args in
+    halts a.epochs.now _ c.from_residual.ensures (tec_bad a.header (force_of a.past a.epochs.now) (pad a.line.now) (sym c.in_err-one_number.ensures))
 
-pub returns-then-header-k : goal.returns-then-header-k
-returns-then-header-k c =
-    let s = c.before.before.before.before.before.before.before.before in
-    let es = s.args.epochs.now in
-    stops es 8 1 (tec_many s.args.header (force_of s.args.past es) (pad s.args.line.now) c.in-Number.z (sym c.one_number.ensures ∙ ap told_one c.in-Number.is) (omega arith))
+pub returns-then-number-before : goal.returns-then-number-before
+returns-then-number-before c =
+    let a = c.args in
+    let es = a.epochs.now in
+    let z : to_z w32 (of_z w32 c.in_ok-one_number.field-0) ≡ c.in_ok-one_number.field-0 = search rules in
+    let n : c.natural-number.result ≡ up c.in_ok-one_number.field-0 = rw z at c.natural-number.ensures in
+    ap Err c.disagrees.ensures
+    ∙ stops es (elim c.then-number-before.branch [
+      | then-number-before-via-then-number-before w ↦
+          tec_number a.header (force_of a.past es) (pad a.line.now) c.in_ok-one_number.field-0 (sym c.in_ok-one_number.ensures) (λ u. omega arith)
+      | then-number-before-via-else-number-before+then-header-before w ↦
+          tec_many a.header (force_of a.past es) (pad a.line.now) c.in_ok-one_number.field-0 (sym c.in_ok-one_number.ensures) (omega arith)
+    ])
 
-pub returns-in-Wrong : goal.returns-in-Wrong
-returns-in-Wrong c =
-    let s = c.before.before.before.before in
-    stops s.args.epochs.now 6 _ (tec_bad s.args.header (force_of s.args.past s.args.epochs.now) (pad s.args.line.now) (sym c.one_number.ensures ∙ ap told_one c.in-Wrong.is))
-
-pub returns-else-header-k : goal.returns-else-header-k
-returns-else-header-k c =
-    let s = c.before.before.before.before.before.before.before.before.before in
-    let es = s.args.epochs.now in
-    let z : to_z w32 (of_z w32 c.in-Number.z) ≡ c.in-Number.z = search rules in
-    let n : c.natural.result ≡ up c.in-Number.z = rw z at c.natural.ensures in
-    c.still.ensures
-    ∙ stills es Early s.args.past (tec_fine s.args.header (force_of s.args.past es) (pad s.args.line.now) c.in-Number.z (sym c.one_number.ensures ∙ ap told_one c.in-Number.is) (omega arith) (omega arith))
+pub returns : goal.returns
+returns c =
+    let a = c.args in
+    let es = a.epochs.now in
+    let z : to_z w32 (of_z w32 c.in_ok-one_number.field-0) ≡ c.in_ok-one_number.field-0 = search rules in
+    let n : c.natural-number.result ≡ up c.in_ok-one_number.field-0 = rw z at c.natural-number.ensures in
+    ap Ok c.still.ensures
+    ∙ stills es Early a.past (tec_fine a.header (force_of a.past es) (pad a.line.now) c.in_ok-one_number.field-0 (sym c.in_ok-one_number.ensures) (omega arith) (omega arith))

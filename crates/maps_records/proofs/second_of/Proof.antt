@@ -21,13 +21,13 @@ enum-known-t c = search rules
 enum-known-column : tie.Need-enum_known-column
 enum-known-column c = search rules
 
-returns : tie.Need-returns-in-At
+returns : tie.Need-returns-in-Ok
 unfolding on_date
-returns c = rw (sym (taken c.before) ∙ c.in-At.is)
+returns c = rw (sym (taken c.before) ∙ c.in-Ok.is)
 
-returns-2 : tie.Need-returns-in-Wrong
+returns-2 : tie.Need-returns-in-Err
 unfolding on_date
-returns-2 c = rw (sym (taken c.before) ∙ c.in-Wrong.is)
+returns-2 c = rw (sym (taken c.before) ∙ c.in-Err.is)
 
 pub second_of_spec : {M : Type 1} → statement M
 second_of_spec = tie.close (tie.spec take-requires enum-known-t enum-known-column returns returns-2)

@@ -7,5 +7,5 @@ use Rattle.mapset.proofs.need.Goals as goal
 pub returns-then-nowhere : goal.returns-then-nowhere
 returns-then-nowhere c = sym (pick_yes _ _ _ (truth_true _ (sym c.nowhere.ensures ∙ c.if-nowhere.true)))
 
-pub returns : goal.returns
-returns c = sym (pick_no _ _ _ (truth_false _ (sym c.nowhere.ensures ∙ c.if-nowhere.false)))
+pub returns-else-nowhere : goal.returns-else-nowhere
+returns-else-nowhere c = sym (pick_no _ _ _ (truth_false _ (sym c.nowhere.ensures ∙ c.if-nowhere.false)))

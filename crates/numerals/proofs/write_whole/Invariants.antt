@@ -1,13 +1,9 @@
 use mathlib.Core.Path.{◌≡◌}
 use mathlib.Core.List.{◌++◌}
-use Prim.Native.Nat.{◌≤◌}
 use lib.ListN.{length, drop}
 use Rattle.forms.specs.Form.{sign}
 use Rattle.forms.specs.Show.{figures, digits, aligned}
 use Rattle.numerals.proofs.write_whole.Given as goal
 
 abbrev pub invariant-loop-i : goal.invariant-loop-i
-invariant-loop-i l = (l.i ≤ length l.out) × (length l.out ≡ length l.initial.out) × (aligned l.i (sign l.due ++ figures l.left l.left) ++ drop l.i l.out ≡ aligned (length l.initial.out) (sign l.minus ++ digits 1 l.n))
-
-abbrev pub decreases-loop-i : goal.decreases-loop-i
-decreases-loop-i l = l.i
+invariant-loop-i l = aligned l.i (sign l.due ++ figures l.left l.left) ++ drop l.i l.out ≡ aligned (length l.initial.out) (sign l.minus ++ digits 1 l.n)

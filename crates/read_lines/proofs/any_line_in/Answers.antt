@@ -20,14 +20,14 @@ pub slice_bounds-look_at-end : goal.slice_bounds-look_at-end
 slice_bounds-look_at-end c =
     let h = c.span_in-s.ensures in sym (length-take-le _ _ (omega (arith, h.inside, h.within)))
 
-pub returns-in-Wrong : goal.returns-in-Wrong
-returns-in-Wrong c =
-    stand_bad _ _ c.span_in-s.ensures _ _ (cc)
+pub returns-in-Err : goal.returns-in-Err
+returns-in-Err c =
+    stand_bad _ _ c.span_in-s.ensures _ (cc)
 
-pub returns-in-Blank : goal.returns-in-Blank
-returns-in-Blank c =
+pub returns-in-Ok-Blank : goal.returns-in-Ok-Blank
+returns-in-Ok-Blank c =
     stand_skip _ _ c.span_in-s.ensures (cc)
 
-pub returns-in-Full : goal.returns-in-Full
-returns-in-Full c =
+pub returns-in-Ok-Full : goal.returns-in-Ok-Full
+returns-in-Ok-Full c =
     stand_row _ _ c.span_in-s.ensures (cc)

@@ -1,26 +1,15 @@
-use Prim.Native.Nat.{◌-◌}
 use native.Mathlib.Omega.{arith}
 use Rattle.read_lines.specs.Lines.{blank?}
 use Rattle.read_lines.proofs.Passing.{passing_step, passing_stop, passing_end}
 use Rattle.read_lines.proofs.blanks_in.Goals as goal
 
-pub loop-i-init : goal.loop-i-init
-loop-i-init c = (omega arith, omega arith)
-
-pub bounds-line-i : goal.bounds-line-i
-bounds-line-i c = omega arith
-
-pub returns-then-line-i-ne32 : goal.returns-then-line-i-ne32
-returns-then-line-i-ne32 c = let l = c.before.before.before in passing_stop blank? _ _ l.loop-i.invariant.1 (omega arith) c.if-line-i-ne32.true
-
-pub overflow_add-i : goal.overflow_add-i
-overflow_add-i c = omega arith
-
-pub loop-i-smaller : goal.loop-i-smaller
-loop-i-smaller c = omega arith
+pub returns-then-b-ne32 : goal.returns-then-b-ne32
+returns-then-b-ne32 c = passing_stop blank? c.args.line.now c.loop-i.i c.loop-i.invariant c.loop-i-test.true c.if-b-ne32.true
 
 pub loop-i-preserved : goal.loop-i-preserved
-loop-i-preserved c = let l = c.before.before.before in (omega arith, passing_step blank? _ _ l.loop-i.invariant.1 (omega arith) c.if-line-i-ne32.false)
+loop-i-preserved c = passing_step blank? c.args.line.now c.loop-i.i c.loop-i.invariant c.loop-i-test.true c.if-b-ne32.false
 
 pub returns : goal.returns
-returns c = let l = c.before in passing_end blank? _ _ l.loop-i.invariant.1 (omega arith)
+returns c =
+    let e = passing_end blank? c.args.line.now c.loop-i.i c.loop-i.invariant (omega arith) in
+    omega arith

@@ -1,4 +1,5 @@
 use native.Mathlib.Omega.{arith}
+use Rattle.read_lines.proofs.Passing.{printable_counted}
 use Rattle.read_lines.proofs.Firsts.{look_long, look_odd, look_full, look_blank}
 use Rattle.read_lines.proofs.look_at.Goals as goal
 
@@ -8,12 +9,12 @@ returns-then-line-gt80 c =
 
 pub returns-then-p-line : goal.returns-then-p-line
 returns-then-p-line c =
-    look_odd _ (omega arith) _ c.printable_in-p.ensures (omega arith)
+    look_odd _ (omega arith) _ (printable_counted _ _ c.printable_in-p.ensures) (omega arith)
 
 pub returns-then-b-line : goal.returns-then-b-line
 returns-then-b-line c =
-    look_full _ (omega arith) _ c.printable_in-p.ensures (omega arith) _ c.blanks_in-b.ensures (omega arith)
+    look_full _ (omega arith) _ (printable_counted _ _ c.printable_in-p.ensures) (omega arith) _ c.blanks_in-b.ensures (omega arith)
 
 pub returns : goal.returns
 returns c =
-    look_blank _ (omega arith) _ c.printable_in-p.ensures (omega arith) _ c.blanks_in-b.ensures (omega arith)
+    look_blank _ (omega arith) _ (printable_counted _ _ c.printable_in-p.ensures) (omega arith) _ c.blanks_in-b.ensures (omega arith)

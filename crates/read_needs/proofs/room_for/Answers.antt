@@ -1,48 +1,33 @@
-use mathlib.Core.Path.{sym, ◌∙◌}
-use mathlib.Core.Option.{some}
-use Prim.Native.Nat.{ℕ}
-use native.Mathlib.Omega.{arith}
-use native.Mathlib.Decide.{dec_le}
-use Rattle.kit.proofs.AnswerLaws.{pick_yes, pick_no}
-use Rattle.read_needs.specs.Needs.{first_short}
+use mathlib.Core.Path.{◌∙◌}
+use Rattle.std.proofs.lemmas.Result.{err_from_is_err_and}
+use Rattle.read_needs.specs.Needs.{fit}
+use Rattle.read_needs.proofs.ShortLaws.{short_here, enough_here}
 use Rattle.read_needs.proofs.room_for.Goals as goal
 
-pub returns-then-lent-need : goal.returns-then-lent-need
-unfolding first_short
-returns-then-lent-need c =
-    let needed : ℕ = c.args.need.tec in
-    sym (pick_no (dec_le _ _) _ (some (1, needed)) (λ e. omega arith))
+pub returns-in_err-fits : goal.returns-in_err-fits
+returns-in_err-fits c =
+    let p = err_from_is_err_and c.from_residual.result c.from_residual.ensures.1 in
+    rw (p.1, p.2) (short_here _ _ _ 1 c.in_err-fits.ensures)
 
-pub returns-then-lent-need-2 : goal.returns-then-lent-need-2
-unfolding first_short
-returns-then-lent-need-2 c =
-    let needed : ℕ = c.args.need.rms in
-    sym (pick_yes (dec_le _ _) _ _ (omega arith) ∙ pick_no (dec_le _ _) _ (some (2, needed)) (λ e. omega arith))
+pub returns-in_err-fits-2 : goal.returns-in_err-fits-2
+returns-in_err-fits-2 c =
+    let p = err_from_is_err_and c.from_residual-in_err-fits-2.result c.from_residual-in_err-fits-2.ensures.1 in
+    rw (p.1, p.2) (short_here _ _ _ 2 c.in_err-fits-2.ensures ∙ enough_here _ _ _ 1 c.in_ok-fits.ensures)
 
-pub returns-then-lent-need-3 : goal.returns-then-lent-need-3
-unfolding first_short
-returns-then-lent-need-3 c =
-    let needed : ℕ = c.args.need.height in
-    sym (pick_yes (dec_le _ _) _ _ (omega arith) ∙ pick_yes (dec_le _ _) _ _ (omega arith) ∙ pick_no (dec_le _ _) _ (some (3, needed)) (λ e. omega arith))
+pub returns-in_err-fits-3 : goal.returns-in_err-fits-3
+returns-in_err-fits-3 c =
+    let p = err_from_is_err_and c.from_residual-in_err-fits-3.result c.from_residual-in_err-fits-3.ensures.1 in
+    rw (p.1, p.2) (short_here _ _ _ 3 c.in_err-fits-3.ensures ∙ enough_here _ _ _ 2 c.in_ok-fits-2.ensures ∙ enough_here _ _ _ 1 c.in_ok-fits.ensures)
 
-pub returns-then-lent-need-4 : goal.returns-then-lent-need-4
-unfolding first_short
-returns-then-lent-need-4 c =
-    let needed : ℕ = c.args.need.exponents in
-    sym (pick_yes (dec_le _ _) _ _ (omega arith) ∙ pick_yes (dec_le _ _) _ _ (omega arith) ∙ pick_yes (dec_le _ _) _ _ (omega arith) ∙ pick_no (dec_le _ _) _ (some (4, needed)) (λ e. omega arith))
+pub returns-in_err-fits-4 : goal.returns-in_err-fits-4
+returns-in_err-fits-4 c =
+    let p = err_from_is_err_and c.from_residual-in_err-fits-4.result c.from_residual-in_err-fits-4.ensures.1 in
+    rw (p.1, p.2) (short_here _ _ _ 4 c.in_err-fits-4.ensures ∙ enough_here _ _ _ 3 c.in_ok-fits-3.ensures ∙ enough_here _ _ _ 2 c.in_ok-fits-2.ensures ∙ enough_here _ _ _ 1 c.in_ok-fits.ensures)
 
-pub returns-then-lent-need-5 : goal.returns-then-lent-need-5
-unfolding first_short
-returns-then-lent-need-5 c =
-    let needed : ℕ = c.args.need.epochs in
-    sym (pick_yes (dec_le _ _) _ _ (omega arith) ∙ pick_yes (dec_le _ _) _ _ (omega arith) ∙ pick_yes (dec_le _ _) _ _ (omega arith) ∙ pick_yes (dec_le _ _) _ _ (omega arith) ∙ pick_no (dec_le _ _) _ (some (5, needed)) (λ e. omega arith))
-
-pub returns-then-lent-need-6 : goal.returns-then-lent-need-6
-unfolding first_short
-returns-then-lent-need-6 c =
-    let needed : ℕ = c.args.need.marks in
-    sym (pick_yes (dec_le _ _) _ _ (omega arith) ∙ pick_yes (dec_le _ _) _ _ (omega arith) ∙ pick_yes (dec_le _ _) _ _ (omega arith) ∙ pick_yes (dec_le _ _) _ _ (omega arith) ∙ pick_yes (dec_le _ _) _ _ (omega arith) ∙ pick_no (dec_le _ _) _ (some (6, needed)) (λ e. omega arith))
+pub returns-in_err-fits-5 : goal.returns-in_err-fits-5
+returns-in_err-fits-5 c =
+    let p = err_from_is_err_and c.from_residual-in_err-fits-5.result c.from_residual-in_err-fits-5.ensures.1 in
+    rw (p.1, p.2) (short_here _ _ _ 5 c.in_err-fits-5.ensures ∙ enough_here _ _ _ 4 c.in_ok-fits-4.ensures ∙ enough_here _ _ _ 3 c.in_ok-fits-3.ensures ∙ enough_here _ _ _ 2 c.in_ok-fits-2.ensures ∙ enough_here _ _ _ 1 c.in_ok-fits.ensures)
 
 pub returns : goal.returns
-unfolding first_short
-returns c = sym (pick_yes (dec_le _ _) _ _ (omega arith) ∙ pick_yes (dec_le _ _) _ _ (omega arith) ∙ pick_yes (dec_le _ _) _ _ (omega arith) ∙ pick_yes (dec_le _ _) _ _ (omega arith) ∙ pick_yes (dec_le _ _) _ _ (omega arith) ∙ pick_yes (dec_le _ _) _ _ (omega arith))
+returns c = c.fits-6.ensures ∙ enough_here _ _ _ 5 c.in_ok-fits-5.ensures ∙ enough_here _ _ _ 4 c.in_ok-fits-4.ensures ∙ enough_here _ _ _ 3 c.in_ok-fits-3.ensures ∙ enough_here _ _ _ 2 c.in_ok-fits-2.ensures ∙ enough_here _ _ _ 1 c.in_ok-fits.ensures

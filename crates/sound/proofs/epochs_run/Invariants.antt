@@ -1,12 +1,8 @@
 use mathlib.Core.Path.{◌≡◌}
-use Prim.Native.Nat.{◌≤◌, ◌-◌, ◌+◌}
-use lib.ListN.{length, drop}
+use lib.ListN.{drop}
 use Rattle.kit.specs.Truth.{truth}
-use Rattle.mapset.specs.Sound.{runs?}
+use Rattle.mapset.specs.SoundDecided.{run?}
 use Rattle.sound.proofs.epochs_run.Given as goal
 
-abbrev pub invariant-loop-i : goal.invariant-loop-i
-invariant-loop-i l = (l.i + 1 ≤ length l.epochs) × (truth (runs? l.interval l.last (drop l.i l.epochs)) ≡ truth (runs? l.interval l.last l.epochs))
-
-abbrev pub decreases-loop-i : goal.decreases-loop-i
-decreases-loop-i l = length l.epochs - l.i
+abbrev pub invariant-loop-epoch : goal.invariant-loop-epoch
+invariant-loop-epoch l = truth (run? l.interval l.last l.before (drop l.epoch-index l.rest)) ≡ truth (run? l.interval l.last l.first l.rest)

@@ -7,6 +7,6 @@ pub returns-then-stands : goal.returns-then-stands
 unfolding count?
 returns-then-stands c = rw c.if-stands.true c.within.ensures
 
-pub returns : goal.returns
+pub returns-else-stands : goal.returns-else-stands
 unfolding count?
-returns c = rw c.if-stands.false (eq_tells _ 0)
+returns-else-stands c = rw c.if-stands.false (eq_tells _ 0)

@@ -2,8 +2,6 @@
 use mathlib.Core.Path.{◌≡◌, sym, ◌∙◌}
 use mathlib.Core.Logic.{inl, inr, ⊎_elim}
 use lib.IntN.{ℤ}
-use mir.Syntax.{w32}
-use mir.Val.{to_z, of_z}
 use mir.Facts.{to_z-of_z}
 use Rattle.kit.specs.Answer.{⊎_dec, all_dec}
 use Rattle.kit.specs.Integer.{int?}
@@ -13,15 +11,11 @@ use Rattle.mapset.specs.Areas.{present?}
 use Rattle.valid.proofs.there_or.Goals as goal
 
 pub returns-then-present : goal.returns-then-present
-returns-then-present c =
-    let a = c.args in
-    holds (⊎_dec (present? a.kind a.mark) (all_dec (λ x. int? x a.v) a.values.now)) (inl (truth_true _ (sym c.present.ensures ∙ c.if-present.true)))
+returns-then-present c = c.if-present.true ∙ holds (⊎_dec (present? c.args.kind c.args.mark) _) (inl (truth_true _ (sym c.present.ensures ∙ c.if-present.true)))
 
-pub returns : goal.returns
-returns c =
-    let s = c.before.before.before in
-    let a = s.args in
-    let e : to_z w32 (of_z w32 a.v) ≡ a.v = to_z-of_z s.ranges.v in
+pub returns-else-present : goal.returns-else-present
+returns-else-present c =
+    let a = c.args in
     let d = all_dec (λ (x : ℤ). int? x a.v) a.values.now in
-    let r : c.all_same.result ≡ truth d = rw e at c.all_same.ensures in
+    let r : c.all_same.result ≡ truth d = rw (to_z-of_z c.ranges.v) at c.all_same.ensures in
     r ∙ truth_same d (⊎_dec (present? a.kind a.mark) d) (λ p. inr p) (⊎_elim (λ p. absurd (truth_false _ (sym c.present.ensures ∙ c.if-present.false) p)) (λ p. p))

@@ -1,8 +1,11 @@
 -- `write_line::put_end` meets its contract.
-use Prim.Native.Nat.{◌+◌, ◌<◌}
+use mathlib.Core.Path.{◌≡◌}
 use native.Mathlib.Omega.{arith}
+use Prim.Native.Nat.{◌+◌, ◌<◌}
 use lib.IntN.{pos}
-use mir.Facts.{to_z-of_z}
+use mir.Syntax.{w32}
+use mir.Val.{to_z}
+use mir.Facts.{to_z_pos}
 use Rattle.write_line.proofs.Bounds.{end_row, start_within}
 use Rattle.write_line.proofs.put_end.Goals as goal
 
@@ -13,13 +16,13 @@ overflow_add-k c = omega (arith, c.start_label-k.ensures, start_within c.args.ki
 pub put_number-requires : goal.put_number-requires
 put_number-requires c =
     let k = c.start_label-k.ensures in
-    let s = c.before.before.before.before in
-    let behind_start : c.start_label-k.result + 1 < 32 = omega (arith, k, start_within s.args.kind) in
-    (behind_start, rw (to_z-of_z (record { sfits = c.signed.type_inv }), c.signed.ensures, k, end_row s.args.kind (pos s.args.number)) s.requires.1)
+    let s = c.args in
+    let z : to_z w32 s.number ≡ pos s.number = to_z_pos w32 (omega arith) in
+    let b : c.start_label-k.result + 1 < 32 = omega (arith, k, start_within s.kind) in
+    (b, rw (z, k, end_row s.kind (pos s.number)) c.requires.1)
 
 pub returns : goal.returns
 returns c =
-    let n = c.before.before in
-    let g = n.before in
-    let s = g.before.before.before.before in
-    rw (to_z-of_z (record { sfits = g.signed.type_inv }), g.signed.ensures, g.start_label-k.ensures, end_row s.args.kind (pos s.args.number)) at n.put_number.ensures
+    let s = c.args in
+    let z : to_z w32 s.number ≡ pos s.number = to_z_pos w32 (omega arith) in
+    rw (z, c.start_label-k.ensures, end_row s.kind (pos s.number)) at c.put_number.ensures

@@ -12,9 +12,3 @@ returns-then-out-at c =
     let a = c.args in
     let vs = a.values.now in
     line_over a.out.now (value_row vs) a.at (5 * length vs) (row_holds vs) (row_shown vs) (omega arith)
-
-pub put_line-requires : goal.put_line-requires
-put_line-requires c = rw c.value_row-row.ensures c.requires.1
-
-pub returns : goal.returns
-returns c = rw (← c.value_row-row.ensures) c.put_line.ensures

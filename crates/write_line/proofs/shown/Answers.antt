@@ -1,36 +1,24 @@
 -- The bytes of a row up to its last non-blank one: what stands in front ends where the row ends.
 use mathlib.Core.Path.{◌≡◌, sym, ap, ◌∙◌}
 use native.Mathlib.Omega.{arith}
+use Prim.Native.Nat.{◌+◌, ◌-◌}
 use lib.Seq.{take-length}
 use Rattle.canonical.specs.Canon.{trimmed}
 use Rattle.write_line.proofs.LineLaws.{one_less, ends_here}
 use Rattle.write_line.proofs.shown.Goals as goal
 
 pub loop-n-init : goal.loop-n-init
-loop-n-init c = (omega arith, ap trimmed (take-length _))
-
-pub overflow_sub-n : goal.overflow_sub-n
-overflow_sub-n c = omega arith
-
-pub bounds-row-n : goal.bounds-row-n
-bounds-row-n c = omega arith
+loop-n-init c = ap trimmed (take-length _)
 
 pub returns-then-row-n-ne32 : goal.returns-then-row-n-ne32
 returns-then-row-n-ne32 c =
-    let l = c.before.before.before in
-    (l.loop-n.invariant.0, sym (ends_here _ l.loop-n.n (omega arith) l.loop-n.invariant.0 c.if-row-n-ne32.true) ∙ l.loop-n.invariant.1)
-
-pub overflow_sub-n-in-loop-n : goal.overflow_sub-n-in-loop-n
-overflow_sub-n-in-loop-n c = omega arith
-
-pub loop-n-smaller : goal.loop-n-smaller
-loop-n-smaller c = omega arith
+    let l = c.loop-n in
+    let e : l.n - 1 + 1 ≡ l.n = omega (arith, c.loop-n-test.true) in
+    rw e (l.auto.n, sym (ends_here _ l.n c.loop-n-test.true l.auto.n c.if-row-n-ne32.true) ∙ l.invariant)
 
 pub loop-n-preserved : goal.loop-n-preserved
-loop-n-preserved c =
-    let l = c.before.before.before in
-    (omega arith, one_less _ l.loop-n.n (omega arith) l.loop-n.invariant.0 c.if-row-n-ne32.false ∙ l.loop-n.invariant.1)
+loop-n-preserved c = let l = c.loop-n in one_less _ l.n c.loop-n-test.true l.auto.n c.if-row-n-ne32.false ∙ l.invariant
 
 pub returns : goal.returns
 unfolding trimmed
-returns c = let l = c.before in let z : l.loop-n.n ≡ 0 = omega arith in (omega arith, rw z at l.loop-n.invariant.1)
+returns c = let z : c.loop-n.n ≡ 0 = omega arith in (omega arith, rw z at c.loop-n.invariant)

@@ -1,10 +1,18 @@
-use mathlib.Core.Path.{ap, ◌∙◌}
-use Rattle.kit.specs.Answer.{Answer}
-use lib.IntN.{ℤ}
-use Rattle.reading.specs.Feed.{Fault}
-use Rattle.head_said.proofs.RecordLaws.{tenths_says, told_alike}
-use Rattle.head_said.specs.Records.{ranged_in}
+use mathlib.Core.Path.{◌≡◌, ◌∙◌}
+use mir.Syntax.{w32}
+use mir.Val.{to_z, of_z}
+use borrow.Author.Rules.{rules}
+use Rattle.std.proofs.lemmas.Result.{err_from_is_err_and}
+use Rattle.head_said.proofs.RecordLaws.{ranged_on, ranged_no, tenths_says, told_alike}
 use Rattle.head_said.proofs.content.hear_tenths.Goals as goal
 
+pub returns-in_err-number : goal.returns-in_err-number
+returns-in_err-number c =
+    let p = err_from_is_err_and c.from_residual.result c.from_residual.ensures.1 in
+    rw (p.1, p.2) (ranged_no c.args.low c.args.high c.tenths_record.result _ c.tenths_record.ensures _ c.in_err-number.was ∙ tenths_says _ _ _)
+
 pub returns : goal.returns
-returns c = told_alike c.args.low c.args.high c.ranged.result ∙ c.ranged.ensures ∙ ap (λ (x : Answer Fault (ℤ × Unit {0})). ranged_in c.args.low c.args.high x) c.tenths_record.ensures ∙ tenths_says c.args.low c.args.high _
+returns c =
+    let z : to_z w32 (of_z w32 c.in_ok-number.number) ≡ c.in_ok-number.number = search rules in
+    told_alike c.args.low c.args.high c.ranged.result ∙ rw z at c.ranged.ensures
+    ∙ ranged_on c.args.low c.args.high c.tenths_record.result _ c.tenths_record.ensures _ c.in_ok-number.was ∙ tenths_says _ _ _

@@ -1,16 +1,28 @@
-use mathlib.Core.Path.{refl}
 use mir.Facts.{to_z-of_z}
 use Rattle.mapset.specs.Decisions.{end?}
+use Rattle.mapset.proofs.JudgedLaws.{from_low, below_low}
 use Rattle.mapset.proofs.axes.end_fits.Goals as goal
 
-pub returns-in-Heights : goal.returns-in-Heights
+pub returns-then-x-ge0 : goal.returns-then-x-ge0
 unfolding end?
-returns-in-Heights c = rw (c.in-Heights.is, c.between.ensures, to_z-of_z c.ranges.x) refl
+returns-then-x-ge0 c = rw (c.in-Heights.is, to_z-of_z c.ranges.x) (from_low _ _ _ (rw (to_z-of_z c.ranges.x) at c.if-x-ge0.true))
 
-pub returns-in-Latitudes : goal.returns-in-Latitudes
+pub returns-else-x-ge0 : goal.returns-else-x-ge0
 unfolding end?
-returns-in-Latitudes c = rw (c.in-Latitudes.is, c.between-in-Latitudes.ensures, to_z-of_z c.ranges.x) refl
+returns-else-x-ge0 c = rw (c.in-Heights.is, to_z-of_z c.ranges.x) (below_low _ _ _ (rw (to_z-of_z c.ranges.x) at c.if-x-ge0.false))
 
-pub returns-in-Longitudes : goal.returns-in-Longitudes
+pub returns-then-x-geminus900 : goal.returns-then-x-geminus900
 unfolding end?
-returns-in-Longitudes c = rw (c.in-Longitudes.is, c.between-in-Longitudes.ensures, to_z-of_z c.ranges.x) refl
+returns-then-x-geminus900 c = rw (c.in-Latitudes.is, to_z-of_z c.ranges.x) (from_low _ _ _ (rw (to_z-of_z c.ranges.x) at c.if-x-geminus900.true))
+
+pub returns-else-x-geminus900 : goal.returns-else-x-geminus900
+unfolding end?
+returns-else-x-geminus900 c = rw (c.in-Latitudes.is, to_z-of_z c.ranges.x) (below_low _ _ _ (rw (to_z-of_z c.ranges.x) at c.if-x-geminus900.false))
+
+pub returns-then-x-geminus1800 : goal.returns-then-x-geminus1800
+unfolding end?
+returns-then-x-geminus1800 c = rw (c.in-Longitudes.is, to_z-of_z c.ranges.x) (from_low _ _ _ (rw (to_z-of_z c.ranges.x) at c.if-x-geminus1800.true))
+
+pub returns-else-x-geminus1800 : goal.returns-else-x-geminus1800
+unfolding end?
+returns-else-x-geminus1800 c = rw (c.in-Longitudes.is, to_z-of_z c.ranges.x) (below_low _ _ _ (rw (to_z-of_z c.ranges.x) at c.if-x-geminus1800.false))

@@ -1,5 +1,0 @@
-use mathlib.Core.Path.{refl}
-use Rattle.c_given.proofs.version_in.Goals as goal
-
-pub returns : goal.returns
-returns c = rw (c.count_at.ensures, c.kind_at.ensures, c.count_at-2.ensures) refl

@@ -1,8 +1,0 @@
--- `week_tally::count` meets its contract.
-use native.Mathlib.Omega.{arith}
-use mir.Syntax.{w64}
-use mir.Facts.{to_z_pos}
-use Rattle.week_tally.proofs.count.Goals as goal
-
-pub returns : goal.returns
-returns c = to_z_pos w64 (omega arith)
