@@ -39,12 +39,17 @@ def like_option_or_result(tree):
             yield path, name + " { " + " ".join(variants) + " }"
 
 
-def refusal_numbers(tree):
-    """A refusal that is passed on as two or three bare numbers."""
+def matching(tree, pattern):
+    """The lines, without their comments, in which the pattern stands."""
     for path, text in sources(tree):
         for i, line in enumerate(bare(text).split("\n"), 1):
-            if re.search(r"\b(Refused|Wrong|Bad|Stop|Halt)\((u64, u64|\d+,|number, )", line):
+            if re.search(pattern, line):
                 yield path, f"{i}: {line.strip()}"
+
+
+def refusal_numbers(tree):
+    """A refusal that is passed on as two or three bare numbers."""
+    return matching(tree, r"\b(Refused|Wrong|Bad|Stop|Halt)\((u64, u64|\d+,|number, )")
 
 
 def sentinels(tree):
@@ -55,12 +60,18 @@ def sentinels(tree):
                 yield path, f"{i}: {line.strip()}"
 
 
-def flags(tree):
-    """A bool field with the value that it speaks of beside it."""
+def structs(tree):
+    """Each struct with named fields: where it stands, its name, its fields."""
     for path, text in sources(tree):
         for m in re.finditer(r"struct (\w+) \{\n(.*?)\n\}", bare(text), re.S):
-            if re.search(r"\b(stands|seen|found|some|has\w*): (bool|\[bool)", m.group(2)):
-                yield path, m.group(1)
+            yield path, m.group(1), m.group(2)
+
+
+def flags(tree):
+    """A bool field with the value that it speaks of beside it."""
+    for path, name, fields in structs(tree):
+        if re.search(r"\b(stands|seen|found|some|has\w*): (bool|\[bool)", fields):
+            yield path, name
 
 
 def kinds_by_number(tree):
@@ -73,10 +84,7 @@ def kinds_by_number(tree):
 
 
 def loops(tree):
-    for path, text in sources(tree):
-        for i, line in enumerate(bare(text).split("\n"), 1):
-            if re.search(r"^\s*(while\b|loop \{)", line):
-                yield path, f"{i}: {line.strip()}"
+    return matching(tree, r"^\s*(while\b|loop \{)")
 
 
 def by_hand(tree):
@@ -114,11 +122,11 @@ def long_lists(tree):
 
 def parallel(tree):
     """An array with its length or its flags in a field beside it."""
-    for path, text in sources(tree):
-        for m in re.finditer(r"struct (\w+) \{\n(.*?)\n\}", bare(text), re.S):
-            fields = m.group(2)
-            if len(re.findall(r": \[", fields)) >= 2 or (re.search(r": \[", fields) and re.search(r"\b(len|count|held|used|descriptions): (u32|usize)", fields)):
-                yield path, m.group(1)
+    for path, name, fields in structs(tree):
+        arrays = len(re.findall(r": \[", fields))
+        counted = re.search(r"\b(len|count|held|used|descriptions): (u32|usize)", fields)
+        if arrays >= 2 or (arrays and counted):
+            yield path, name
 
 
 def proof_lines(tree):
