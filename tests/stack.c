@@ -168,7 +168,6 @@ int main(int argc, char **argv)
     int accepted = 0, wrong = 0;
     /* Found by the loader at their first call, which takes stack of its own. */
     memcpy(out, text, (size_t)argc);
-    memmove(out + 1, out, (size_t)argc);
     for (int i = 1; i < argc; i++) {
         FILE *file = fopen(argv[i], "rb");
         length = file ? fread(text, 1, sizeof text, file) : 0;

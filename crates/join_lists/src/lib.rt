@@ -9,13 +9,14 @@ ghost use Rattle.join_lists.specs.Lists.{or_absent, values_of_two, ThirdsFit, th
 
 use mapset::Kind;
 
-// A list into an area, from a position on.
+// A list into an area, from a position on. `copy_from_slice` would have the archive call memmove of the C library.
 fn copy_at<T: Copy>(src: &[T], out: &mut [T], at: usize)
     requires { at + length src.now ≤ length out.old }
     ensures { out.new ≡ paste out.old at src.now (length src.now) }
 {
-    let end = at + src.len();
-    out[at..end].copy_from_slice(src);
+    for j in 0..src.len() {
+        out[at + j] = src[j];
+    }
 }
 
 // So many values of maps that are not there.

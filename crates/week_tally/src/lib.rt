@@ -66,17 +66,6 @@ pub fn empty(nodes: u64) -> Tally
     }
 }
 
-// The figures of one node.
-fn single(n: Option<Value>) -> Tally
-    ensures { result ≡ figures.single (bare n) }
-{
-    match n {
-        None => empty(1),
-        Some(Value::Tecu(v)) => of_value(v.0),
-        Some(Value::Km(v)) => of_value(v.0),
-    }
-}
-
 // The figures of a node with a value.
 fn of_value(v: i32) -> Tally
     ensures { result ≡ figures.single (some v) }
@@ -92,6 +81,18 @@ fn of_value(v: i32) -> Tally
     }
 }
 
+// The figures with one node more, case by case: a loop over nodes then takes no more than each case needs.
+fn with(t: Tally, n: Option<Value>) -> Tally
+    requires { figures.Ready t × figures.Ready (figures.single (bare n)) }
+    ensures { result ≡ figures.joined t (figures.single (bare n)) }
+{
+    match n {
+        None => join(t, empty(1)),
+        Some(Value::Tecu(v)) => join(t, of_value(v.0)),
+        Some(Value::Km(v)) => join(t, of_value(v.0)),
+    }
+}
+
 // The figures of numbers under one exponent, of a map that is there.
 pub fn tally_of(kind: u64, values: &[i32], exponent: i32) -> Tally
     requires { length values.now ≤ 1_000_000_000 }
@@ -99,7 +100,7 @@ pub fn tally_of(kind: u64, values: &[i32], exponent: i32) -> Tally
 {
     let mut t = empty(0);
     for &value in values {
-        t = join(t, single(ask_nodes::node_of(kind, value, exponent)));
+        t = with(t, ask_nodes::node_of(kind, value, exponent));
     }
     t
 }
