@@ -28,7 +28,6 @@ use join_areas::Refusal;
 use mapset::{Header, Texts};
 use read_needs::Elements;
 use read_outcome::{ReadOut, Reason};
-use reading::Why;
 use write_text::Unwritten;
 
 // ---- The areas of a call's own
@@ -112,7 +111,7 @@ fn put_elements(out: &mut [u64], n: Elements)
 }
 
 // What a text needs crosses: its number; the six needs, or the place.
-pub fn put_needs(measured: Result<Elements, Why>, needs: &mut [u64], place: &mut [u64]) -> u64
+pub fn put_needs(measured: Result<Elements, Reason>, needs: &mut [u64], place: &mut [u64]) -> u64
     requires { (6 ≤ length needs.old) × (2 ≤ length place.old) }
     ensures { (result ≡ needs_number measured)
         × ((needs.new ≡ front (told_needs measured) needs.old)
@@ -123,10 +122,7 @@ pub fn put_needs(measured: Result<Elements, Why>, needs: &mut [u64], place: &mut
             put_elements(needs, n);
             0
         }
-        Err(why) => {
-            c_header::put_pair(place, why.line, why.column);
-            why.number
-        }
+        Err(reason) => put_refusal(reason, place),
     }
 }
 

@@ -7,8 +7,7 @@ ghost use Rattle.c_answers.specs.ReadExported.{crossed, read_crossed};
 ghost use Rattle.c_answers.specs.NeedsExported.{NeedsCross};
 
 use read_needs::Elements;
-use read_outcome::ReadOut;
-use reading::Why;
+use read_outcome::{ReadOut, Reason};
 
 // A text into six lent areas: the map set's header record and texts, or the reason why not.
 pub fn read(
@@ -58,7 +57,7 @@ pub extern "C" fn ionex_read(
 }
 
 // What each of the six areas needs for a text, or the reason why it is refused.
-pub fn needs(text: &[u8]) -> Result<Elements, Why>
+pub fn needs(text: &[u8]) -> Result<Elements, Reason>
     ensures outcome { Measures text.now result }
 {
     read_measure::measure(text)

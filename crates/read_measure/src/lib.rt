@@ -4,10 +4,10 @@
 ghost use Rattle.read_outcome.specs.Measures.{Measures};
 
 use read_needs::Elements;
-use reading::Why;
+use read_outcome::Reason;
 
-// What each area needs; or why the text is refused.
-pub fn measure(text: &[u8]) -> Result<Elements, Why>
+// What each area needs; or the reason why the text is refused.
+pub fn measure(text: &[u8]) -> Result<Elements, Reason>
     ensures { Measures text.now result }
 {
     let mut lines = [b' '; 1200];

@@ -8,7 +8,6 @@ use Rattle.kit.specs.Answer.{pick}
 use Rattle.kit.proofs.TruthLaws.{clash}
 use Rattle.mapset.specs.declared.Header.{Header}
 use Rattle.areas.specs.Flat.{areas}
-use Rattle.reading.specs.declared.Why.{Why}
 use Rattle.read_needs.specs.Needs.{lengths}
 use Rattle.read_needs.specs.declared.Elements.{Elements}
 use Rattle.read_outcome.specs.Outcome.{ToldReading, accepted, at_place, eleven, told_reason, told, texts_in}
@@ -54,11 +53,15 @@ back_told (Err w) = back_reason w
 pub told_once : (a b : Result Header Reason) → told a ≡ told b → a ≡ b
 told_once a b e = sym (back_told a) ∙ ap back e ∙ back_told b
 
-pub needs_once : (t : List ℕ) (a b : Result Elements Why) → Measures t a → Measures t b → a ≡ b
+pub needs_once : (t : List ℕ) (a b : Result Elements Reason) → Measures t a → Measures t b → a ≡ b
 needs_once t (Ok n) (Ok k) (m, (p, q)) (m', (p', q')) = let z : m ≡ m' = cc in ap Ok (q ∙ ap (λ x. lengths (areas x)) z ∙ sym q')
-needs_once t (Ok n) (Err w) (m, (p, q)) r = clash (cc)
-needs_once t (Err w) (Ok n) r (m, (p, q)) = clash (cc)
-needs_once t (Err v) (Err w) p q = let z : v ≡ w = cc in ap Err z
+needs_once t (Ok n) (Err w) (m, (p, q)) (y, (p', q')) = clash (cc)
+needs_once t (Err w) (Ok n) (y, (p, q)) (m, (p', q')) = clash (cc)
+needs_once t (Err v) (Err w) (y, (p, q)) (y', (p', q')) =
+    let z : y ≡ y' = cc in
+    let e = told_once (Err v) (Err w) (q ∙ ap (λ y. at_place y.number y.line y.column) z ∙ sym q') in
+    let f : v ≡ w = cc in
+    ap Err f
 
 pub texts_once : (r s : ReadOut) → texts_in r ≡ texts_in s → (r.texts ≡ s.texts) × (r.descriptions ≡ s.descriptions)
 texts_once r s e = (λ i. record { program = (e i).program; agency = (e i).agency; date = (e i).date; mapping = (e i).mapping; observables = (e i).observables }, λ i. record { bytes = (e i).descriptions })

@@ -7,8 +7,10 @@ use Rattle.reading.specs.Read.{read}
 use Rattle.areas.specs.Flat.{areas}
 use Rattle.read_needs.specs.Needs.{lengths}
 use Rattle.read_needs.specs.declared.Elements.{Elements}
+use Rattle.read_outcome.specs.Outcome.{at_place, told_reason}
+use Rattle.read_outcome.specs.declared.Reason.{Reason}
 
 -- the text t is read as a map set, and its lists have these lengths; or it is refused, with this number, line and column
-abbrev pub Measures : List ℕ → Result Elements Why → Type 0
+abbrev pub Measures : List ℕ → Result Elements Reason → Type 0
 Measures t (Ok n) = (m : MapSet) × ((read t ≡ ok m) × (n ≡ lengths (areas m)))
-Measures t (Err w) = read t ≡ refused w
+Measures t (Err w) = (y : Why) × ((read t ≡ refused y) × (told_reason w ≡ at_place y.number y.line y.column))

@@ -8,12 +8,12 @@ use Rattle.kit.specs.Answer.{All}
 use Rattle.mapset.specs.declared.Header.{Header}
 use Rattle.mapset.specs.Areas.{Areas}
 use Rattle.reading.proofs.Exact.{made_read}
-use Rattle.reading.specs.declared.Why.{Why}
 use Rattle.read_needs.specs.Needs.{lengths, pairs}
 use Rattle.read_needs.specs.declared.Elements.{Elements}
-use Rattle.read_outcome.specs.Outcome.{outcome_of, at_place, told}
+use Rattle.read_outcome.specs.Outcome.{outcome_of}
 use Rattle.read_outcome.specs.Measures.{Measures}
 use Rattle.read_outcome.proofs.Once.{told_once}
+use Rattle.read_outcome.specs.declared.Reason.{Reason}
 use Rattle.read_outcome.specs.declared.Reason.TheVariants.{AreaTooShort}
 use Rattle.read_outcome.specs.declared.ReadOut.{ReadOut}
 use Rattle.read_text.proofs.Once.{Reads, FirstShort, given, short_exactly}
@@ -37,6 +37,6 @@ module _ (t : List ℕ) (l : Areas) (r : ReadOut) (l' : Areas) (c : Reads t l r 
   else_eleven n (m, (e, q)) a k f = (short_exactly t l r l' c a k).1 (m, (made_read t e, rw q at f))
 
   -- a refusal is the same, whatever is lent
-  pub refused_alike : (w : Why) → Measures t (Err w) → told r.answer ≡ at_place w.number w.line w.column
+  pub refused_alike : (w : Reason) → Measures t (Err w) → r.answer ≡ Err w
   unfolding outcome_of
-  refused_alike w e = ap (λ o. o.told) (c ∙ ap (λ a. outcome_of a l) e)
+  refused_alike w (y, (e, q)) = told_once r.answer (Err w) (ap (λ o. o.told) (c ∙ ap (λ a. outcome_of a l) e) ∙ sym q)

@@ -16,8 +16,6 @@ use Rattle.layout.specs.Samples.{lines}
 use Rattle.reading.proofs.Vectors.{two_faults, eight_before_seven, small_text, small_set, small_read, two_text, two_set, two_read}
 use Rattle.areas.specs.Flat.{areas_of, areas}
 use Rattle.areas.specs.Fronts.{fronts}
-use Rattle.reading.specs.declared.Why.{Why}
-use Rattle.reading.specs.Feed.{why}
 use Rattle.read_needs.specs.Needs.{first_short}
 use Rattle.read_needs.specs.declared.Elements.{Elements}
 use Rattle.read_outcome.specs.Measures.{Measures}
@@ -97,6 +95,6 @@ pub not_another_line : (n : ℕ) (x : Texts) (d : Descriptions) (l l' : Areas) �
 not_another_line n x d l l' c = let e : at_place 8 n 0 ≡ at_place 8 15 0 = ap (λ o. o.told) c ∙ faults_come l in cc
 
 -- other needs than these, or a refusal, told of a text with one TEC map and its RMS map
-pub not_other_needs : (r : Result Elements Why) → Measures (lines small_text) r → r ≡ Ok (record { tec = 6; rms = 6; height = 0; exponents = 6; epochs = 1; marks = 1 })
+pub not_other_needs : (r : Result Elements Reason) → Measures (lines small_text) r → r ≡ Ok (record { tec = 6; rms = 6; height = 0; exponents = 6; epochs = 1; marks = 1 })
 unfolding pick ℕ_discrete areas_of small_set
 not_other_needs r s = needs_once (lines small_text) r _ s (small_set, (small_read, refl))

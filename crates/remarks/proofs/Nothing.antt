@@ -28,6 +28,7 @@ use Rattle.read_outcome.specs.Outcome.{accepted, outcome, outcome_of, comes}
 use Rattle.read_outcome.specs.Measures.{Measures}
 use Rattle.read_outcome.proofs.Once.{needs_once}
 use Rattle.read_needs.specs.declared.Elements.{Elements}
+use Rattle.read_outcome.specs.declared.Reason.{Reason}
 use Rattle.read_outcome.specs.declared.ReadOut.{ReadOut}
 use Rattle.c_answers.specs.Own.{too_short, unless}
 use Rattle.c_answers.specs.ReadExported.{crossed, crosses, read_crossed}
@@ -92,11 +93,11 @@ module _ (t t' : List ℕ) (r : Remarked t t') where
   nothing_crosses l h x p = ap (λ o. unless (too_short (length h) (length x) (length p) 2) (crosses o h x p) (λ k. crossed k l h x p)) (nothing_in_areas l)
 
   -- what each area needs is the same too, or the refusal
-  needed : (a : Result Elements Why) → Measures t' a → Measures t a
+  needed : (a : Result Elements Reason) → Measures t' a → Measures t a
   needed (Ok n) (m, (e, f)) = (m, (nothing_from_remarks ∙ e, f))
-  needed (Err w) e = nothing_from_remarks ∙ e
+  needed (Err w) (y, (e, f)) = (y, (nothing_from_remarks ∙ e, f))
 
-  pub nothing_needed : (a b : Result Elements Why) → Measures t a → Measures t' b → a ≡ b
+  pub nothing_needed : (a b : Result Elements Reason) → Measures t a → Measures t' b → a ≡ b
   nothing_needed a b p q = needs_once t a b p (needed b q)
 
   -- and two calls of `ionex_needs`

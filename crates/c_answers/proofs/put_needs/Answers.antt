@@ -6,4 +6,5 @@ returns-in-Ok c = rw c.in-Ok.is (refl, (c.put_elements.ensures, refl))
 
 pub returns-in-Err : goal.returns-in-Err
 returns-in-Err c =
-    rw c.in-Err.is (refl, (refl, c.put_pair.ensures))
+    let w = c.put_refusal.ensures in
+    rw c.in-Err.is (w.0, (refl, w.1))

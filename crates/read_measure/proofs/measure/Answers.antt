@@ -3,6 +3,7 @@ use Rattle.std.proofs.lemmas.Result.{err_from_is_err_and}
 use Rattle.mapset.specs.Lines.{no_lines}
 use Rattle.mapset.specs.MapSet.{MapSet}
 use Rattle.read_judge.specs.Scanned.{set_of}
+use Rattle.read_judge.proofs.JudgeLaws.{one_to_ten}
 use Rattle.read_judge.proofs.NeedLaws.{limits, few_by, need_by}
 use Rattle.read_measure.proofs.measure.Goals as goal
 
@@ -21,7 +22,7 @@ needed-requires c =
 pub returns-in_err-scan : goal.returns-in_err-scan
 returns-in_err-scan c =
     let p = err_from_is_err_and c.from_residual.result c.from_residual.ensures.1 in
-    rw (p.1, p.2) c.in_err-scan.ensures
+    rw p.1 (_, (c.in_err-scan.ensures, p.2 (one_to_ten _ _ c.in_err-scan.ensures)))
 
 -- an accepted text is read as a map set, not refused with a reason
 pub returns : goal.returns
