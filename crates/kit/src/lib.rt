@@ -36,11 +36,12 @@ pub fn put_two(out: &mut [i32], at: usize, a: i32, b: i32)
 
 // ---- Areas
 
-// A slice into an area, from a position on.
+// A slice into an area, from a position on. By `copy_from_slice` the library for C would need memmove beside memcpy.
 pub fn copy_at<T: Copy>(from: &[T], out: &mut [T], at: usize)
     requires { at + length from.now ≤ length out.old }
     ensures { out.new ≡ sets out.old at from.now }
 {
-    let end = at + from.len();
-    out[at..end].copy_from_slice(from);
+    for i in 0..from.len() {
+        out[at + i] = from[i];
+    }
 }
