@@ -1,15 +1,15 @@
 -- Figures form a commutative monoid, and those of nodes one after the other are the figures combined.
 use mathlib.Core.Path.{◌≡◌, refl, sym, ap, ap₂, ◌∙◌}
 use mathlib.Core.Logic.{◌⊎◌, inl, inr, ⊎_elim}
-use mathlib.Core.List.{List, [], ◌∷◌, ◌++◌, map}
+use mathlib.Core.List.{List, [], ◌∷◌, ◌++◌, map, map-append}
 use mathlib.Core.Option.{Option, none, some}
 use Prim.Native.Nat.{ℕ, zero, suc, ◌+◌, ◌≤◌, ◌<◌}
 use native.Mathlib.Nat.{add_assoc, add_comm, zero-add, add-zero}
 use native.Mathlib.Omega.{arith}
 use lib.IntN.{ℤ, pos, nat_abs, ◌+ℤ◌, +ℤ_idl, +ℤ_idr, +ℤ_assoc, +ℤ_comm}
 use lib.Signed.{◌≤ℤ◌, ≤ℤ_refl}
-use lib.ListN.{length, replicate, get_or, drop, drop_of_length-le, length-map}
-use lib.Seq.{drop-cons}
+use lib.ListN.{length, replicate, get_or, take, drop, drop_of_length-le, length-map}
+use lib.Seq.{drop-cons, take-suc}
 use native.Mathlib.Numerals.{add-one}
 use Rattle.kit.specs.Answer.{All}
 use Rattle.kit.proofs.AnswerLaws.{pick_elim}
@@ -25,7 +25,7 @@ use Rattle.week_tally.specs.declared.Range.{Range}
 use Rattle.std.specs.Prelude.{Option as Maybe, Some, None}
 
 -- ---- ranges
-hull_none : (r : Maybe Range) → hull r None ≡ r
+pub hull_none : (r : Maybe Range) → hull r None ≡ r
 hull_none None = refl
 hull_none (Some r) = refl
 
@@ -208,6 +208,9 @@ module _ {A : Type 0} (f : A → Option ℤ) (s : List A) (z : A) (i : ℕ) wher
 
   pub figures_end : (t : Tally) → length s ≤ i → joined t (figures (map f (drop i s))) ≡ t
   figures_end t h = rw (drop_of_length-le s h, figures_none) (none_joined t)
+
+  pub figures_taken : i < length s → figures (map f (take (i + 1) s)) ≡ joined (figures (map f (take i s))) (single (f (get_or s i z)))
+  figures_taken h = rw (add-one, take-suc s i z h, map-append f (take i s) (get_or s i z ∷ [])) (figures_append (map f (take i s)) (f (get_or s i z) ∷ []))
 
 -- ---- numbers under one exponent
 pub small_numbers : (e : ℤ) (vs : List ℤ) → All Small (map (λ v. plain v e) vs)

@@ -2,3 +2,4 @@
 pub mod Gathered
 pub mod Figures
 pub mod Rows
+pub mod Seen

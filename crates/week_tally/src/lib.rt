@@ -4,10 +4,11 @@
 ghost use Rattle.std.specs.Prelude.{◌≡◌, map, ◌+◌, ◌≤◌, pos, length};
 ghost use Rattle.std.proofs.Math.Option.{some};
 ghost use Rattle.std.proofs.lemmas.List.Edits.{sets};
-ghost use Rattle.ask_nodes.specs.Nodes.{plain};
+ghost use Rattle.ask_nodes.specs.Nodes.{plain, Small};
 ghost use Rattle.ask_nodes.specs.Units.{bare};
 ghost use Rattle.week_tally.specs.Figures as figures;
 ghost use Rattle.week_tally.specs.Rows as rows;
+ghost use Rattle.week_tally.specs.Seen as seen;
 
 use ask_nodes::Value;
 
@@ -66,30 +67,61 @@ pub fn empty(nodes: u64) -> Tally
     }
 }
 
-// The figures of a node with a value.
-fn of_value(v: i32) -> Tally
-    ensures { result ≡ figures.single (some v) }
+// ---- Numbers one after the other
+
+// How many values came so far, their sum, the smallest and the largest, each in a number of its own: a Range would be taken apart and
+// put together again at every node. Before the first value the smallest is the largest i32, and the largest the smallest.
+#[derive(Clone, Copy)]
+struct Seen {
+    values: u64,
+    sum: i64,
+    smallest: i32,
+    largest: i32,
+}
+
+// A node with a value more.
+fn with_value(s: Seen, v: i32) -> Seen
+    requires { seen.Room s × Small (some v) }
+    ensures { seen.Sees s (some v) result }
 {
-    Tally {
-        given: 1,
-        lacking: 0,
-        range: Some(Range {
-            smallest: v,
-            largest: v,
-        }),
-        sum: v as i64,
+    Seen {
+        values: s.values + 1,
+        sum: s.sum + v as i64,
+        smallest: s.smallest.min(v),
+        largest: s.largest.max(v),
     }
 }
 
-// The figures with one node more, case by case: a loop over nodes then takes no more than each case needs.
-fn with(t: Tally, n: Option<Value>) -> Tally
-    requires { figures.Ready t × figures.Ready (figures.single (bare n)) }
-    ensures { result ≡ figures.joined t (figures.single (bare n)) }
+// A node more.
+fn with_node(s: Seen, n: Option<Value>) -> Seen
+    requires { seen.Room s × Small (bare n) }
+    ensures { seen.Sees s (bare n) result }
 {
     match n {
-        None => join(t, empty(1)),
-        Some(Value::Tecu(v)) => join(t, of_value(v.0)),
-        Some(Value::Km(v)) => join(t, of_value(v.0)),
+        None => s,
+        Some(Value::Tecu(v)) => with_value(s, v.0),
+        Some(Value::Km(v)) => with_value(s, v.0),
+    }
+}
+
+// The figures of so many nodes.
+fn tally_seen(s: Seen, nodes: u64) -> Tally
+    requires { s.values ≤ nodes }
+    ensures { seen.Tallies s nodes result }
+{
+    let range = if s.values == 0 {
+        None
+    } else {
+        Some(Range {
+            smallest: s.smallest,
+            largest: s.largest,
+        })
+    };
+    Tally {
+        given: s.values,
+        lacking: nodes - s.values,
+        range,
+        sum: s.sum,
     }
 }
 
@@ -98,11 +130,16 @@ pub fn tally_of(kind: u64, values: &[i32], exponent: i32) -> Tally
     requires { length values.now ≤ 1_000_000_000 }
     ensures { result ≡ figures.figures (map (λ v. plain v exponent) values.now) }
 {
-    let mut t = empty(0);
+    let mut s = Seen {
+        values: 0,
+        sum: 0,
+        smallest: i32::MAX,
+        largest: i32::MIN,
+    };
     for &value in values {
-        t = with(t, ask_nodes::node_of(kind, value, exponent));
+        s = with_node(s, ask_nodes::node_of(kind, value, exponent));
     }
-    t
+    tally_seen(s, values.len() as u64)
 }
 
 // ---- Figures as a row of five numbers

@@ -1,9 +1,8 @@
-use Rattle.std.proofs.Common.{◌≡◌, ◌≤◌, map, drop}
+use Rattle.std.proofs.Common.{map, take}
 use Rattle.ask_nodes.specs.Nodes.{plain}
-use Rattle.week_tally.specs.Figures.{Bounded, nodes_in, figures, joined}
+use Rattle.week_tally.specs.Figures.{figures}
+use Rattle.week_tally.specs.Seen.{Holds}
 use Rattle.week_tally.proofs.tally_of.Given as goal
 
 abbrev pub invariant-loop-value : goal.invariant-loop-value
-invariant-loop-value l =
-    Bounded l.t × (nodes_in l.t ≤ l.value-index)
-    × (joined l.t (figures (map (λ v. plain v l.fn.exponent) (drop l.value-index l.values))) ≡ figures (map (λ v. plain v l.fn.exponent) l.values))
+invariant-loop-value l = Holds (figures (map (λ v. plain v l.fn.exponent) (take l.value-index l.values))) l.s
