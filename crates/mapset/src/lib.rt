@@ -179,6 +179,9 @@ pub fn blocks_before(kind: Kind, blocks: usize) -> usize
 pub fn follows(interval: u32, before: u64, epoch: u64) -> bool
     ensures { result ≡ truth (follows? interval before epoch) }
 {
-    let gap = epoch.saturating_sub(before);
-    0 < gap && gap <= 21600 && (interval == 0 || gap == interval as u64)
+    if epoch <= before {
+        return false;
+    }
+    let gap = epoch - before;
+    gap <= 21600 && (interval == 0 || gap == interval as u64)
 }
