@@ -212,8 +212,10 @@ fn compare(text: &[u8], a: usize, b: usize) -> Ordering
     requires { (a + 26 ≤ length text.now) × (b + 26 ≤ length text.now) }
     ensures { result ≡ slice_cmp nat_cmp (held.id text.now a) (held.id text.now b) }
 {
-    let names = text[a + 6..a + 26].cmp(&text[b + 6..b + 26]);
-    seed_of(text[a + 3]).cmp(&seed_of(text[b + 3])).then(names)
+    match seed_of(text[a + 3]).cmp(&seed_of(text[b + 3])) {
+        Ordering::Equal => text[a + 6..a + 26].cmp(&text[b + 6..b + 26]),
+        order => order,
+    }
 }
 
 // The place of a station among those held; none where it is one of them. A search by hand, since std's may call its closure with any
