@@ -22,6 +22,7 @@ pub struct FirstScan {
 }
 
 // The first time over a text; `lines` is blank, and holds the DESCRIPTION lines where the text is accepted.
+#[tactic(auto, using(crate::proofs::JudgeLaws::refused_head))]
 pub fn judge(text: &[u8], lines: &mut [u8]) -> Result<FirstScan, Why>
     requires { lines.old ≡ no_lines }
     ensures { Judges text.now result lines.new }

@@ -1,7 +1,12 @@
 -- `ask::look` meets its contract.
-use mathlib.Core.Path.{sym, ◌∙◌}
+use borrow.Author.Rules.{rules}
+use mathlib.Core.Bool.{true}
+use mathlib.Core.Path.{◌≡◌, sym, ◌∙◌}
+use native.Mathlib.Decide.{dec_lt}
 use lib.IntN.{pos}
 use Rattle.kit.proofs.TruthLaws.{truth_true, truth_false}
+use Rattle.kit.specs.Answer.{×_dec}
+use Rattle.kit.specs.Truth.{truth}
 use Rattle.mapset.specs.Described.{full}
 use Rattle.mapset.specs.Areas.{Sound, six}
 use Rattle.ask.specs.Ask.{Question, question, Known, Served, unknown, unsound, unserved}
@@ -21,7 +26,9 @@ returns-then-not-is_known c = λ layer lat lon second. unknown (truth_false _ (s
 
 pub returns-then-not-sound : goal.returns-then-not-sound
 returns-then-not-sound c =
-    let known : Known (q (goal.at.returns-then-not-sound c).Start) = truth_true _ (sym c.is_known.ensures ∙ c.if-not-is_known.false) in
+    let s = (goal.at.returns-then-not-sound c).Start in
+    let passed : truth (×_dec (dec_lt s.args.kind 3) (dec_lt s.args.method 4)) ≡ true = search rules in
+    let known : Known (q s) = truth_true _ passed in
     λ layer lat lon second. unsound known (truth_false _ (sym c.sound.ensures ∙ c.if-not-sound.true))
 
 pub slice_bounds-serves-end : goal.slice_bounds-serves-end

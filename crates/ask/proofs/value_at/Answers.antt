@@ -1,9 +1,13 @@
 -- `ask::value_at` meets its contract.
+use borrow.Author.Rules.{rules}
+use mathlib.Core.Bool.{true}
 use mathlib.Core.Path.{◌≡◌, refl, sym, ap, ◌∙◌}
 use native.Mathlib.Omega.{arith}
 use Prim.Native.Nat.{◌<◌}
 use mir.Facts.{to_z-of_z}
 use Rattle.kit.proofs.TruthLaws.{truth_true, truth_false}
+use Rattle.kit.specs.Range.{within?}
+use Rattle.kit.specs.Truth.{truth}
 use Rattle.mapset.specs.Areas.{six}
 use Rattle.mapset.specs.Grid.{layers}
 use Rattle.mapset.specs.Described.{FullTexts}
@@ -39,8 +43,9 @@ returns-then-not-in_time c x o = due 20 refl (truth_false _ (sym c.in_time.ensur
 
 pub returns-then-not-has_layer : goal.returns-then-not-has_layer
 returns-then-not-has_layer c x o =
-    let t = truth_true _ (sym c.in_time.ensures ∙ c.if-not-in_time.false) in
-    go t (due 21 refl (λ i. truth_false _ (sym c.has_layer.ensures ∙ c.if-not-has_layer.true) (omega (arith, i.layer, layers_is (goal.at.returns-then-not-has_layer c).Start))))
+    let s = (goal.at.returns-then-not-has_layer c).Start in
+    let passed : truth (within? s.args.header.times.first s.args.header.times.last s.args.second) ≡ true = search rules in
+    go (truth_true _ passed) (due 21 refl (λ i. truth_false _ (sym c.has_layer.ensures ∙ c.if-not-has_layer.true) (omega (arith, i.layer, layers_is s))))
 
 pub shares_of-shares-requires : goal.shares_of-shares-requires
 shares_of-shares-requires c =

@@ -1,4 +1,6 @@
-use Rattle.std.proofs.Common.{sym, ◌∙◌}
+use Rattle.std.proofs.Common.{rules, true, ◌≡◌, sym, ◌∙◌}
+use Rattle.kit.specs.Truth.{truth}
+use Rattle.join.specs.Join.{meet?}
 use Rattle.kit.proofs.TruthLaws.{truth_true, truth_false}
 use Rattle.join.proofs.IntoExactly.{may_lent, not_valid, not_alike, not_met, too_many, lent_once}
 use Rattle.join_areas.proofs.StoreLaws.{maps_of}
@@ -35,7 +37,8 @@ returns-then-not-in_limits c =
     let p = truth_true _ (sym c.valid.ensures ∙ c.if-not-valid.false) in
     let q = truth_true _ (sym c.valid-2.ensures ∙ c.if-not-valid-2.false) in
     let r = truth_true _ (sym c.alike.ensures ∙ c.if-not-alike.false) in
-    let m = truth_true _ (sym c.meet.ensures ∙ c.if-not-meet.false) in
+    let passed : truth (meet? c.args.early c.args.late) ≡ true = search rules in
+    let m = truth_true _ passed in
     lent_once _ _ (too_many p q r m (truth_false _ (sym c.in_limits.ensures ∙ c.if-not-in_limits.true)))
 
 pub returns : goal.returns

@@ -2,7 +2,7 @@ use mathlib.Core.Path.{◌≡◌}
 use mir.Syntax.{w32}
 use mir.Val.{to_z, of_z}
 use Rattle.std.proofs.lemmas.Result.{err_from_is_err_and}
-use Rattle.read_judge.proofs.JudgeLaws.{refused_head, refused_maps, accepted_maps}
+use Rattle.read_judge.proofs.JudgeLaws.{refused_maps, accepted_maps}
 use borrow.Author.Rules.{rules}
 use Rattle.read_judge.proofs.judge.Goals as goal
 
@@ -10,11 +10,6 @@ pub judge_maps-requires : goal.judge_maps-requires
 judge_maps-requires c =
     let m = c.in_ok-h.ensures.sound in
     ((m.within, m.passed), (m.header.maps.1, m.header.limits))
-
-pub returns-in_err-h : goal.returns-in_err-h
-returns-in_err-h c =
-    let p = err_from_is_err_and c.from_residual.result c.from_residual.ensures.1 in
-    rw (p.1, p.2) (refused_head _ _ c.in_err-h.ensures)
 
 pub returns-in_err-some : goal.returns-in_err-some
 returns-in_err-some c =
